@@ -184,6 +184,7 @@ def measure(folder, count):
         ("batches 7", [PROGRAM, "batches", "7"], 0),
         ("doubtful 7", [PROGRAM, "doubtful", "7"], 0),
         ("receipts", [PROGRAM, "receipts"], 0),
+        ("journal", [PROGRAM, "journal"], 0),
         ("ward 8 2 Quay", [PROGRAM, "ward", "8", "2", "Quay", "--id", "x"], 0),
         ("batch", [PROGRAM, "batch", str(batches + 2), "7", "500", "4", "9", "--id", "x"], 0),
         ("import-keying of 500 papers", [PROGRAM, "import-keying", "4", new, "1", keying, "--id", "x"], 0),

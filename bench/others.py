@@ -100,6 +100,7 @@ def measure(folder, count):
         (f"import-candidates of {SCRIPTED} candidates", ["import-candidates", names, "--id", "x"]),
         ("withdraw", ["withdraw", "8", "1", "--id", "x"]),
         ("close", ["close", "8", "--id", "x"]),
+        ("next 7", ["next", "7"]),
         ("differences", ["differences", differing]),
         ("third", ["third", differing, "5", "--id", "x"]),
         (f"replay of {SCRIPTED} orders", ["replay", script]),

@@ -59,7 +59,7 @@ file thirteen.csv paper,1,2,3,4,5 1,,1,,2, 2,,1,,2, 3,,1,,2, 4,,1,,2, 5,,1,,2, 6
     play town.db result 7
     play town.db ballots 7
     play town.db table 7
-    play town.db page 7
+    play town.db page 7 --title 'Vote & <Council>'
     play town.db status 7
 
     # a ward with as many candidates as seats
@@ -70,8 +70,10 @@ file thirteen.csv paper,1,2,3,4,5 1,,1,,2, 2,,1,,2, 3,,1,,2, 4,,1,,2, 5,,1,,2, 6
     play town.db ballots 8
     play town.db table 8
     play town.db page 8
+    play town.db index
     play town.db declare 8 --id d2
     play town.db result 8
+    play town.db index --title 'Vote & <Council>'
 } >"$folder/played"
 
 compare count

@@ -4,8 +4,8 @@ source "$(dirname "$(readlink -f "${BASH_SOURCE[0]}")")/play.bash"
 
 {
     play --help
-    for order in init ward candidate import-candidates withdraw close batch import-keying again third judge seal advance lot declare \
-        status sheet result serve migrate wards batches doubtful differences receipts replay copy ballots page table; do
+    for order in init ward candidate import-candidates withdraw close batch import-keying key again third judge seal advance count lot declare \
+        status next sheet result serve migrate wards batches doubtful differences papers receipts journal replay copy ballots page table index; do
         play town.db "$order" --help
     done
     # without a database too
@@ -30,6 +30,7 @@ source "$(dirname "$(readlink -f "${BASH_SOURCE[0]}")")/play.bash"
     play town.db serve 0 10
     play town.db serve 8080 0
     play town.db serve 8080 10 --origin count.example.org
+    play town.db import-candidates names.csv --id c --sha256 12ab
 } >"$folder/played"
 
 compare help

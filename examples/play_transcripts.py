@@ -4,7 +4,8 @@
 usage: examples/play_transcripts.py [NAME..]        the transcripts of these names, or all; prints a line for each
        COUNT_OFFICE names the program, and CHECK_COUNT the checker, or they are those of `./count-office`
 
-transcript.py says what a transcript is. Ends with status 1 where anything else is told.
+transcript.py says what a transcript is. Where a play left an office that orders made, its journal is then sent to a new file: it makes
+the same rows there. Ends with status 1 where anything else is told.
 """
 import contextlib
 import json
@@ -261,8 +262,31 @@ def damage(folder, asked, words):
         shutil.rmtree(other)
 
 
-def play(root, one):
-    """Plays a play in its folder: what is wrong in it, if anything is."""
+def is_made_by_orders(one):
+    """Whether orders alone make the office of a play: it isn't an older one, and no statement changes it. (Damage is done in copies.)"""
+    acts = [(act, asked) for act, asked in one.acts if not act.startswith("damage: ")]
+    return not any(act == "older office" or any(line.kind == "#" for line in asked) for act, asked in acts)
+
+
+def journalled(folder):
+    """Sees that the journal of an office makes the same rows in a new file."""
+    if not (folder / TOWN).exists() or give(folder, ["wards"])[0]:
+        return
+    status, text, err = give(folder, ["journal"])
+    if status or err:
+        raise Wrong(f"its journal: {status} {err}")
+    other = folder / "journalled"
+    other.mkdir()
+    give(other, ["init"])
+    (other / FILE).write_bytes(text.encode())
+    status, _, err = give(other, ["replay", FILE])
+    if status or err or rows(other) != rows(folder):
+        raise Wrong(f"its journal makes another office: {status} {err}")
+    shutil.rmtree(other)
+
+
+def play(root, one, made_otherwise):
+    """Plays a play in its folder: what is wrong in it, if anything is. Some were made otherwise than by orders, which it may go on with."""
     folder = root / one.name
     try:
         if one.begins_with:
@@ -271,6 +295,10 @@ def play(root, one):
             folder.mkdir()
         for act, asked in one.acts:
             play_act(folder, act, asked)
+        if is_made_by_orders(one) and one.begins_with not in made_otherwise:
+            journalled(folder)
+        else:
+            made_otherwise.add(one.name)
     except (Wrong, OSError) as error:
         return f"{one.name}, {error}"
     return None
@@ -278,9 +306,9 @@ def play(root, one):
 
 def play_transcript(path):
     """Plays a transcript: how much was asked, and what is wrong in it."""
-    plays = read(path)
+    plays, made_otherwise = read(path), set()
     with tempfile.TemporaryDirectory() as root:
-        wrong = [found for one in plays if (found := play(pathlib.Path(root), one))]
+        wrong = [found for one in plays if (found := play(pathlib.Path(root), one, made_otherwise))]
     return path.stem, len(plays), sum(len(asked) for one in plays for _, asked in one.acts), wrong
 
 

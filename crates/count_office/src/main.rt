@@ -10,8 +10,15 @@
 #![tactic(auto)]
 
 ghost use Rattle.std.specs.Prelude.{◌≡◌, ◌+◌, ◌-◌, ◌^◌, ◌<◌, IfSome, IsSomeAnd, Some};
+ghost use Rattle.sqlite.specs.Effect.{Database};
 ghost use Rattle.sqlite.specs.Held.{state};
+ghost use Rattle.sqlite.specs.State.{HasCleanDisk};
+ghost use Rattle.register.specs.Offices.{OfficeState};
+ghost use Rattle.tables.specs.Contents.{RestsAt};
 ghost use Rattle.tables.specs.Reading.{OnlyReads};
+ghost use Rattle.store.specs.Openings.{IsLeftAt};
+ghost use Rattle.desk.specs.Journals.{IsJournalTold};
+ghost use Rattle.desk.specs.Pages.{Tells, outputs_of};
 ghost use Rattle.sqlite_wal.specs.Reads.{AreClean};
 ghost use Rattle.sqlite.specs.Closing.{IsCopied};
 
@@ -23,8 +30,8 @@ mod traces;
 
 use desk::perform::perform;
 use desk::{
-    CopyState, Failure, Folder, Order, Progress, Task, WordsFault, copy_office, order, serve_on,
-    tell_failure, tell_words,
+    CopyState, Failure, Folder, Order, Progress, Task, WordsFault, copy_office, journal_office,
+    order, serve_on, tell_failure, tell_words,
 };
 use fresh::Fresh;
 use office::Office;
@@ -120,6 +127,7 @@ fn perform_on<S: Alter, O: Sink, E: Sink>(
             origin,
         } => serve(rt, conn, *port, *connections, *origin, err),
         Order::Copy { path } => copy(rt, conn, office, path, out, err),
+        Order::Journal => journal(rt, conn, out, err),
     }
 }
 
@@ -184,6 +192,32 @@ fn copy<S: Alter, O: Sink, E: Sink>(
             }
             drop(left);
             (tell_failure(failure_of(error), err), conn)
+        }
+    }
+}
+
+/// Prints the journal of the office, once it was played over an empty one that is kept in memory alone. The office is
+/// only read. Of the memory nothing is asked: what is printed with status 0 makes the very office.
+fn journal<S: Alter, O: Sink, E: Sink>(
+    rt: &HostRuntime,
+    mut conn: Connection<S>,
+    out: &mut O,
+    err: &mut E,
+) -> (u8, Connection<S>)
+    requires out { O.failed out.old < 2 ^ 64 - 1 }
+    requires err { E.failed err.old < 2 ^ 64 - 1 }
+    ensures told { let outputs = outputs_of O.taken O.failed E.taken E.failed in Tells (outputs out.old err.old) (outputs out.new err.new) result.0
+        (λ _ page. HasCleanDisk (state S.Store result.1) → (db : Database) → RestsAt db (state S.Store conn) → (s : OfficeState) → IsLeftAt s db → IsJournalTold s page) }
+    ensures reads { OnlyReads (state S.Store conn) (state S.Store result.1) }
+{
+    match Connection::open_in_memory(rt.alloc()) {
+        Ok(blank) => {
+            let (status, _) = journal_office(rt.alloc(), &mut conn, blank, out, err);
+            (status, conn)
+        }
+        Err(_) => {
+            let status = tell_failure(Failure::Office(Fault::Memory), err);
+            (status, conn)
         }
     }
 }

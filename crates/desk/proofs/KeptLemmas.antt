@@ -20,19 +20,19 @@ use Rattle.store.specs.Offices.{LeavesState, tables_of}
 use Rattle.store.specs.Openings.{IsBlank, IsLeftAt}
 use Rattle.store.specs.Migrations.{IsToldInMigration}
 use Rattle.store.proofs.ReopenLemmas.{left_holds, left_told}
-use Rattle.office.specs.Answers.{IsMemoryOrStore}
+use Rattle.office.specs.Answers.{IsMemoryOrStore, Told}
 use Rattle.office.proofs.RunLemmas.{beginning}
 use Rattle.desk.specs.Folders.{Folder}
-use Rattle.desk.specs.Headline.{Course, IsAnswered, IsPerformed, IsPlayed, IsSent, IsStopped, IsUnsent, IsUntouched, Performs, answer, ended, replied_above}
-use Rattle.desk.specs.Pages.{Cut, uncut, IsShown, Outputs, Page, cut_below, empty_page}
+use Rattle.desk.specs.Headline.{Course, IsAnswered, IsPerformed, IsPlayed, IsSent, IsStopped, IsUnsent, IsUntouched, Performs, answer, ended, told_above}
+use Rattle.desk.specs.Pages.{Cut, uncut, IsShown, Outputs, Page, cut_below, empty_page, fronted, goes_on}
+use Rattle.desk.specs.Scripts.{keeps_going}
 use Rattle.desk.specs.Parts.{ComesTo}
-use Rattle.desk.specs.Told.{IsTold}
+use Rattle.desk.specs.Told.{IsTold, page_answered}
 use Rattle.desk.specs.declared.orders.Task.{Task}
 use Rattle.desk.specs.declared.orders.Task.TheVariants as task
 use Rattle.desk.specs.declared.scripts.Turn.{Turn}
-use Rattle.desk.proofs.CourseLemmas.{IsGood}
 use Rattle.desk.proofs.PageLemmas.{fronted_status}
-use Rattle.desk.proofs.TellingLemmas.{shown_zero, whole_below}
+use Rattle.desk.proofs.TellingLemmas.{goes_after_zero, shown_zero, whole_below, zero_last}
 
 -- ---- a connection at rest
 
@@ -116,6 +116,10 @@ wrong_same fault wrong (inr (inr there)) = there.2
 abbrev pub IsAfterSome : OfficeState → List Request → ℕ → OfficeState → Type 0
 IsAfterSome s rs n x = (k : ℕ) × (n ≤ k) × (k ≤ n + 1) × (k ≤ length rs) × (x ≡ after s (take k rs))
 
+-- the page of a course has status 0, and no output failed
+abbrev pub IsGood : Course → Type 0
+IsGood c = (c.page.status ≡ 0) × (c.cut ≡ uncut)
+
 -- what is kept of requests that were sent from a state on
 pub record Kept (s : OfficeState) (c : Course) (st : State) : Type 0 where
   pub within : c.answered ≤ length c.requests
@@ -131,30 +135,40 @@ kept_none s line page cut st leaves = record {
 }
 
 -- one request more, before others
-kept_more : (s : OfficeState) (r : Request) (text : Text) (rest : Course) (st : State) → Kept (after_one s r) rest st → Kept s (replied_above r text rest) st
-kept_more s r text rest st kept =
+kept_more : (s : OfficeState) (r : Request) (page : Page) (rest : Course) (st : State) → Kept (after_one s r) rest st → Kept s (told_above (r ∷ []) page rest) st
+kept_more s r page rest st kept =
     let low = kept.within in
     record {
       within = omega (arith, low);
       leaves = λ trees may. let it = kept.leaves trees may in let (k, least, most, inside, is) = it.1 in (it.0, (suc k, omega (arith, least), omega (arith, most), omega (arith, inside), is), it.2);
-      all = λ fine. let same : rest.answered ≡ length rest.requests = kept.all (fine.0, whole_below text (cut_below text rest.cut) rest.cut refl fine.1) in omega (arith, same);
+      all = λ fine. let same : rest.answered ≡ length rest.requests = kept.all (zero_last page.status rest.page.status fine.0, whole_below page.out (cut_below page.out rest.cut) rest.cut refl fine.1) in omega (arith, same);
+    }
+
+-- something that was told, and no request, before others
+kept_above : (s : OfficeState) (page : Page) (rest : Course) (st : State) → Kept s rest st → Kept s (told_above [] page rest) st
+kept_above s page rest st kept =
+    let low = kept.within in
+    record {
+      within = omega (arith, low);
+      leaves = λ trees may. let it = kept.leaves trees may in let (k, least, most, inside, is) = it.1 in (it.0, (k, omega (arith, least), omega (arith, most), inside, is), it.2);
+      all = λ fine. let same : rest.answered ≡ length rest.requests = kept.all (zero_last page.status rest.page.status fine.0, whole_below page.out (cut_below page.out rest.cut) rest.cut refl fine.1) in omega (arith, same);
     }
 
 -- the last that was sent
-kept_last : (old : State) (closed : Bool) (st : State) (line : Option ℕ) (s : OfficeState) (r : Request) (rs : List Request) (answered : ℕ) (page : Page) (cut : Cut)
-    → (page.status ≡ 0 → cut ≢ uncut) → IsAnswered old closed st s r answered page
+kept_last : (old : State) (closed : Bool) (st : State) (keep : Bool) (line : Option ℕ) (tells : Request → Told → Page) (s : OfficeState) (r : Request) (rs : List Request) (answered : ℕ) (page : Page) (cut : Cut)
+    → (goes_on keep page.status ≡ true → cut ≢ uncut) → IsAnswered old closed st tells s r answered page
     → Kept s (ended line (r ∷ rs) answered page cut) st
-kept_last old closed st line s r rs answered page cut ends it = record {
+kept_last old closed st keep line tells s r rs answered page cut ends it = record {
   within = by it;
   leaves = leaves it;
-  all = λ fine. absurd (ends (sym (fronted_status line page) ∙ fine.0) fine.1);
+  all = λ fine. absurd (ends (goes_after_zero keep page.status (sym (fronted_status line page) ∙ fine.0)) fine.1);
 }
   where
-    by : IsAnswered old closed st s r answered page → answered ≤ suc (length rs)
+    by : IsAnswered old closed st tells s r answered page → answered ≤ suc (length rs)
     by (inl told) = let one = told.0 in omega (arith, one)
     by (inr met) = let none = met.0 in omega (arith, none)
 
-    leaves : IsAnswered old closed st s r answered page → LeavesState st (IsAfterSome s (r ∷ rs) answered)
+    leaves : IsAnswered old closed st tells s r answered page → LeavesState st (IsAfterSome s (r ∷ rs) answered)
     leaves (inl told) = λ trees may. let x = told.2.at.leaves trees may in let one = told.0 in (x.0, (1, omega (arith, one), omega (arith, one), omega arith, x.1), x.2)
     leaves (inr (none, (fault, is, (cause, inl stays)))) = λ trees may. let x = stays.open_at.at.leaves trees may in (x.0, (0, omega (arith, none), omega (arith, none), omega arith, x.1), x.2)
     leaves (inr (none, (fault, is, (cause, inr shut)))) = λ trees may. let x = shut.leaves trees may in elim x.1 [
@@ -162,26 +176,31 @@ kept_last old closed st line s r rs answered page cut ends it = record {
       | inr next ↦ (x.0, (1, omega (arith, none), omega (arith, none), omega arith, next), x.2)
     ]
 
-kept_sent : {Then : OfficeState → Course → Type 0} (old : State) (closed : Bool) (st : State) (line : Option ℕ) → ((x : OfficeState) (e : Course) → Then x e → Kept x e st)
+kept_sent : {Then : OfficeState → Course → Type 0} (old : State) (closed : Bool) (st : State) (keep : Bool) (line : Option ℕ) (tells : Request → Told → Page) → ((x : OfficeState) (e : Course) → Then x e → Kept x e st)
     → (s : OfficeState) (rs : List Request) (c : Course)
-    → IsSent old closed st line Then s rs c → Kept s c st
-kept_sent old closed st line so s [] c sent = so s c sent
-kept_sent old closed st line so s (r ∷ rs) c (inl (rest, zero, is, more)) =
-    subst (λ e. Kept s e st) (sym is) (kept_more s r (answer s r).out rest st (kept_sent old closed st line so (after_one s r) rs rest more))
-kept_sent old closed st line so s (r ∷ rs) c (inr (answered, page, cut, is, ends, it)) = subst (λ e. Kept s e st) (sym is) (kept_last old closed st line s r rs answered page cut ends it)
+    → IsSent old closed st keep line tells Then s rs c → Kept s c st
+kept_sent old closed st keep line tells so s [] c sent = so s c sent
+kept_sent old closed st keep line tells so s (r ∷ rs) c (inl (rest, goes, is, more)) =
+    subst (λ e. Kept s e st) (sym is) (kept_more s r (fronted line (answer tells s r)) rest st (kept_sent old closed st keep line tells so (after_one s r) rs rest more))
+kept_sent old closed st keep line tells so s (r ∷ rs) c (inr (answered, page, cut, is, ends, it)) =
+    subst (λ e. Kept s e st) (sym is) (kept_last old closed st keep line tells s r rs answered page cut ends it)
 
 stopped_leaves : (old : State) (closed : Bool) (st : State) (s : OfficeState) (page : Page) → IsStopped old closed st s page → LeavesState st (λ x. x ≡ s)
 stopped_leaves old closed st s page (fault, is, (cause, inl stays)) = stays.open_at.at.leaves
 stopped_leaves old closed st s page (fault, is, (cause, inr shut)) = shut.leaves
 
-kept_unsent : (old : State) (closed : Bool) (st : State) (line : Option ℕ) (Tells : Page → Type 0) (s : OfficeState) (c : Course) → IsUnsent old closed st line Tells s c → Kept s c st
-kept_unsent old closed st line Tells s c (page, cut, is, inl told) = subst (λ e. Kept s e st) (sym is) (kept_none s line page cut st told.1.at.leaves)
-kept_unsent old closed st line Tells s c (page, cut, is, inr stopped) = subst (λ e. Kept s e st) (sym is) (kept_none s line page cut st (stopped_leaves old closed st s page stopped))
+kept_unsent : {Then : Course → Type 0} (old : State) (closed : Bool) (st : State) (keep : Bool) (line : Option ℕ) (Tells : Page → Type 0) (s : OfficeState) (c : Course)
+    → ((e : Course) → Then e → Kept s e st) → IsUnsent old closed st keep line Tells Then s c → Kept s c st
+kept_unsent old closed st keep line Tells s c so (inl (page, rest, told, goes, is, later)) = subst (λ e. Kept s e st) (sym is) (kept_above s (fronted line page) rest st (so rest later))
+kept_unsent old closed st keep line Tells s c so (inr (page, cut, is, ends, inl told)) = subst (λ e. Kept s e st) (sym is) (kept_none s line page cut st told.1.at.leaves)
+kept_unsent old closed st keep line Tells s c so (inr (page, cut, is, ends, inr stopped)) = subst (λ e. Kept s e st) (sym is) (kept_none s line page cut st (stopped_leaves old closed st s page stopped))
 
-kept_played : (old : State) (closed : Bool) (st : State) (folder : Folder) (s : OfficeState) (turns : List Turn) (c : Course) → IsPlayed old closed st folder s turns c → Kept s c st
-kept_played old closed st folder s [] c played = subst (λ e. Kept s e st) (sym played.0) (kept_none s None empty_page uncut st played.1.at.leaves)
-kept_played old closed st folder s (turn ∷ turns) c (file, found, inl (own, sends, sent)) = kept_sent old closed st turn.line (λ x e more. kept_played old closed st folder x turns e more) s own c sent
-kept_played old closed st folder s (turn ∷ turns) c (file, found, inr unsent) = kept_unsent old closed st turn.line (IsTold s turn.errand file) s c unsent
+kept_played : (old : State) (closed : Bool) (st : State) (keep : Bool) (folder : Folder) (s : OfficeState) (turns : List Turn) (c : Course) → IsPlayed old closed st keep folder s turns c → Kept s c st
+kept_played old closed st keep folder s [] c played = subst (λ e. Kept s e st) (sym played.0) (kept_none s None empty_page uncut st played.1.at.leaves)
+kept_played old closed st keep folder s (turn ∷ turns) c (file, found, inl (own, sends, sent)) =
+    kept_sent old closed st keep turn.line (page_answered turn.errand) (λ x e more. kept_played old closed st keep folder x turns e more) s own c sent
+kept_played old closed st keep folder s (turn ∷ turns) c (file, found, inr unsent) =
+    kept_unsent old closed st keep turn.line (IsTold s turn.errand file) s c (λ e more. kept_played old closed st keep folder s turns e more) unsent
 
 kept_untouched : (Tells : Page → Type 0) (s : OfficeState) (c : Course) (st : State) → IsUntouched Tells s c st → Kept s c st
 kept_untouched Tells s c st (page, cut, is, told, leaves) = subst (λ e. Kept s e st) (sym is) (kept_none s None page cut st leaves)
@@ -190,8 +209,8 @@ kept_performed : (folder : Folder) (s : OfficeState) (task : Task) (c : Course) 
 kept_performed folder s task.Init c old new it = kept_untouched _ s c new it
 kept_performed folder s task.Migrate c old new it = kept_untouched _ s c new it
 kept_performed folder s (task.InOffice job) c old new (inr it) = kept_untouched _ s c new it
-kept_performed folder s (task.InOffice job) c old new (inl (closed, inl (turns, are, played))) = kept_played old closed new folder s turns c played
-kept_performed folder s (task.InOffice job) c old new (inl (closed, inr unsent)) = kept_unsent old closed new None _ s c unsent
+kept_performed folder s (task.InOffice job) c old new (inl (closed, inl (turns, are, played))) = kept_played old closed new (keeps_going job) folder s turns c played
+kept_performed folder s (task.InOffice job) c old new (inl (closed, inr unsent)) = kept_unsent old closed new false None _ s c (λ e never. absurd never) unsent
 
 -- ---- the promise
 

@@ -5,12 +5,16 @@ pub mod PageLemmas
 pub mod CauseLemmas
 pub mod TellingLemmas
 pub mod CourseLemmas
+pub mod StageLemmas
 pub mod KeptLemmas
 pub mod ScriptLemmas
 pub mod ScriptEnds
 pub mod CopyingLemmas
+pub mod JournalLemmas
 pub mod ServedLemmas
 pub mod WordsRefused
 pub mod FaultsRead
+pub mod PaperLemmas
 mod LinesRead
+mod KeysRead
 mod OverviewLemmas

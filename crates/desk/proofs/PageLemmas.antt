@@ -1,6 +1,7 @@
 -- Texts that are put one behind the other, and what was told of a page.
-use Rattle.std.specs.Prelude.{IsErr}
-use Rattle.std.proofs.Common.{◌≡◌, ◌∙◌, ◌+◌, ◌<◌, inl, inr, ℕ, List, [], ◌∷◌, ◌++◌, length, take, drop, get_or, Option, Some, None, Result, Ok, Err, refl, sym, ap, subst}
+use Rattle.std.proofs.Common.{◌≡◌, ◌≢◌, ◌∙◌, ◌+◌, ◌<◌, inl, inr, ℕ, Bool, true, false, List, [], ◌∷◌, ◌++◌, length, take, drop, get_or, Option, Some, None, Result, Ok, Err, refl, sym, ap, subst, eqb-true, ne_eqb}
+use Rattle.std.specs.Prelude.{◌==◌, IsErr}
+use Rattle.std.specs.Io.KnownBytes.{Appends}
 use Rattle.std.specs.List.{flat_map}
 use Rattle.std.proofs.KnownBytes.{Appends-nil, Appends-trans}
 use Rattle.std.proofs.lemmas.Grind.{flat_map-append}
@@ -9,12 +10,17 @@ use Rattle.clap.specs.Words.{Text}
 use Rattle.votes.proofs.Beginnings.{AppendsBeginning-front, AppendsBeginning-behind}
 use Rattle.desk.specs.declared.lines.Failure.TheVariants.{Output}
 use Rattle.desk.specs.Pages.{Cut, uncut, cut_behind, cut_error, IsErrorTold, IsOutputBroken, IsPut, IsShown, IsWhole, Outputs}
-use Rattle.desk.specs.Pages.{Page, Shows, behind_front, below, cut_below, failed, fronted, line_front, outputs_of, printed}
+use Rattle.desk.specs.Pages.{Page, Shows, behind_front, below, cut_below, empty_page, failed, fronted, line_front, outputs_of, printed, status_behind}
 
 -- the pieces of one more
 pieces_more : {X : Type 0} (f : X → Text) (xs : List X) (i : ℕ) (d : X) → i < length xs → flat_map f (take (i + 1) xs) ≡ flat_map f (take i xs) ++ f (get_or xs i d)
 pieces_more f xs i d within =
     ap (flat_map f) (take_more xs i d within) ∙ flat_map-append f (take i xs) (get_or xs i d ∷ []) ∙ ap (λ text. flat_map f (take i xs) ++ text) (append-nil (f (get_or xs i d)))
+
+-- what words name, in three pieces, behind them and before a rest
+pub named_behind : (words a b c rest : Text) → words ++ (a ++ (b ++ (c ++ rest))) ≡ (words ++ (a ++ (b ++ c))) ++ rest
+named_behind words a b c rest =
+    sym (append_assoc words (a ++ (b ++ c)) rest ∙ ap (λ t. words ++ t) (append_assoc a (b ++ c) rest ∙ ap (λ t. a ++ t) (append_assoc b c rest)))
 
 module _ {W : Type 0} {taken : W → Option (List ℕ)} {failed : W → ℕ} {X E : Type 0} where
   -- nothing was put yet
@@ -74,26 +80,85 @@ broken_ends broken = elim broken.told [
   | inr part ↦ part.2
 ]
 
--- a page that is told below a text
-pub shown_below : (cut : Cut) (old mid new : Outputs) (text : Text) (page : Page) (status : ℕ) → IsWhole old mid (printed text) 0 → IsShown cut mid new page status
-    → IsShown (cut_below text cut) old new (below text page) status
-shown_below uncut old mid new text page status first next = record {
+-- ---- pages below one another
+
+-- the status behind none
+status_first : (status : ℕ) → status_behind 0 status ≡ status
+status_first status = by (status == 0) refl
+  where
+    by : (b : Bool) → (status == 0) ≡ b → status_behind 0 status ≡ status
+    by true e = rw e (sym (eqb-true status 0 e))
+    by false e = rw e refl
+
+-- a status that isn't 0 stays, whatever stands before it
+status_stays : (before status : ℕ) → status ≢ 0 → status_behind before status ≡ status
+status_stays before status other = let e : (status == 0) ≡ false = ne_eqb status 0 other in rw e refl
+
+status_joined : (a b c : ℕ) → status_behind (status_behind a b) c ≡ status_behind a (status_behind b c)
+status_joined a b c = by (c == 0) refl
+  where
+    by : (t : Bool) → (c == 0) ≡ t → status_behind (status_behind a b) c ≡ status_behind a (status_behind b c)
+    by true e =
+        let left : status_behind (status_behind a b) c ≡ status_behind a b = rw e refl in
+        let inner : status_behind b c ≡ b = rw e refl in
+        left ∙ sym (ap (status_behind a) inner)
+    by false e =
+        let left : status_behind (status_behind a b) c ≡ c = rw e refl in
+        let inner : status_behind b c ≡ c = rw e refl in
+        let right : status_behind a c ≡ c = rw e refl in
+        left ∙ sym (ap (status_behind a) inner ∙ right)
+
+abbrev made : Text → Text → ℕ → Page
+made out err status = record { out = out; err = err; status = status }
+
+-- a page below none, and none below a page
+pub below_first : (page : Page) → below empty_page page ≡ page
+below_first page = ap (made page.out page.err) (status_first page.status)
+
+pub below_last : (page : Page) → below page empty_page ≡ page
+below_last page = ap (λ out. made out (page.err ++ []) page.status) (append-nil page.out) ∙ ap (λ err. made page.out err page.status) (append-nil page.err)
+
+pub below_joined : (a b c : Page) → below (below a b) c ≡ below a (below b c)
+below_joined a b c =
+    ap (λ out. made out ((a.err ++ b.err) ++ c.err) (status_behind (status_behind a.status b.status) c.status)) (append_assoc a.out b.out c.out)
+    ∙ ap (λ err. made (a.out ++ (b.out ++ c.out)) err (status_behind (status_behind a.status b.status) c.status)) (append_assoc a.err b.err c.err)
+    ∙ ap (made (a.out ++ (b.out ++ c.out)) (a.err ++ (b.err ++ c.err))) (status_joined a.status b.status c.status)
+
+-- two pages that were told whole, one below the other
+pub whole_more : (old mid new : Outputs) (above page : Page) (before status : ℕ) → IsWhole old mid above before → IsWhole mid new page status
+    → IsWhole old new (below above page) (status_behind before status)
+whole_more old mid new above page before status first next = record {
   out = Appends-trans _ _ _ _ _ first.out next.out;
   out_failed = next.out_failed ∙ first.out_failed;
   err = Appends-trans _ _ _ _ _ first.err next.err;
   err_failed = next.err_failed ∙ first.err_failed;
-  ends = next.ends;
+  ends = ap (λ n. status_behind n status) first.ends ∙ ap (status_behind above.status) next.ends;
 }
-shown_below (cut_behind took) old mid new text page status first next = record {
+
+-- a text on the error output, behind one that was told whole
+error_behind : (old mid new : Outputs) (before text : Text) (status : ℕ) → Appends old.err mid.err before → mid.err_failed ≡ old.err_failed
+    → IsErrorTold (λ (o : Outputs). o.err) (λ (o : Outputs). o.err_failed) mid new text 3 status → IsErrorTold (λ (o : Outputs). o.err) (λ (o : Outputs). o.err_failed) old new (before ++ text) 3 status
+error_behind old mid new before text status one same (inl whole) = inl (Appends-trans _ _ _ _ _ one whole.0, whole.1 ∙ same, whole.2)
+error_behind old mid new before text status one same (inr part) = inr (AppendsBeginning-behind _ _ _ _ _ one part.0, part.1 ∙ ap (λ n. n + 1) same, part.2)
+
+-- a page with another status than 0, below one that was told whole
+pub shown_last : (cut : Cut) (old mid new : Outputs) (above page : Page) (before status : ℕ) → IsWhole old mid above before → IsShown cut mid new page status → status ≢ 0
+    → IsShown (cut_below above.out cut) old new (below above page) status
+shown_last uncut old mid new above page before status first next other = record {
   out = Appends-trans _ _ _ _ _ first.out next.out;
-  begins = (next.begins.0, append_assoc text took next.begins.0 ∙ ap (λ all. text ++ all) next.begins.1);
-  out_failed = next.out_failed ∙ ap (λ n. n + 1) first.out_failed;
-  told = elim next.told [
-    | inl whole ↦ inl (Appends-trans _ _ _ _ _ first.err whole.0, whole.1 ∙ first.err_failed, whole.2)
-    | inr part ↦ inr (AppendsBeginning-behind _ _ _ _ _ first.err part.0, part.1 ∙ ap (λ n. n + 1) first.err_failed, part.2)
-  ];
+  out_failed = next.out_failed ∙ first.out_failed;
+  err = Appends-trans _ _ _ _ _ first.err next.err;
+  err_failed = next.err_failed ∙ first.err_failed;
+  ends = next.ends ∙ sym (status_stays above.status page.status (λ zero. other (next.ends ∙ zero)));
 }
-shown_below cut_error old mid new text page status first next = record {
+shown_last (cut_behind took) old mid new above page before status first next other = record {
+  out = Appends-trans _ _ _ _ _ first.out next.out;
+  begins = (next.begins.0, append_assoc above.out took next.begins.0 ∙ ap (λ all. above.out ++ all) next.begins.1);
+  out_failed = next.out_failed ∙ ap (λ n. n + 1) first.out_failed;
+  told = subst (λ text. IsErrorTold (λ (o : Outputs). o.err) (λ (o : Outputs). o.err_failed) old new text 3 status) (sym (append_assoc above.err page.err (failed Output).err))
+      (error_behind old mid new above.err (page.err ++ (failed Output).err) status first.err first.err_failed next.told);
+}
+shown_last cut_error old mid new above page before status first next other = record {
   out = Appends-trans _ _ _ _ _ first.out next.out;
   out_failed = next.out_failed ∙ first.out_failed;
   err = AppendsBeginning-behind _ _ _ _ _ first.err next.err;
@@ -111,12 +176,7 @@ pub fronted_out : (line : Option ℕ) (page : Page) → (fronted line page).out 
 fronted_out None page = refl
 fronted_out (Some number) page = refl
 
--- where nothing goes to the error output, nothing does
-pub fronted_quiet : (line : Option ℕ) (page : Page) → page.err ≡ [] → (fronted line page).err ≡ []
-fronted_quiet None page none = none
-fronted_quiet (Some number) page none = ap (behind_front (line_front (Some number))) none
-
--- and else it stands behind the number
+-- what goes to the error output stands behind the number
 pub fronted_err : (line : Option ℕ) (page : Page) (byte : ℕ) (bytes : Text) → page.err ≡ byte ∷ bytes → (fronted line page).err ≡ line_front line ++ page.err
 fronted_err None page byte bytes is = refl
 fronted_err (Some number) page byte bytes is = ap (behind_front (line_front (Some number))) is ∙ ap (λ text. line_front (Some number) ++ text) (sym is)
@@ -125,16 +185,6 @@ fronted_err (Some number) page byte bytes is = ap (behind_front (line_front (Som
 pub printed_shown : (line : Option ℕ) (old new : Outputs) (text : Text) (status : ℕ) → Shows old new (printed text) status → Shows old new (fronted line (printed text)) status
 printed_shown None old new text status shown = shown
 printed_shown (Some number) old new text status shown = shown
-
-below_fronted : (line : Option ℕ) (text : Text) (page : Page) → below text (fronted line page) ≡ fronted line (below text page)
-below_fronted None text page = refl
-below_fronted (Some number) text page = refl
-
-pub shown_below_front : (line : Option ℕ) (cut : Cut) (old mid new : Outputs) (text : Text) (page : Page) (status : ℕ) → IsWhole old mid (printed text) 0
-    → IsShown cut mid new (fronted line page) status
-    → IsShown (cut_below text cut) old new (fronted line (below text page)) status
-shown_below_front line cut old mid new text page status first next =
-    subst (λ p. IsShown (cut_below text cut) old new p status) (below_fronted line text page) (shown_below cut old mid new text (fronted line page) status first next)
 
 module _ {O E : Type 0} (taken : O → Option (List ℕ)) (failed_out : O → ℕ) (taken_err : E → Option (List ℕ)) (failed_err : E → ℕ) where
   -- a line on the error output, behind the number

@@ -1,5 +1,6 @@
 -- What comes of a script of which nothing is sent.
-use Rattle.std.proofs.Common.{◌≡◌, ◌⊎◌, ◌∙◌, inl, inr, ℕ, Bool, List, [], map, Some, None, refl, sym, ap, subst}
+use Rattle.std.proofs.Common.{◌≡◌, ◌≢◌, ◌⊎◌, ◌∙◌, inl, inr, ℕ, Bool, true, false, true≢false, List, [], map, Some, None, refl, sym, ap, subst, arith, eqb-true}
+use Rattle.std.specs.Prelude.{◌==◌}
 use Rattle.std.specs.Borrow.{Bor}
 use Rattle.clap.specs.Words.{Text}
 use Rattle.sqlite.specs.State.{State}
@@ -8,8 +9,8 @@ use Rattle.tables.specs.declared.fault.Fault.TheVariants.{Memory}
 use Rattle.office.specs.Answers.{IsOpenAt}
 use Rattle.desk.specs.Cuttings.{IsFaultOfLines, IsReplayOf}
 use Rattle.desk.specs.Folders.{File, Folder, HoldsText, IsFileAt}
-use Rattle.desk.specs.Headline.{Course, IsDone, ended}
-use Rattle.desk.specs.Pages.{Cut, Page, failed, script_page}
+use Rattle.desk.specs.Headline.{Course, IsDone, IsStopped, IsUnsent, ended}
+use Rattle.desk.specs.Pages.{Cut, Page, failed, goes_on, script_page}
 use Rattle.desk.specs.Parts.{ComesTo, IsUnreadScript}
 use Rattle.desk.specs.Told.{IsRefusedScript}
 use Rattle.desk.specs.declared.orders.Job.TheVariants as job
@@ -48,32 +49,51 @@ first_flaw None lines number flaw is holds = absurd holds
 first_flaw (Some None) lines number flaw is holds = inr (number, flaw, refl, tt)
 first_flaw (Some (Some text)) lines number flaw is holds = inr (number, flaw, refl, subst (λ ls. IsFirstFlaw ls number flaw) holds is)
 
+-- ---- what ends a job before its first turn
+
+-- it doesn't go on after another status than 0
+stops_at : (page : Page) → page.status ≢ 0 → goes_on false page.status ≡ true → ⊥
+stops_at page other goes = by (page.status == 0) refl
+  where
+    by : (b : Bool) → (page.status == 0) ≡ b → ⊥
+    by true e = other (eqb-true page.status 0 e)
+    by false e = let none : goes_on false page.status ≡ false = rw e refl in true≢false (sym goes ∙ none)
+
+unread_ends : (page : Page) → IsUnreadScript page → page.status ≢ 0
+unread_ends page (inl is) zero = let three : page.status ≡ 3 = ap (λ (p : Page). p.status) is in absurd (omega arith)
+unread_ends page (inr is) zero = let three : page.status ≡ 3 = ap (λ (p : Page). p.status) is in absurd (omega arith)
+
+unsent_ended : (Tells : Page → Type 0) (old : State) (closed : Bool) (st : State) (s : OfficeState) (page : Page) (cut : Cut) → page.status ≢ 0 → (Tells page × IsOpenAt s closed st) ⊎ IsStopped old closed st s page
+    → IsUnsent old closed st false None Tells (λ rest. ⊥) s (ended None [] 0 page cut)
+unsent_ended Tells old closed st s page cut other why = inr (page, cut, refl, (λ goes. absurd (stops_at page other goes)), why)
+
 -- of a script's file at a path, in an office that is open at a state
-module _ (folder : Folder) (s : OfficeState) (path : Bor Text) (file : File) (found : IsFileAt folder (Some path.now) file) (old : State) (closed : Bool) (st : State) where
-  out_of_memory : (page : Page) (cut : Cut) → page ≡ failed (Office Memory) → IsOpenAt s closed st → IsDone old closed st folder s (job.Replay path) (ended None [] 0 page cut)
-  out_of_memory page cut is here = inr (page, cut, refl, inr (Memory, is, (inl refl, inl (record { memory = refl; open_at = here }))))
+module _ (folder : Folder) (s : OfficeState) (keep : Bool) (path : Bor Text) (file : File) (found : IsFileAt folder (Some path.now) file) (old : State) (closed : Bool) (st : State) where
+  out_of_memory : (page : Page) (cut : Cut) → page ≡ failed (Office Memory) → IsOpenAt s closed st → IsDone old closed st folder s (job.Replay path keep) (ended None [] 0 page cut)
+  out_of_memory page cut is here = inr (unsent_ended _ old closed st s page cut (unread_ends page (inr is)) (inr (Memory, is, (inl refl, inl (record { memory = refl; open_at = here })))))
 
   -- a script that can't be read
-  pub replay_unread : (page : Page) (cut : Cut) → IsUnreadScript page → IsOpenAt s closed st → ComesTo cut page (IsDone old closed st folder s (job.Replay path))
+  pub replay_unread : (page : Page) (cut : Cut) → IsUnreadScript page → IsOpenAt s closed st → ComesTo cut page (IsDone old closed st folder s (job.Replay path keep))
   replay_unread page cut why here = (
     [],
     0,
     elim (refused_script file page why) [
-      | inl refused ↦ inr (page, cut, refl, inl ((file, found, refused), here))
+      | inl refused ↦ inr (unsent_ended _ old closed st s page cut (unread_ends page why) (inl ((file, found, refused), here)))
       | inr memory ↦ out_of_memory page cut memory here
     ],
   )
 
   -- a line that isn't understood, or want of memory
   replay_fault : (lines : List Typed) (fault : ScriptFault) (cut : Cut) → IsFaultOfLines lines fault → HoldsText file (λ text. lines ≡ script_lines text) → IsOpenAt s closed st
-      → IsDone old closed st folder s (job.Replay path) (ended None [] 0 (script_page fault) cut)
+      → IsDone old closed st folder s (job.Replay path keep) (ended None [] 0 (script_page fault) cut)
   replay_fault lines script.Memory cut is holds here = out_of_memory (script_page script.Memory) cut refl here
-  replay_fault lines (script.Line number flaw) cut is holds here = inr (script_page (script.Line number flaw), cut, refl, inl ((file, found, first_flaw file lines number flaw is holds), here))
+  replay_fault lines (script.Line number flaw) cut is holds here =
+      inr (unsent_ended _ old closed st s (script_page (script.Line number flaw)) cut (λ zero. absurd (omega arith)) (inl ((file, found, first_flaw file lines number flaw is holds), here)))
 
   -- what comes of the lines of a script
-  pub replay_of : (lines : List Typed) (c : Course) → HoldsText file (λ text. lines ≡ script_lines text) → IsReplayOf folder s lines c old closed st → IsDone old closed st folder s (job.Replay path) c
+  pub replay_of : (lines : List Typed) (c : Course) → HoldsText file (λ text. lines ≡ script_lines text) → IsReplayOf keep folder s lines c old closed st → IsDone old closed st folder s (job.Replay path keep) c
   replay_of lines c holds (inl (turns, are, played)) = inl (turns, (file, found, holds_turns file lines turns are holds), played)
-  replay_of lines c holds (inr (why, cut, is, wrong, here)) = subst (λ e. IsDone old closed st folder s (job.Replay path) e) (sym is) (replay_fault lines why cut wrong holds here)
+  replay_of lines c holds (inr (why, cut, is, wrong, here)) = subst (λ e. IsDone old closed st folder s (job.Replay path keep) e) (sym is) (replay_fault lines why cut wrong holds here)
 
 pub no_output : (fault : ScriptFault) → (script_page fault).out ≡ []
 no_output script.Memory = refl

@@ -1,6 +1,6 @@
 -- The turns of a script's lines.
 use Rattle.std.proofs.Common.{◌≡◌, ◌∙◌, ◌<◌, ◌+◌, ℕ, length, get_or, map, take, drop, subst, Bool, true, false, List, [], ◌∷◌, ◌++◌, Result, Ok, Err, inl, inr, refl, sym, ap}
-use Rattle.std.specs.Prelude.{◌==◌, IsOkAnd, IsUtf8, if◌then◌else◌, is_ok, is_err}
+use Rattle.std.specs.Prelude.{◌==◌, IsUtf8, if◌then◌else◌, is_ok, is_err}
 use Rattle.std.specs.List.{list_all, list_any}
 use Rattle.std.proofs.lemmas.Bool.{false≢true}
 use Rattle.std.proofs.lemmas.List.{map-append, take-append-drop, take_more}
@@ -10,9 +10,7 @@ use Rattle.std.specs.Borrow.{Bor}
 use Rattle.std.specs.Str.{is_utf8}
 use Rattle.clap.specs.Words.{Kinds, Text}
 use Rattle.desk.specs.Words.{status_of_kind}
-use Rattle.desk.specs.Scripts.{AreTurns, IsFirstFlaw, IsFlawOf, IsTurn, Means, Typed, sends_requests}
-use Rattle.desk.specs.declared.orders.Errand.{Errand}
-use Rattle.desk.specs.declared.scripts.Garbled.{Garbled}
+use Rattle.desk.specs.Scripts.{AreTurns, IsFirstFlaw, IsFlawOf, IsTurn, Typed}
 use Rattle.desk.specs.declared.scripts.LineFlaw.{LineFlaw}
 use Rattle.desk.specs.declared.scripts.ScriptFault.{ScriptFault}
 use Rattle.desk.specs.declared.scripts.ScriptFault.TheVariants as script
@@ -30,27 +28,6 @@ pub flaw_behind : (lines : List Typed) (turns : List Turn) (line : Typed) (left 
     → IsFirstFlaw (lines ++ line ∷ left) number flaw
 flaw_behind [] turns line left number flaw none here is = inl (here, is)
 flaw_behind (l ∷ ls) turns line left number flaw are here is = inr (are.0, are.3, flaw_behind ls are.1 line left number flaw are.4 here is)
-
-turn_sends : (words : Result (List Text) Garbled) (errand : Errand) → IsOkAnd words (λ ws. Means ws errand) → sends_requests errand ≡ true
-turn_sends (Ok words) errand means = means.sends
-turn_sends (Err why) errand means = absurd means
-
--- each turn sends requests
-pub all_send : (lines : List Typed) (turns : List Turn) → AreTurns lines turns → list_all (λ turn. sends_requests turn.errand) turns ≡ true
-all_send [] turns none = rw none refl
-all_send (l ∷ ls) turns are = rw are.2 (rw (turn_sends l.words are.0.errand are.3.means) (all_send ls are.1 are.4))
-
-at_some : {X : Type 0} (p : X → Bool) (xs : List X) (i : ℕ) (x : X) → i < length xs → x ≡ get_or xs i x → list_all p xs ≡ true → p x ≡ true
-at_some p xs i x within is all = by (p x) refl
-  where
-    by : (b : Bool) → p x ≡ b → p x ≡ true
-    by true e = e
-    by false e = absurd (false≢true (sym (list_all_at p xs i x within (ap p (sym is) ∙ e)) ∙ all))
-
--- and so does the one of some number
-pub sends_at : (turns : List Turn) (i : ℕ) (turn : Turn) → i < length turns → turn ≡ get_or turns i turn → list_all (λ turn. sends_requests turn.errand) turns ≡ true
-    → sends_requests turn.errand ≡ true
-sends_at turns i turn within is all = at_some (λ t. sends_requests t.errand) turns i turn within is all
 
 -- ---- words that are text
 

@@ -1,62 +1,95 @@
 -- Pages that are told one below the other, and how far.
-use Rattle.std.proofs.Common.{◌≡◌, ◌≢◌, ◌∙◌, ℕ, true, false, Bool, List, [], ◌∷◌, ◌++◌, Option, if◌then◌else◌, refl, sym, ap, subst, arith}
-use Rattle.std.specs.Io.KnownBytes.{Appends}
+use Rattle.std.proofs.Common.{◌≡◌, ◌≢◌, ◌∙◌, ℕ, true, false, true≢false, Bool, [], ◌++◌, refl, sym, ap, subst, arith, eqb-true}
+use Rattle.std.specs.Prelude.{◌==◌}
 use Rattle.std.proofs.KnownBytes.{Appends-nil}
-use Rattle.std.proofs.lemmas.List.{append-nil, append_assoc}
+use Rattle.std.proofs.lemmas.List.{append_assoc}
 use Rattle.clap.specs.Words.{Text}
-use Rattle.keyfile.specs.Faults.{is_stop}
-use Rattle.desk.specs.Pages.{Cut, uncut, cut_behind, cut_error, IsQuiet, IsShown, IsWhole, Outputs, Page, below, cut_below, empty_page, fronted, page_of, printed}
-use Rattle.desk.specs.declared.lines.Outcome.{Outcome}
-use Rattle.desk.specs.declared.lines.Outcome.TheVariants as outcome
-use Rattle.desk.proofs.PageLemmas.{broken_ends, fronted_quiet, fronted_status, shown_below}
+use Rattle.desk.specs.Pages.{Cut, uncut, cut_behind, cut_error, IsShown, IsWhole, Outputs, Page, below, cut_below, empty_page, goes_on, status_behind}
+use Rattle.desk.proofs.PageLemmas.{below_last, broken_ends}
 
--- the replies so far were told whole
-pub record ToldSo (old new : Outputs) (P : Text → Type 0) : Type 0 where
-  pub said : Text
-  pub shown : IsWhole old new (printed said) 0
+-- the pages so far were told whole, one below the other, with this status
+pub record ToldSo (old new : Outputs) (status : ℕ) (P : Page → Type 0) : Type 0 where
+  pub said : Page
+  pub shown : IsWhole old new said status
   pub is : P said
 
-pub nothing_told : (old : Outputs) → IsWhole old old (printed []) 0
+pub nothing_told : (old : Outputs) → IsWhole old old empty_page 0
 nothing_told old = record { out = Appends-nil old.out; out_failed = refl; err = Appends-nil old.err; err_failed = refl; ends = refl }
 
--- a page with status 0 tells nothing on the error output
-pub file_ends : (stopped : Bool) (status : ℕ) → status ≡ (if stopped then 3 else 1) → status ≢ 0
-file_ends true status is zero = absurd (omega arith)
-file_ends false status is zero = absurd (omega arith)
+pub told_all : (old new : Outputs) (said : Page) (status : ℕ) → IsWhole old new said status → IsWhole old new (below said empty_page) status
+told_all old new said status all = subst (λ page. IsWhole old new page status) (sym (below_last said)) all
 
-pub silent : (o : Outcome) → IsQuiet (page_of o)
-silent outcome.Ready zero = refl
-silent (outcome.Migrated migrated) zero = refl
-silent (outcome.Replied reply) zero = refl
-silent (outcome.Printed text) zero = refl
-silent (outcome.Refused why) zero = absurd (omega arith)
-silent (outcome.Unread fault) zero = absurd (file_ends (is_stop fault.flaw) (page_of (outcome.Unread fault)).status refl zero)
-silent (outcome.Failed fault) zero = absurd (omega arith)
-silent (outcome.Uncopied why) zero = absurd (omega arith)
+-- ---- after which statuses it goes on
 
-pub silent_front : (line : Option ℕ) (o : Outcome) → IsQuiet (fronted line (page_of o))
-silent_front line o zero = fronted_quiet line (page_of o) (silent o (sym (fronted_status line (page_of o)) ∙ zero))
+-- after none of a fault
+pub not_after_fault : (keep : Bool) (status : ℕ) → status ≡ 3 → goes_on keep status ≡ false
+not_after_fault true status three = rw three refl
+not_after_fault false status three = rw three refl
 
--- a status 0 comes of a page that was told whole
+-- it goes on after the one behind two after which it does, and after the last of these
+pub goes_after_both : (keep : Bool) (a b : ℕ) → goes_on keep a ≡ true → goes_on keep b ≡ true → goes_on keep (status_behind a b) ≡ true
+goes_after_both keep a b first last = by (b == 0) refl
+  where
+    by : (t : Bool) → (b == 0) ≡ t → goes_on keep (status_behind a b) ≡ true
+    by true e = let same : status_behind a b ≡ a = rw e refl in ap (goes_on keep) same ∙ first
+    by false e = let same : status_behind a b ≡ b = rw e refl in ap (goes_on keep) same ∙ last
+
+pub goes_after_last : (keep : Bool) (a b : ℕ) → goes_on keep (status_behind a b) ≡ true → goes_on keep b ≡ true
+goes_after_last keep a b both = by (b == 0) refl
+  where
+    by : (t : Bool) → (b == 0) ≡ t → goes_on keep b ≡ true
+    by true e = rw e refl
+    by false e = let same : status_behind a b ≡ b = rw e refl in ap (goes_on keep) (sym same) ∙ both
+
+-- it goes on after 0
+pub goes_after_zero : (keep : Bool) (status : ℕ) → status ≡ 0 → goes_on keep status ≡ true
+goes_after_zero keep status zero = rw zero refl
+
+-- where the status behind another one is 0, so is the last
+pub zero_last : (a b : ℕ) → status_behind a b ≡ 0 → b ≡ 0
+zero_last a b both = by (b == 0) refl
+  where
+    by : (t : Bool) → (b == 0) ≡ t → b ≡ 0
+    by true e = eqb-true b 0 e
+    by false e = let same : status_behind a b ≡ b = rw e refl in sym same ∙ both
+
+-- where it doesn't, the status isn't 0
+pub stops_by : (keep : Bool) (status : ℕ) → goes_on keep status ≡ false → status ≢ 0
+stops_by keep status stops zero = true≢false (sym (goes_after_zero keep status zero) ∙ stops)
+
+-- ---- how far a page was told
+
+-- a status after which it goes on comes of a page with that status, which was told whole
+pub shown_goes : (keep : Bool) (cut : Cut) (old new : Outputs) (page : Page) (status : ℕ) → IsShown cut old new page status → goes_on keep status ≡ true → (cut ≡ uncut) × (page.status ≡ status)
+shown_goes keep uncut old new page status all goes = (refl, sym all.ends)
+shown_goes keep (cut_behind took) old new page status broken goes = absurd (true≢false (sym goes ∙ not_after_fault keep status (broken_ends broken)))
+shown_goes keep cut_error old new page status broken goes = absurd (true≢false (sym goes ∙ not_after_fault keep status broken.ends))
+
 pub shown_zero : (cut : Cut) (old new : Outputs) (page : Page) (status : ℕ) → IsShown cut old new page status → status ≡ 0 → (cut ≡ uncut) × (page.status ≡ 0)
 shown_zero uncut old new page status all zero = (refl, sym all.ends ∙ zero)
 shown_zero (cut_behind took) old new page status broken zero = let three : status ≡ 3 = broken_ends broken in absurd (omega arith)
 shown_zero cut_error old new page status broken zero = let three : status ≡ 3 = broken.ends in absurd (omega arith)
 
--- and any other of a page with that status, or of an output that failed
+-- what was told with such a status was told as a whole page
+pub shown_whole : (keep : Bool) (cut : Cut) (old new : Outputs) (page : Page) (status : ℕ) → IsShown cut old new page status → goes_on keep status ≡ true → IsWhole old new page status
+shown_whole keep uncut old new page status all goes = all
+shown_whole keep (cut_behind took) old new page status broken goes = absurd (true≢false (sym goes ∙ not_after_fault keep status (broken_ends broken)))
+shown_whole keep cut_error old new page status broken goes = absurd (true≢false (sym goes ∙ not_after_fault keep status broken.ends))
+
+-- any other status comes of a page after which it doesn't go on, or of an output that failed
+pub shown_stops : (keep : Bool) (cut : Cut) (old new : Outputs) (page : Page) (status : ℕ) → IsShown cut old new page status → goes_on keep status ≡ false → goes_on keep page.status ≡ true
+    → cut ≢ uncut
+shown_stops keep uncut old new page status all stops goes is = true≢false (sym goes ∙ (ap (goes_on keep) (sym all.ends) ∙ stops))
+shown_stops keep (cut_behind took) old new page status broken stops goes is = absurd (cc is)
+shown_stops keep cut_error old new page status broken stops goes is = absurd (cc is)
+
+-- the same of a status other than 0
 pub shown_else : (cut : Cut) (old new : Outputs) (page : Page) (status : ℕ) → IsShown cut old new page status → status ≢ 0 → page.status ≡ 0 → cut ≢ uncut
+shown_else uncut old new page status all ends zero is = ends (all.ends ∙ zero)
 shown_else (cut_behind took) old new page status shown ends zero is = absurd (cc is)
 shown_else cut_error old new page status shown ends zero is = absurd (cc is)
-shown_else uncut old new page status all ends zero is = ends (all.ends ∙ zero)
 
--- one reply more
-pub told_more : (cut : Cut) (old mid new : Outputs) (said : Text) (page : Page) (status : ℕ) → IsQuiet page → status ≡ 0 → IsWhole old mid (printed said) 0 → IsShown cut mid new page status
-    → IsWhole old new (printed (said ++ page.out)) 0
-told_more (cut_behind took) old mid new said page status quiet zero first next = let three : status ≡ 3 = broken_ends next in absurd (omega arith)
-told_more cut_error old mid new said page status quiet zero first next = let three : status ≡ 3 = next.ends in absurd (omega arith)
-told_more uncut old mid new said page status quiet zero first next =
-    let both = shown_below uncut old mid new said page status first next in
-    record { out = both.out; out_failed = both.out_failed; err = subst (Appends old.err new.err) (quiet (sym next.ends ∙ zero)) both.err; err_failed = both.err_failed; ends = refl }
+-- ---- cuts
 
 -- a cut below nothing, and one below two texts
 pub cut_none : (cut : Cut) → cut ≡ cut_below [] cut
@@ -68,9 +101,6 @@ pub cut_joined : (above text : Text) (cut : Cut) → cut_below (above ++ text) c
 cut_joined above text uncut = refl
 cut_joined above text (cut_behind took) = ap cut_behind (append_assoc above text took)
 cut_joined above text cut_error = refl
-
-pub told_all : (old new : Outputs) (said : Text) → IsWhole old new (printed said) 0 → IsWhole old new (below said empty_page) 0
-told_all old new said all = record { out = rw (append-nil said) all.out; out_failed = all.out_failed; err = all.err; err_failed = all.err_failed; ends = refl }
 
 -- no output failed, so none did behind the text
 pub whole_below : (text : Text) (cut later : Cut) → cut ≡ cut_below text later → cut ≡ uncut → later ≡ uncut

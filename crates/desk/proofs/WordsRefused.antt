@@ -38,6 +38,7 @@ refusal_is_told : (k : ErrorKind) (kinds : Kinds) (fault : WordsFault) → Tells
 refusal_is_told k kinds words_fault.Memory tells among = tt
 refusal_is_told k kinds words_fault.Verdict tells among = absurd tells
 refusal_is_told k kinds words_fault.Origin tells among = absurd tells
+refusal_is_told k kinds words_fault.Digest tells among = absurd tells
 refusal_is_told k kinds (words_fault.Words text status) tells among = (refusal_gives_status k kinds status tells.1 tells.0 among, tells.2)
 
 -- where the kind that was asked for is that of the error

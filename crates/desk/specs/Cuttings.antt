@@ -47,7 +47,7 @@ IsFaultOfLines lines fault.Memory = ⊤
 IsFaultOfLines lines (fault.Line number flaw) = IsFirstFlaw lines number flaw
 
 -- what comes of a script's lines: their turns are taken; or what is wrong with them is told, and nothing is sent
-abbrev pub IsReplayOf : Folder → OfficeState → List Typed → Course → State → Bool → State → Type 0
-IsReplayOf folder s lines course old closed st =
-    ((turns : List Turn) × AreTurns lines turns × IsPlayed old closed st folder s turns course)
+abbrev pub IsReplayOf : Bool → Folder → OfficeState → List Typed → Course → State → Bool → State → Type 0
+IsReplayOf keep folder s lines course old closed st =
+    ((turns : List Turn) × AreTurns lines turns × IsPlayed old closed st keep folder s turns course)
     ⊎ ((why : ScriptFault) × (cut : Cut) × (course ≡ ended None [] 0 (script_page why) cut) × IsFaultOfLines lines why × IsOpenAt s closed st)

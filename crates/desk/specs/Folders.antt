@@ -1,6 +1,7 @@
 -- Files, as far as they tell their bytes.
 use Rattle.std.specs.Prelude.{◌≡◌, ℕ, List, Option, Some, None, IfSome}
 use Rattle.clap.specs.Words.{Text}
+use Rattle.keyfile.specs.Digests.{IsReadAs}
 use Rattle.keyfile.specs.Reading.{Known}
 
 -- a file that is named: none where it can't be opened, and of one that is, its bytes, as far as they are told
@@ -20,3 +21,8 @@ IsFileAt folder (Some path) file = IfSome (folder path) (λ found. file ≡ foun
 abbrev pub HoldsText : File → (Text → Type 0) → Type 0
 HoldsText None P = ⊥
 HoldsText (Some told) P = Known told P
+
+-- the file is read as a text of a kind, which has the digest that is asked for, if one is
+abbrev pub IsReadFrom : Option (List ℕ) → File → (Text → Type 0) → Type 0
+IsReadFrom digest None P = ⊥
+IsReadFrom digest (Some told) P = IsReadAs digest told P

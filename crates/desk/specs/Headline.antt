@@ -1,7 +1,6 @@
 -- The headline: what an order tells, byte for byte, and what is kept of it, whatever stops it. It is read from here to its last line.
 -- Which requests an errand sends stands in Requests.antt, which turns a job has in Scripts.antt, and what pages say in Pages.antt and Told.antt.
-use Rattle.std.specs.Prelude.{◌≡◌, ◌≢◌, ◌⊎◌, ◌+◌, ℕ, Bool, true, List, [], ◌∷◌, codes, length, Option, None}
-use Rattle.clap.specs.Words.{Text}
+use Rattle.std.specs.Prelude.{◌≡◌, ◌≢◌, ◌⊎◌, ◌+◌, ◌++◌, ℕ, Bool, true, false, List, [], ◌∷◌, codes, length, Option, None}
 use Rattle.sqlite.specs.{Effect.Database, State.State, Tree.Trees}
 use Rattle.register.specs.{Machine.after, Machine.after_one, Machine.is_accepted, Machine.step_of, Offices.OfficeState, Offices.empty_office, declared.command.Request.Request}
 use Rattle.tables.specs.{Contents.RestsAt, Contents.Stores, Presence.IsOurs, Presence.IsOlderSchema, Presence.has_some_table, Reading.FailsBy, Reading.FailsToList, Reading.OnlyReads}
@@ -9,9 +8,9 @@ use Rattle.tables.specs.declared.fault.Fault.{Fault, TheVariants.WrongDatabase}
 use Rattle.store.specs.{Offices.IsAt, Offices.LeavesState, Offices.tables_of, Openings.HoldsNoState, Openings.IsBlank, Openings.IsLeftAt, Openings.IsToldBy, declared.older.OlderForm.OlderForm}
 use Rattle.store.specs.Migrations.{HoldsNoOlder, IsToldInMigration, LeavesOldOrNew, RestsOlder}
 use Rattle.store.specs.declared.migration.Migrated.TheVariants.{Already, Done}
-use Rattle.office.specs.{Answers.IsClosedIn, Answers.IsKeptOpen, Answers.IsMemoryOrStore, Answers.IsOpenAt, Answers.told_of, Reads.IsClosedReading, Runs.Keeps}
-use Rattle.desk.specs.{Folders.File, Folders.Folder, Folders.IsFileAt, Requests.Sends, Requests.file_of, Scripts.HasTurns, Told.IsNoScript, Told.IsTold}
-use Rattle.desk.specs.Pages.{Cut, Page, below, cut_below, empty_page, failed, fronted, migrated_text, page_told, replied, uncut}
+use Rattle.office.specs.{Answers.IsClosedIn, Answers.IsKeptOpen, Answers.IsMemoryOrStore, Answers.IsOpenAt, Answers.Told, Answers.told_of, Reads.IsClosedReading, Runs.Keeps}
+use Rattle.desk.specs.{Folders.File, Folders.Folder, Folders.IsFileAt, Requests.Sends, Requests.file_of, Scripts.HasTurns, Scripts.keeps_going, Told.IsNoScript, Told.IsTold, Told.page_answered}
+use Rattle.desk.specs.Pages.{Cut, Page, below, cut_below, empty_page, failed, fronted, goes_on, migrated_text, replied, uncut}
 use Rattle.desk.specs.declared.{lines.Failure.TheVariants.Office, orders.Job.Job, orders.Task.Task, scripts.Turn.Turn}
 use Rattle.desk.specs.declared.orders.Task.TheVariants as task
 
@@ -22,17 +21,17 @@ pub record Course : Type 0 where
   pub page : Page
   pub cut : Cut
 
--- One request more was answered, and its reply was told whole, above what came of the others.
-abbrev pub replied_above : Request → Text → Course → Course
-replied_above r reply rest = record { requests = r ∷ rest.requests; answered = rest.answered + 1; page = below reply rest.page; cut = cut_below reply rest.cut }
+-- These requests more were answered, and the page that tells of them was told whole, above what came of the others.
+abbrev pub told_above : List Request → Page → Course → Course
+told_above own page rest = record { requests = own ++ rest.requests; answered = rest.answered + length own; page = below page rest.page; cut = cut_below page.out rest.cut }
 
 -- It ends here: of these requests so many were answered, and this is told, behind the number of the script's line.
 abbrev pub ended : Option ℕ → List Request → ℕ → Page → Cut → Course
 ended line requests answered page cut = record { requests = requests; answered = answered; page = fronted line page; cut = cut }
 
--- What the machine answers to a request at a state: a page of status 0 with its reply, or of status 1 with the reason of its refusal.
-abbrev pub answer : OfficeState → Request → Page
-answer s r = page_told (told_of (step_of s r))
+-- What the machine answers to a request at a state, on a page as its errand tells it: of status 0 with its reply, or of status 1 with the reason of its refusal.
+abbrev pub answer : (Request → Told → Page) → OfficeState → Request → Page
+answer tells s r = tells r (told_of (step_of s r))
 
 -- A fault of some kind is told.
 abbrev pub IsFailed : (Fault → Type 0) → Page → Type 0
@@ -42,37 +41,39 @@ IsFailed Is page = (fault : Fault) × (page ≡ failed (Office fault)) × Is fau
 module _ (old : State) (closed : Bool) (st : State) where
   -- A request is answered as the machine says, and the office is open at the state after it. Or a fault is told: memory was wanting, or the store
   -- failed, or the request was accepted, and why it couldn't be written isn't said; a stop leaves the state before it or, if accepted, after it.
-  abbrev pub IsAnswered : OfficeState → Request → ℕ → Page → Type 0
-  IsAnswered s r answered page =
-      ((answered ≡ 1) × (page ≡ answer s r) × IsOpenAt (after_one s r) closed st)
+  abbrev pub IsAnswered : (Request → Told → Page) → OfficeState → Request → ℕ → Page → Type 0
+  IsAnswered tells s r answered page =
+      ((answered ≡ 1) × (page ≡ answer tells s r) × IsOpenAt (after_one s r) closed st)
       ⊎ ((answered ≡ 0) × IsFailed (λ fault. (FailsBy old st fault ⊎ (is_accepted (step_of s r) ≡ true)) × (IsKeptOpen s fault closed st ⊎ IsClosedIn s (step_of s r) fault closed st)) page)
 
-  -- Requests are sent in turn, each after a reply that was told whole, and behind the last one comes what comes then. A refusal, a fault or an output that fails ends it.
-  abbrev pub IsSent : Option ℕ → (OfficeState → Course → Type 0) → OfficeState → List Request → Course → Type 0
-  IsSent line Then s [] course = Then s course
-  IsSent line Then s (r ∷ rs) course =
-      ((rest : Course) × ((answer s r).status ≡ 0) × (course ≡ replied_above r (answer s r).out rest) × IsSent line Then (after_one s r) rs rest)
-      ⊎ ((answered : ℕ) × (page : Page) × (cut : Cut) × (course ≡ ended line (r ∷ rs) answered page cut) × (page.status ≡ 0 → cut ≢ uncut) × IsAnswered s r answered page)
+  -- Requests are sent in turn, each after a page that was told whole and that it goes on after; behind the last one comes what comes then. Else it ends.
+  abbrev pub IsSent : Bool → Option ℕ → (Request → Told → Page) → (OfficeState → Course → Type 0) → OfficeState → List Request → Course → Type 0
+  IsSent keep line tells Then s [] course = Then s course
+  IsSent keep line tells Then s (r ∷ rs) course =
+      ((rest : Course) × (goes_on keep (answer tells s r).status ≡ true) × (course ≡ told_above (r ∷ []) (fronted line (answer tells s r)) rest) × IsSent keep line tells Then (after_one s r) rs rest)
+      ⊎ ((answered : ℕ) × (page : Page) × (cut : Cut) × (course ≡ ended line (r ∷ rs) answered page cut) × (goes_on keep page.status ≡ true → cut ≢ uncut) × IsAnswered tells s r answered page)
 
   -- A fault is told, with its cause, before anything was sent; a stop leaves the state as it was.
   abbrev pub IsStopped : OfficeState → Page → Type 0
   IsStopped s page = IsFailed (λ fault. FailsBy old st fault × (IsKeptOpen s fault closed st ⊎ IsClosedReading s fault closed st)) page
 
-  -- Nothing is sent, and it ends here: something else is told, and the office is open at its state; or a fault.
-  abbrev pub IsUnsent : Option ℕ → (Page → Type 0) → OfficeState → Course → Type 0
-  IsUnsent line Tells s course = (page : Page) × (cut : Cut) × (course ≡ ended line [] 0 page cut) × ((Tells page × IsOpenAt s closed st) ⊎ IsStopped s page)
+  -- Nothing is sent: something else is told, and in the same way comes what comes then, or it ends, and the office is open at its state; or a fault.
+  abbrev pub IsUnsent : Bool → Option ℕ → (Page → Type 0) → (Course → Type 0) → OfficeState → Course → Type 0
+  IsUnsent keep line Tells Then s course =
+      ((page : Page) × (rest : Course) × Tells page × (goes_on keep page.status ≡ true) × (course ≡ told_above [] (fronted line page) rest) × Then rest)
+      ⊎ ((page : Page) × (cut : Cut) × (course ≡ ended line [] 0 page cut) × (goes_on keep page.status ≡ true → cut ≢ uncut) × ((Tells page × IsOpenAt s closed st) ⊎ IsStopped s page))
 
   -- Turns are taken in turn, each with the file that lies at its path when it comes: all its requests are sent; or none is, and what it asks is told, or why its file isn't taken.
-  abbrev pub IsPlayed : Folder → OfficeState → List Turn → Course → Type 0
-  IsPlayed folder s [] course = (course ≡ ended None [] 0 empty_page uncut) × IsOpenAt s closed st
-  IsPlayed folder s (turn ∷ turns) course =
+  abbrev pub IsPlayed : Bool → Folder → OfficeState → List Turn → Course → Type 0
+  IsPlayed keep folder s [] course = (course ≡ ended None [] 0 empty_page uncut) × IsOpenAt s closed st
+  IsPlayed keep folder s (turn ∷ turns) course =
       (file : File) × IsFileAt folder (file_of turn.errand) file
-      × (((requests : List Request) × Sends s turn.errand file requests × IsSent turn.line (λ next. IsPlayed folder next turns) s requests course)
-      ⊎ IsUnsent turn.line (IsTold s turn.errand file) s course)
+      × (((requests : List Request) × Sends s turn.errand file requests × IsSent keep turn.line (page_answered turn.errand) (λ next. IsPlayed keep folder next turns) s requests course)
+      ⊎ IsUnsent keep turn.line (IsTold s turn.errand file) (IsPlayed keep folder s turns) s course)
 
-  -- A job is done in the open office: its turns are taken; or it is told why its text is no script; or a fault.
+  -- A job is done in the open office: its turns are taken, past refusals where it is to keep going; or it is told why its text is no script; or a fault.
   abbrev pub IsDone : Folder → OfficeState → Job → Course → Type 0
-  IsDone folder s job course = ((turns : List Turn) × HasTurns folder job turns × IsPlayed folder s turns course) ⊎ IsUnsent None (IsNoScript folder job) s course
+  IsDone folder s job course = ((turns : List Turn) × HasTurns folder job turns × IsPlayed (keeps_going job) folder s turns course) ⊎ IsUnsent false None (IsNoScript folder job) (λ rest. ⊥) s course
 
 -- Nothing is sent, and a stop leaves the state as it was.
 abbrev pub IsUntouched : (Page → Type 0) → OfficeState → Course → State → Type 0

@@ -11,6 +11,7 @@ use Rattle.register.specs.declared.counts.CountCommand.TheVariants as count_comm
 use Rattle.office.specs.declared.sheets.Text.{Text as WardText}
 use Rattle.office.specs.declared.sheets.Text.TheVariants as ward_text
 use Rattle.wire.specs.Origins.{origin_text}
+use Rattle.keyfile.specs.Digests.{asked_digest}
 use Rattle.desk.specs.Verdicts.{Judgement, judgement_given}
 use Rattle.desk.specs.declared.table.Kind.{Kind}
 use Rattle.desk.specs.declared.table.Kind.TheVariants as kind
@@ -76,6 +77,22 @@ id = record { name = codes "id"; kind = kind.Id }
 abbrev pub origin : WordEntry
 origin = record { name = codes "origin"; kind = kind.Origin }
 
+-- a title, after `--` and its name, which may be left out
+abbrev pub title : WordEntry
+title = record { name = codes "title"; kind = kind.Title }
+
+-- the digest of a file, after `--` and its name, which may be left out
+abbrev pub digest : WordEntry
+digest = record { name = codes "sha256"; kind = kind.Digest }
+
+-- words that are any texts, behind the others; there may be none
+abbrev pub texts : Text → WordEntry
+texts name = record { name = name; kind = kind.Texts }
+
+-- a flag, `--` and its name, which may be left out
+abbrev pub flag : Text → WordEntry
+flag name = record { name = name; kind = kind.Flag }
+
 -- ---- what a command asks
 
 -- what a command asks, its names as text
@@ -124,31 +141,49 @@ sent_as r = record { actor = r.actor; id = string_bytes r.id; asked = asked_by r
 abbrev pub by_office : Text → Asked → Sent
 by_office id asked = record { actor = 0; id = id; asked = asked }
 
+-- a request of a clerk himself
+abbrev pub by_clerk : ℕ → Text → Asked → Sent
+by_clerk clerk id asked = record { actor = clerk; id = id; asked = asked }
+
 -- ---- what an order means
 
--- what is to be done; or nothing, since the word of a verdict says none, or the one of an origin is none
+-- what is to be done; or nothing, since the word of a verdict says none, or the one of an origin or of a digest is none
 pub data Meant : Type 0 where
   make : Meant
   migrate : Meant
   send : Sent → Meant
-  import_candidates : Text → Text → Meant
-  import_keying : ℕ → ℕ → ℕ → Text → Text → Meant
+  import_candidates : Text → Text → Option (List ℕ) → Meant
+  import_keying : ℕ → ℕ → ℕ → Text → Text → Option (List ℕ) → Meant
+  count : ℕ → Text → Meant
   tell_status : ℕ → Meant
+  tell_next : ℕ → Meant
   print : ℕ → WardText → Meant
+  print_page : ℕ → Text → Meant
+  print_index : Text → Meant
   ask : Question → Meant
-  replay : Text → Meant
+  replay : Text → Bool → Meant
   copy : Text → Meant
+  journal : Meant
   serve : ℕ → ℕ → Option Text → Meant
   no_verdict : Meant
   no_origin : Meant
+  no_digest : Meant
+
+-- what the printing of a text of a ward is, the title of a page as such
+abbrev pub told_text : ℕ → WardText → Meant
+told_text ward (ward_text.Page title) = print_page ward title.now
+told_text ward text = print ward text
 
 -- what an errand is, its request and its texts as such
 abbrev pub told_errand : Errand → Meant
 told_errand (errand.Send r) = send (sent_as r)
-told_errand (errand.ImportCandidates file id) = import_candidates file.now id.now
-told_errand (errand.ImportKeying k) = import_keying k.clerk k.batch k.round k.file.now k.id.now
+told_errand (errand.ImportCandidates file id digest) = import_candidates file.now id.now (asked_digest digest)
+told_errand (errand.ImportKeying k) = import_keying k.clerk k.batch k.round k.file.now k.id.now (asked_digest k.digest)
+told_errand (errand.Count ward id) = count ward id.now
 told_errand (errand.TellStatus ward) = tell_status ward
-told_errand (errand.Print ward text) = print ward text
+told_errand (errand.TellNext ward) = tell_next ward
+told_errand (errand.Print ward text) = told_text ward text
+told_errand (errand.PrintIndex title) = print_index title.now
 told_errand (errand.Ask question) = ask question
 
 -- what an order is
@@ -156,8 +191,9 @@ abbrev pub told : Order → Meant
 told (order.Perform task.Init) = make
 told (order.Perform task.Migrate) = migrate
 told (order.Perform (task.InOffice (job.Run errand))) = told_errand errand
-told (order.Perform (task.InOffice (job.Replay file))) = replay file.now
+told (order.Perform (task.InOffice (job.Replay file keep_going))) = replay file.now keep_going
 told (order.Copy path) = copy path.now
+told order.Journal = journal
 told (order.Serve port connections origin) = serve port connections (option_map origin_text origin)
 
 -- ---- the orders
@@ -172,6 +208,10 @@ WordValue kind.Text = Text
 WordValue kind.Verdict = Judgement
 WordValue kind.Id = Text
 WordValue kind.Origin = Option Text
+WordValue kind.Title = Text
+WordValue kind.Digest = Option (List ℕ)
+WordValue kind.Texts = List Text
+WordValue kind.Flag = Bool
 
 -- what comes of the values of some words, in their sequence
 abbrev pub OfWords : List WordEntry → Type 0 → Type 0
@@ -197,25 +237,32 @@ under_id (w ∷ ws) asked = λ value. under_id ws (asked value)
 abbrev pub sends : Text → (words : List WordEntry) → OfWords words Asked → OrderEntry
 sends name words asked = record { typed = record { name = name; words = words ++ id ∷ [] }; means = under_id words asked; is_command = true }
 
+-- a clerk, and never the office, keeps his keying of a batch in a round: the marks of its papers in turn, under an id
+abbrev pub key : ℕ → ℕ → ℕ → List Text → Text → Meant
+key clerk batch round papers id = send (by_clerk clerk id (keying_to_keep batch round papers))
+
 -- the table of orders, in the sequence of an election
 unfoldable pub orders : List OrderEntry
 orders =
     takes (codes "init") [] make
     ∷ sends (codes "ward") (number (codes "WARD") ∷ number (codes "SEATS") ∷ text (codes "NAME") ∷ []) ward_to_add
     ∷ sends (codes "candidate") (number (codes "WARD") ∷ number (codes "CANDIDATE") ∷ text (codes "NAME") ∷ []) candidate_to_add
-    ∷ takes (codes "import-candidates") (text (codes "FILE") ∷ id ∷ []) import_candidates
+    ∷ takes (codes "import-candidates") (text (codes "FILE") ∷ id ∷ digest ∷ []) import_candidates
     ∷ sends (codes "withdraw") (number (codes "WARD") ∷ number (codes "CANDIDATE") ∷ []) candidate_to_withdraw
     ∷ sends (codes "close") (number (codes "WARD") ∷ []) ward_to_close
     ∷ sends (codes "batch") (number (codes "BATCH") ∷ number (codes "WARD") ∷ number (codes "SIZE") ∷ number (codes "FIRST_CLERK") ∷ number (codes "SECOND_CLERK") ∷ []) batch_to_add
-    ∷ takes (codes "import-keying") (number (codes "CLERK") ∷ number (codes "BATCH") ∷ number (codes "ROUND") ∷ text (codes "FILE") ∷ id ∷ []) import_keying
+    ∷ takes (codes "import-keying") (number (codes "CLERK") ∷ number (codes "BATCH") ∷ number (codes "ROUND") ∷ text (codes "FILE") ∷ id ∷ digest ∷ []) import_keying
+    ∷ takes (codes "key") (number (codes "CLERK") ∷ number (codes "BATCH") ∷ number (codes "ROUND") ∷ texts (codes "MARKS") ∷ id ∷ []) key
     ∷ sends (codes "again") (number (codes "BATCH") ∷ []) batch_to_key_again
     ∷ sends (codes "third") (number (codes "BATCH") ∷ number (codes "CLERK") ∷ []) batch_for_third_clerk
     ∷ sends (codes "judge") (number (codes "BATCH") ∷ number (codes "PAPER") ∷ verdict (codes "VERDICT") ∷ []) paper_to_judge
     ∷ sends (codes "seal") (number (codes "WARD") ∷ []) ward_to_seal
     ∷ sends (codes "advance") (number (codes "WARD") ∷ []) stage_to_count
+    ∷ takes (codes "count") (number (codes "WARD") ∷ id ∷ []) count
     ∷ sends (codes "lot") (number (codes "WARD") ∷ number (codes "STAGE") ∷ number (codes "CANDIDATE") ∷ []) lot_to_record
     ∷ sends (codes "declare") (number (codes "WARD") ∷ []) ward_to_declare
     ∷ takes (codes "status") (number (codes "WARD") ∷ []) tell_status
+    ∷ takes (codes "next") (number (codes "WARD") ∷ []) tell_next
     ∷ takes (codes "sheet") (number (codes "WARD") ∷ []) (λ ward. print ward ward_text.Sheet)
     ∷ takes (codes "result") (number (codes "WARD") ∷ []) (λ ward. print ward ward_text.Declaration)
     ∷ takes (codes "serve") (port (codes "PORT") ∷ connections (codes "CONNECTIONS") ∷ origin ∷ []) serve
@@ -224,10 +271,13 @@ orders =
     ∷ takes (codes "batches") (number (codes "WARD") ∷ []) (λ ward. ask (question.Batches ward))
     ∷ takes (codes "doubtful") (number (codes "WARD") ∷ []) (λ ward. ask (question.Doubtful ward))
     ∷ takes (codes "differences") (number (codes "BATCH") ∷ []) (λ batch. ask (question.Differences batch))
+    ∷ takes (codes "papers") (number (codes "BATCH") ∷ []) (λ batch. ask (question.Papers batch))
     ∷ takes (codes "receipts") (number_or_none (codes "ACTOR") ∷ []) (λ actor. ask (question.Receipts actor))
-    ∷ takes (codes "replay") (text (codes "FILE") ∷ []) replay
+    ∷ takes (codes "journal") [] journal
+    ∷ takes (codes "replay") (text (codes "FILE") ∷ flag (codes "keep-going") ∷ []) replay
     ∷ takes (codes "copy") (text (codes "NEW") ∷ []) copy
     ∷ takes (codes "ballots") (number (codes "WARD") ∷ []) (λ ward. print ward ward_text.Ballots)
-    ∷ takes (codes "page") (number (codes "WARD") ∷ []) (λ ward. print ward ward_text.Page)
+    ∷ takes (codes "page") (number (codes "WARD") ∷ title ∷ []) print_page
     ∷ takes (codes "table") (number (codes "WARD") ∷ []) (λ ward. print ward ward_text.Table)
+    ∷ takes (codes "index") (title ∷ []) print_index
     ∷ []

@@ -1,14 +1,18 @@
--- How all stands, in lines: the wards, the batches of a ward, their doubtful papers, where a batch differs, and what was kept.
-use Rattle.std.specs.Prelude.{ℕ, Bool, true, false, ◌==◌, ◌-◌, ◌++◌, if◌then◌else◌, List, [], Option, Some, None, codes, length}
+-- How all stands, in lines: the wards, the batches of a ward, the papers of a batch as they count, the doubtful ones of a ward, where a batch
+-- differs, and what was kept.
+use Rattle.std.specs.Prelude.{ℕ, Bool, true, false, ◌==◌, ◌+◌, ◌-◌, ◌++◌, ◌∷◌, if◌then◌else◌, List, [], Option, Some, None, codes, length}
 use Rattle.std.specs.Fmt.{decimal}
 use Rattle.std.specs.List.{flat_map}
 use Rattle.clap.specs.Words.{Text}
 use Rattle.register.specs.Offices.{JudgedEntry, OfficeState, ReceiptEntry}
 use Rattle.register.specs.Texts.{listed}
-use Rattle.store.specs.Overviews.{BatchView, DifferencesView, DoubtfulView, WardView}
+use Rattle.register.specs.declared.polls.Judgement.{Judgement}
+use Rattle.register.specs.declared.polls.Judgement.TheVariants.{Valid, Rejected, Open}
+use Rattle.store.specs.Overviews.{BatchView, DifferencesView, DoubtfulPapersView, DoubtfulView, PaperView, PapersView, WardView}
 use Rattle.store.specs.declared.overviews.batches.Standing.{Standing}
 use Rattle.store.specs.declared.overviews.batches.Standing.TheVariants.{Taken, Differing, Waiting}
-use Rattle.office.specs.Overviews.{batches_told, differences_told, doubtful_told, receipts_told, wards_told}
+use Rattle.office.specs.Overviews.{batches_told, differences_told, doubtful_told, papers_told, receipts_told, wards_told}
+use Rattle.desk.specs.Names.{name_in, names_of}
 use Rattle.desk.specs.Pages.{Page, line, page_found, printed, replied}
 use Rattle.desk.specs.Standings.{phase_word}
 use Rattle.desk.specs.declared.orders.Question.{Question}
@@ -68,16 +72,51 @@ unfoldable pub batch_line : BatchView → Text
 batch_line v =
     size_words v ++ (flat_map clerk_words v.clerks ++ (codes ", " ++ (standing_word v.standing ++ (codes ", " ++ (decimal v.doubtful_open ++ (codes " doubtful open" ++ twin_words v.twin))))))
 
--- ---- a doubtful paper
+-- ---- a paper as it counts
 
--- the verdict on it: accepted with these marks, or rejected with this code
-unfoldable pub verdict_words : Option JudgedEntry → Text
-verdict_words None = codes "open"
-verdict_words (Some v) = if v.code == 0 then codes "accepted " ++ v.marks else codes "rejected " ++ decimal v.code
+-- what stands before a preference: nothing before the first
+abbrev pub parting : ℕ → Text
+parting number = if number == 1 then [] else codes ", "
+
+-- a preference: its number, and the candidate's name
+unfoldable pub preference_words : ℕ → Text → Text
+preference_words number name = parting number ++ (decimal number ++ (codes " " ++ name))
+
+-- preferences from a number on, by the names of the numbers of candidates: `1 Ann, 2 Cy`
+abbrev pub preferences_from : List Text → ℕ → List ℕ → Text
+preferences_from names number [] = []
+preferences_from names number (c ∷ cs) = preference_words number (name_in names c) ++ preferences_from names (number + 1) cs
+
+-- why a paper is rejected, by its code
+abbrev pub rejection_words : ℕ → Text
+rejection_words code =
+    if code == 1 then codes "no first preference" else (
+    if code == 2 then codes "more than one first preference" else (
+    if code == 3 then codes "no official mark" else (
+    if code == 4 then codes "voter identifiable" else (
+    if code == 5 then codes "void for uncertainty" else []))))
+
+-- how a paper counts: its preferences, why it is rejected, or that it has no verdict yet
+unfoldable pub judgement_words : List Text → Judgement → Text
+judgement_words names (Valid prefs) = codes "preferences " ++ preferences_from names 1 prefs
+judgement_words names (Rejected code) = codes "rejected " ++ (decimal code ++ (codes ", " ++ rejection_words code))
+judgement_words names Open = codes "doubtful, no verdict yet"
 
 -- the line that tells of it
-unfoldable pub doubtful_line : DoubtfulView → Text
-doubtful_line v = codes "batch " ++ (decimal v.batch ++ (codes " paper " ++ (decimal v.paper ++ (codes " " ++ verdict_words v.verdict))))
+unfoldable pub paper_line : List Text → PaperView → Text
+paper_line names v = codes "batch " ++ (decimal v.batch ++ (codes " paper " ++ (decimal v.paper ++ (codes ": " ++ judgement_words names v.judgement))))
+
+-- ---- a doubtful paper
+
+-- the verdict on it: accepted with these marks, and how it counts by them; or rejected with this code
+unfoldable pub verdict_words : List Text → Judgement → Option JudgedEntry → Text
+verdict_words names judgement None = codes "open"
+verdict_words names judgement (Some v) = if v.code == 0 then codes "accepted " ++ (v.marks ++ (codes ": " ++ judgement_words names judgement)) else codes "rejected " ++ decimal v.code
+
+-- the line that tells of it
+unfoldable pub doubtful_line : List Text → DoubtfulView → Text
+doubtful_line names v =
+    codes "batch " ++ (decimal v.counted.batch ++ (codes " paper " ++ (decimal v.counted.paper ++ (codes " " ++ verdict_words names v.counted.judgement v.verdict))))
 
 -- ---- differences, and receipts
 
@@ -95,10 +134,18 @@ receipt_line r = codes "actor " ++ (decimal r.actor ++ (codes " id " ++ (r.id ++
 abbrev pub lines_of : {X : Type 0} → (X → Text) → List X → Text
 lines_of text xs = flat_map (λ x. line (text x)) xs
 
+-- the papers of a batch as they count, and the doubtful papers of a ward, each with the names of the ward's candidates
+unfoldable pub paper_lines : PapersView → Text
+paper_lines v = lines_of (paper_line (names_of v.candidates)) v.papers
+
+unfoldable pub doubtful_lines : DoubtfulPapersView → Text
+doubtful_lines v = lines_of (doubtful_line (names_of v.candidates)) v.papers
+
 -- what is told of how all stands, or why there is nothing
 abbrev pub page_asked : OfficeState → Question → Page
 page_asked s question.Wards = page_found (λ wards. printed (lines_of ward_line wards)) (wards_told s)
 page_asked s (question.Batches ward) = page_found (λ batches. printed (lines_of batch_line batches)) (batches_told s ward)
-page_asked s (question.Doubtful ward) = page_found (λ papers. printed (lines_of doubtful_line papers)) (doubtful_told s ward)
+page_asked s (question.Doubtful ward) = page_found (λ papers. printed (doubtful_lines papers)) (doubtful_told s ward)
 page_asked s (question.Differences batch) = page_found (λ differences. replied (differences_line differences)) (differences_told s batch)
+page_asked s (question.Papers batch) = page_found (λ papers. printed (paper_lines papers)) (papers_told s batch)
 page_asked s (question.Receipts actor) = page_found (λ receipts. printed (lines_of receipt_line receipts)) (receipts_told s actor)

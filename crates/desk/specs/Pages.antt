@@ -1,5 +1,5 @@
 -- What the program prints, and how it ends.
-use Rattle.std.specs.Prelude.{◌≡◌, ◌⊎◌, ◌+◌, ◌++◌, ◌==◌, ℕ, List, [], ◌∷◌, Option, Some, None, Result, Ok, Err, codes, string_bytes, if◌then◌else◌, OnOk, OnErr}
+use Rattle.std.specs.Prelude.{◌≡◌, ◌⊎◌, ◌+◌, ◌++◌, ◌==◌, ◌&&◌, ◌||◌, ℕ, Bool, List, [], ◌∷◌, Option, Some, None, Result, Ok, Err, codes, string_bytes, if◌then◌else◌, OnOk, OnErr}
 use Rattle.std.specs.Fmt.{decimal}
 use Rattle.std.specs.Io.KnownBytes.{Appends}
 use Rattle.std.specs.List.{flat_map}
@@ -7,6 +7,8 @@ use Rattle.clap.specs.Words.{Text}
 use Rattle.votes.specs.Streams.{AppendsBeginning}
 use Rattle.register.specs.Reasons.{reason_number, reason_text}
 use Rattle.register.specs.declared.refusal.Reason.{Reason}
+use Rattle.register.specs.declared.refusal.Reason.TheVariants.{CountFinished, LotNeeded, WrongPhase}
+use Rattle.register.specs.declared.command.Request.{Request}
 use Rattle.tables.specs.Faults.{fault_number, fault_text}
 use Rattle.tables.specs.declared.fault.Fault.TheVariants as fault
 use Rattle.keyfile.specs.Faults.{flaw_number, flaw_text, is_stop}
@@ -19,7 +21,7 @@ use Rattle.store.specs.declared.copying.CopyFault.TheVariants as uncopied
 use Rattle.store.specs.declared.migration.Migrated.{Migrated}
 use Rattle.store.specs.declared.migration.Migrated.TheVariants.{Done, Already}
 use Rattle.desk.specs.Scripts.{line_flaw_text}
-use Rattle.desk.specs.Words.{bad_origin}
+use Rattle.desk.specs.Words.{bad_digest, bad_origin}
 use Rattle.desk.specs.declared.scripts.ScriptFault.{ScriptFault}
 use Rattle.desk.specs.declared.scripts.ScriptFault.TheVariants as script
 use Rattle.desk.specs.declared.lines.Failure.{Failure}
@@ -104,11 +106,32 @@ unread fault = record {
 abbrev pub failed : Failure → Page
 failed failure = record { out = []; err = numbered_line (codes "fault ") (failure_number failure) (failure_text failure); status = 3 }
 
+-- that there is no journal of the office: its receipts and its other tables don't belong together
+abbrev pub unjournalled : Page
+unjournalled = record { out = []; err = line (codes "no journal: the receipts are not those of these tables"); status = 1 }
+
 -- what the machine tells
 abbrev pub page_told : Told → Page
 page_told (done reply) = replied reply
 page_told (again reply) = replied reply
 page_told (no why) = refused why
+
+-- the same, whichever request it answers
+abbrev pub page_for : Request → Told → Page
+page_for r told = page_told told
+
+-- why a count goes no further: that no seat is left, and that a lot is needed, are replies; so it is behind the first request that the ward was declared since
+abbrev pub page_at_rest : Bool → Reason → Page
+page_at_rest is_first CountFinished = replied (codes "count finished")
+page_at_rest is_first (LotNeeded stage tied) = replied (reason_text (LotNeeded stage tied))
+page_at_rest is_first WrongPhase = if is_first then refused WrongPhase else replied (codes "count finished")
+page_at_rest is_first why = refused why
+
+-- what the machine tells of a request for one stage more
+abbrev pub page_counted : Bool → Told → Page
+page_counted is_first (done reply) = replied reply
+page_counted is_first (again reply) = replied reply
+page_counted is_first (no why) = page_at_rest is_first why
 
 -- what was found of a state, or why there is nothing
 abbrev pub page_found : {X : Type 0} → (X → Page) → Result X Reason → Page
@@ -131,15 +154,19 @@ page_of outcome.Ready = replied (codes "office ready")
 page_of (outcome.Migrated migrated) = replied (migrated_text migrated)
 page_of (outcome.Replied reply) = replied (string_bytes reply)
 page_of (outcome.Printed text) = printed (string_bytes text)
+page_of outcome.CountFinished = replied (codes "count finished")
+page_of (outcome.LotNeeded why) = replied (reason_text why)
 page_of (outcome.Refused why) = refused why
 page_of (outcome.Unread fault) = unread fault
 page_of (outcome.Failed fault) = failed (Office fault)
 page_of (outcome.Uncopied why) = failed (failure_of why)
+page_of outcome.Unjournalled = unjournalled
 
 -- why words are no order: help goes to the output, and what isn't understood to the error output
 abbrev pub words_page : WordsFault → Page
 words_page words.Memory = failed (Office fault.Memory)
 words_page words.Origin = record { out = []; err = bad_origin; status = 2 }
+words_page words.Digest = record { out = []; err = bad_digest; status = 2 }
 words_page words.Verdict = record { out = []; err = codes "bad verdict word\n"; status = 2 }
 words_page (words.Words text status) = if status == 0 then printed (string_bytes text) else record { out = []; err = string_bytes text; status = status }
 
@@ -165,9 +192,19 @@ abbrev pub script_page : ScriptFault → Page
 script_page script.Memory = failed (Office fault.Memory)
 script_page (script.Line number flaw) = record { out = []; err = line_front (Some number) ++ line_flaw_text flaw; status = 2 }
 
--- a page with a text above it on the output
-abbrev pub below : Text → Page → Page
-below text page = record { out = text ++ page.out; err = page.err; status = page.status }
+-- ---- pages below one another
+
+-- it goes on after a page of this status: of 0, and of 1, a refusal, where it is to keep going
+abbrev pub goes_on : Bool → ℕ → Bool
+goes_on keep status = status == 0 || (keep && status == 1)
+
+-- the status behind another one: that of the last page that has one other than 0
+abbrev pub status_behind : ℕ → ℕ → ℕ
+status_behind before status = if status == 0 then before else status
+
+-- a page with another one above it
+abbrev pub below : Page → Page → Page
+below above page = record { out = above.out ++ page.out; err = above.err ++ page.err; status = status_behind above.status page.status }
 
 -- ---- a text that is put to one output
 
@@ -211,12 +248,12 @@ pub data Cut : Type 0 where
   cut_behind : Text → Cut
   cut_error : Cut
 
--- the output failed: it took this beginning, and that is told on the error output, or a beginning of it where that failed too
+-- the output failed: it took this beginning, and that is told on the error output, behind what the page has for it; or a beginning, where that failed too
 pub record IsOutputBroken (took : Text) (old new : Outputs) (page : Page) (status : ℕ) : Type 0 where
   pub out : Appends old.out new.out took
   pub begins : (left : Text) × (took ++ left ≡ page.out)
   pub out_failed : new.out_failed ≡ old.out_failed + 1
-  pub told : IsErrorTold (λ (o : Outputs). o.err) (λ (o : Outputs). o.err_failed) old new (failed Output).err 3 status
+  pub told : IsErrorTold (λ (o : Outputs). o.err) (λ (o : Outputs). o.err_failed) old new (page.err ++ (failed Output).err) 3 status
 
 -- the error output failed: it took a beginning
 pub record IsErrorOutputBroken (old new : Outputs) (page : Page) (status : ℕ) : Type 0 where
@@ -251,7 +288,3 @@ pub record TellsOf (line : Option ℕ) (old new : Outputs) (status : ℕ) (P : C
 
 abbrev pub Tells : Outputs → Outputs → ℕ → (Cut → Page → Type 0) → Type 0
 Tells old new status P = TellsOf None old new status P
-
--- a page with status 0 has nothing for the error output
-abbrev pub IsQuiet : Page → Type 0
-IsQuiet page = page.status ≡ 0 → page.err ≡ []

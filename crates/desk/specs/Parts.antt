@@ -1,6 +1,8 @@
 -- What the parts of an order answer.
-use Rattle.std.specs.Prelude.{◌≡◌, ◌⊎◌, ℕ, Bool, List, [], ◌∷◌, None, Result, Ok, Err}
+use Rattle.std.specs.Prelude.{◌≡◌, ◌⊎◌, ◌==◌, ◌&&◌, ℕ, Bool, not, List, [], ◌∷◌, Option, None, Result, Ok, Err}
 use Rattle.sqlite.specs.State.{State}
+use Rattle.clap.specs.Words.{Text}
+use Rattle.register.specs.Machine.{step_of}
 use Rattle.register.specs.Offices.{OfficeState}
 use Rattle.register.specs.declared.command.Request.{Request}
 use Rattle.register.specs.declared.refusal.Reason.{Reason}
@@ -9,10 +11,10 @@ use Rattle.office.specs.Answers.{IsOpenAt}
 use Rattle.office.specs.Reads.{columns_told}
 use Rattle.keyfile.specs.Files.{Format}
 use Rattle.desk.specs.Folders.{File}
-use Rattle.desk.specs.Headline.{Course, IsStopped, ended}
+use Rattle.desk.specs.Headline.{Course, IsAnswered, IsSent, IsStopped, ended}
 use Rattle.desk.specs.Overviews.{page_asked}
-use Rattle.desk.specs.Pages.{Cut, Page, uncut, empty_page, failed, page_found}
-use Rattle.desk.specs.Requests.{HoldsKeying, keyings_for}
+use Rattle.desk.specs.Pages.{Cut, Page, uncut, empty_page, failed, page_counted, page_found}
+use Rattle.desk.specs.Requests.{AreAdvances, HoldsKeying, is_first, is_refused}
 use Rattle.desk.specs.Told.{IsRefusedFile, IsRefusedKeying, unopened}
 use Rattle.desk.specs.declared.lines.Failure.TheVariants.{Office}
 use Rattle.desk.specs.declared.orders.KeyingFile.{KeyingFile}
@@ -26,6 +28,15 @@ ComesTo cut page P = (requests : List Request) × (answered : ℕ) × P (record 
 abbrev pub IsOver : Bool → State → OfficeState → Course → Type 0
 IsOver closed st s course = (course ≡ ended None [] 0 empty_page uncut) × IsOpenAt s closed st
 
+-- What came of a request for one stage more, the first or not, and whether the count goes on behind it: where the machine doesn't refuse it, and no fault was met.
+abbrev pub IsStage : State → Bool → State → Bool → OfficeState → Request → Page → Bool → Type 0
+IsStage old closed st first s r page goes = (answered : ℕ) × IsAnswered old closed st (λ q. page_counted first) s r answered page × (goes ≡ (answered == 1 && not (is_refused (step_of s r))))
+
+-- the stages of a ward were counted, by requests of an id from the first on
+abbrev pub IsCounted : State → Bool → State → Bool → Option ℕ → OfficeState → ℕ → Text → Course → Type 0
+IsCounted old closed st keep line s ward id course =
+    (requests : List Request) × AreAdvances s ward id 1 requests × IsSent old closed st keep line (λ r. page_counted (is_first id r)) (IsOver closed st) s requests course
+
 -- what is found of a state is told, or why there is nothing; or a fault
 abbrev pub IsFound : {X : Type 0} → OfficeState → (X → Page) → Result X Reason → Page → Bool → State → State → Type 0
 IsFound s shown found page closed old st = ((page ≡ page_found shown found) × IsOpenAt s closed st) ⊎ IsStopped old closed st s page
@@ -35,8 +46,8 @@ abbrev pub IsAskedOf : OfficeState → Question → Page → Bool → State → 
 IsAskedOf s question page closed old st = ((page ≡ page_asked s question) × IsOpenAt s closed st) ⊎ IsStopped old closed st s page
 
 -- why a file that was read isn't taken, or want of memory
-abbrev pub IsUnread : {Row : Type 0} → Format Row → File → Page → Type 0
-IsUnread format file page = IsRefusedFile format file page ⊎ (page ≡ failed (Office Memory))
+abbrev pub IsUnread : {Row : Type 0} → Format Row → Option (List ℕ) → File → Page → Type 0
+IsUnread format digest file page = IsRefusedFile format digest file page ⊎ (page ≡ failed (Office Memory))
 
 -- why no text is read of a script's file
 abbrev pub IsUnreadScript : Page → Type 0
@@ -44,5 +55,5 @@ IsUnreadScript page = (page ≡ unopened) ⊎ (page ≡ failed (Office Memory))
 
 -- the keying that a file holds, of a batch at a state; or why there is none
 abbrev pub IsKeyingRead : {O : Type 0} → OfficeState → KeyingFile → File → (O → Page) → Result Request O → Bool → State → State → Type 0
-IsKeyingRead s k file page_of (Ok request) closed old st = HoldsKeying (columns_told s k.batch) (keyings_for k) file (request ∷ []) × IsOpenAt s closed st
-IsKeyingRead s k file page_of (Err outcome) closed old st = (IsRefusedKeying (columns_told s k.batch) file (page_of outcome) × IsOpenAt s closed st) ⊎ IsStopped old closed st s (page_of outcome)
+IsKeyingRead s k file page_of (Ok request) closed old st = HoldsKeying (columns_told s k.batch) k file (request ∷ []) × IsOpenAt s closed st
+IsKeyingRead s k file page_of (Err outcome) closed old st = (IsRefusedKeying (columns_told s k.batch) k file (page_of outcome) × IsOpenAt s closed st) ⊎ IsStopped old closed st s (page_of outcome)

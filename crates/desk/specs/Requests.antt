@@ -1,18 +1,22 @@
 -- The requests that orders send to the office.
-use Rattle.std.specs.Prelude.{◌≡◌, ℕ, suc, List, [], ◌∷◌, ◌++◌, codes, map, Option, Some, None, Result, Ok, Err}
+use Rattle.std.specs.Prelude.{◌≡◌, ◌==◌, ◌||◌, ℕ, suc, Bool, true, false, List, [], ◌∷◌, ◌++◌, codes, map, string_bytes, Option, Some, None, Result, Ok, Err}
 use Rattle.std.specs.Fmt.{decimal}
+use Rattle.std.specs.List.{range_with_len}
+use Rattle.std.specs.Str.{bytes_eq}
 use Rattle.clap.specs.Words.{Text}
+use Rattle.register.specs.Machine.{Outcome, accepted, kept, refused, after_one, step_of}
 use Rattle.register.specs.Offices.{OfficeState}
 use Rattle.register.specs.declared.command.Request.{Request}
 use Rattle.register.specs.declared.refusal.Reason.{Reason}
 use Rattle.office.specs.Reads.{columns_told}
 use Rattle.keyfile.specs.Candidates.{CandidateEntry, candidates}
+use Rattle.keyfile.specs.Digests.{asked_digest}
 use Rattle.keyfile.specs.Files.{Format, file_rows}
 use Rattle.keyfile.specs.Keying.{keying}
 use Rattle.keyfile.specs.Records.{file_records}
 use Rattle.keyfile.specs.declared.fault.FileFault.{FileFault}
-use Rattle.desk.specs.Folders.{File, HoldsText}
-use Rattle.desk.specs.Orders.{Sent, by_office, candidate_to_add, keying_to_keep, sent_as}
+use Rattle.desk.specs.Folders.{File, IsReadFrom}
+use Rattle.desk.specs.Orders.{Sent, by_clerk, by_office, candidate_to_add, keying_to_keep, sent_as, stage_to_count}
 use Rattle.desk.specs.declared.orders.KeyingFile.{KeyingFile}
 use Rattle.desk.specs.declared.orders.Errand.{Errand}
 use Rattle.desk.specs.declared.orders.Errand.TheVariants as errand
@@ -22,7 +26,7 @@ use Rattle.desk.specs.declared.orders.Task.TheVariants as task
 
 -- the file that an errand names
 abbrev pub file_of : Errand → Option Text
-file_of (errand.ImportCandidates file id) = Some file.now
+file_of (errand.ImportCandidates file id digest) = Some file.now
 file_of (errand.ImportKeying keying) = Some keying.file.now
 file_of other = None
 
@@ -31,7 +35,7 @@ abbrev pub file_of_task : Task → Option Text
 file_of_task task.Init = None
 file_of_task task.Migrate = None
 file_of_task (task.InOffice (job.Run errand)) = file_of errand
-file_of_task (task.InOffice (job.Replay file)) = Some file.now
+file_of_task (task.InOffice (job.Replay file keep_going)) = Some file.now
 
 -- the id of the request for the record of some number: the order's, a hyphen, and that number
 unfoldable pub id_at : Text → ℕ → Text
@@ -53,25 +57,62 @@ requests_for id (Err fault) = Err fault
 
 -- the request that keeps a clerk's keying of a batch, sent by the clerk
 abbrev pub keying_by : KeyingFile → List Text → Sent
-keying_by k papers = record { actor = k.clerk; id = k.id.now; asked = keying_to_keep k.batch k.round papers }
+keying_by k papers = by_clerk k.clerk k.id.now (keying_to_keep k.batch k.round papers)
 
 -- the one request for the papers of a file
 abbrev pub keyings_for : KeyingFile → Result (List Text) FileFault → Result (List Sent) FileFault
 keyings_for k (Ok papers) = Ok (keying_by k papers ∷ [])
 keyings_for k (Err fault) = Err fault
 
--- the file holds these requests
-abbrev pub HoldsRequests : {Row : Type 0} → Format Row → (Result (List Row) FileFault → Result (List Sent) FileFault) → File → List Request → Type 0
-HoldsRequests format sent file requests = HoldsText file (λ bytes. sent (file_rows format (file_records bytes)) ≡ Ok (map sent_as requests))
+-- the file is read as bytes that hold these requests, and have the digest that is asked for, if one is
+abbrev pub HoldsRequests : {Row : Type 0} → Format Row → (Result (List Row) FileFault → Result (List Sent) FileFault) → Option (List ℕ) → File → List Request → Type 0
+HoldsRequests format sent digest file requests = IsReadFrom digest file (λ bytes. sent (file_rows format (file_records bytes)) ≡ Ok (map sent_as requests))
 
--- the file of a keying of a batch whose columns are told so
-abbrev pub HoldsKeying : Result (List ℕ) Reason → (Result (List (List ℕ)) FileFault → Result (List Sent) FileFault) → File → List Request → Type 0
-HoldsKeying (Ok columns) sent file requests = HoldsRequests (keying columns) sent file requests
-HoldsKeying (Err why) sent file requests = ⊥
+-- the file of a clerk's keying of a batch whose columns are told so
+abbrev pub HoldsKeying : Result (List ℕ) Reason → KeyingFile → File → List Request → Type 0
+HoldsKeying (Ok columns) k file requests = HoldsRequests (keying columns k.batch k.clerk) (keyings_for k) (asked_digest k.digest) file requests
+HoldsKeying (Err why) k file requests = ⊥
 
--- the requests that an errand sends at a state: its own one, or those that its file holds; an errand that asks something sends none
+-- ---- the stages of a count
+
+-- the request that counts a stage of a ward, the one of some number in its order
+abbrev pub advance_at : ℕ → Text → ℕ → Sent
+advance_at ward id k = by_office (id_at id k) (stage_to_count ward)
+
+-- a request has the id of the first of an order that counts
+abbrev pub is_first : Text → Request → Bool
+is_first id r = bytes_eq (string_bytes r.id) (id_at id 1)
+
+-- the first requests of an order that counts, so many
+abbrev pub advances : ℕ → Text → ℕ → List Sent
+advances ward id n = map (advance_at ward id) (range_with_len 1 n)
+
+-- the most that such an order sends: one more than a count can have stages
+abbrev pub most_advances : ℕ
+most_advances = 32
+
+-- the machine refuses a request
+abbrev pub is_refused : Outcome → Bool
+is_refused (accepted next reply) = false
+is_refused (kept reply) = false
+is_refused (refused why) = true
+
+-- the last request of some is the one before these; or it isn't, and these follow it
+abbrev pub EndsOr : Bool → List Request → Type 0 → Type 0
+EndsOr true others Follow = others ≡ []
+EndsOr false others Follow = Follow
+
+-- requests that count stages of a ward, from this number in their order on: each in its turn, up to the first that the machine refuses, or to the most
+abbrev pub AreAdvances : OfficeState → ℕ → Text → ℕ → List Request → Type 0
+AreAdvances s ward id k [] = ⊥
+AreAdvances s ward id k (r ∷ rs) = (sent_as r ≡ advance_at ward id k) × EndsOr (is_refused (step_of s r) || k == most_advances) rs (AreAdvances (after_one s r) ward id (suc k) rs)
+
+-- ---- the requests of an errand
+
+-- the requests that an errand sends at a state: its own one, those that its file holds, or those that count; an errand that asks something sends none
 abbrev pub Sends : OfficeState → Errand → File → List Request → Type 0
 Sends s (errand.Send request) file requests = map sent_as requests ≡ sent_as request ∷ []
-Sends s (errand.ImportCandidates path id) file requests = HoldsRequests candidates (requests_for id.now) file requests
-Sends s (errand.ImportKeying keying) file requests = HoldsKeying (columns_told s keying.batch) (keyings_for keying) file requests
+Sends s (errand.ImportCandidates path id digest) file requests = HoldsRequests candidates (requests_for id.now) (asked_digest digest) file requests
+Sends s (errand.ImportKeying keying) file requests = HoldsKeying (columns_told s keying.batch) keying file requests
+Sends s (errand.Count ward id) file requests = AreAdvances s ward id.now 1 requests
 Sends s other file requests = ⊥

@@ -6,7 +6,7 @@ use Rattle.std.specs.Str.{is_utf8}
 use Rattle.clap.specs.Words.{Text, subcommand_of}
 use Rattle.desk.specs.Folders.{File, Folder, HoldsText, IsFileAt}
 use Rattle.desk.specs.Orders.{told}
-use Rattle.desk.specs.Words.{IsToldOf, bad_origin, meaning, office_words, status_of_kind, wrong_with}
+use Rattle.desk.specs.Words.{IsToldOf, bad_digest, bad_origin, meaning, office_words, status_of_kind, wrong_with}
 use Rattle.desk.specs.declared.orders.Errand.{Errand}
 use Rattle.desk.specs.declared.orders.Errand.TheVariants as errand
 use Rattle.desk.specs.declared.orders.Order.{Order}
@@ -132,8 +132,9 @@ script_lines text = map typed_line (numbered_from 1 (lines_of text))
 -- an errand sends requests; one that sends none stands in no script
 abbrev pub sends_requests : Errand → Bool
 sends_requests (errand.Send request) = true
-sends_requests (errand.ImportCandidates file id) = true
+sends_requests (errand.ImportCandidates file id digest) = true
 sends_requests (errand.ImportKeying keying) = true
+sends_requests (errand.Count ward id) = true
 sends_requests other = false
 
 -- an order stands in a script where its errand sends requests
@@ -160,7 +161,12 @@ AreTurns (line ∷ lines) turns = (turn : Turn) × (others : List Turn) × (turn
 -- the turns of a job: an errand alone is one turn, of no line; the turns of a script are the errands that its lines mean
 abbrev pub HasTurns : Folder → Job → List Turn → Type 0
 HasTurns folder (job.Run errand) turns = turns ≡ record { line = None; errand = errand } ∷ []
-HasTurns folder (job.Replay path) turns = (file : File) × IsFileAt folder (Some path.now) file × HoldsText file (λ text. AreTurns (script_lines text) turns)
+HasTurns folder (job.Replay path keep_going) turns = (file : File) × IsFileAt folder (Some path.now) file × HoldsText file (λ text. AreTurns (script_lines text) turns)
+
+-- a job goes past refusals: a script does where it is to keep going
+abbrev pub keeps_going : Job → Bool
+keeps_going (job.Run errand) = false
+keeps_going (job.Replay path keep_going) = keep_going
 
 -- ---- what is wrong with a line
 
@@ -170,6 +176,7 @@ line_flaw_text (flaw.NoWords garbled.Quote) = codes "error: a quote is not close
 line_flaw_text (flaw.NoWords garbled.NotUtf8) = codes "error: a word is not UTF-8\n"
 line_flaw_text flaw.Verdict = codes "bad verdict word\n"
 line_flaw_text flaw.Origin = bad_origin
+line_flaw_text flaw.Digest = bad_digest
 line_flaw_text (flaw.Words text) = string_bytes text
 line_flaw_text flaw.Elsewhere = codes "error: this order stands in no script\n"
 
@@ -178,6 +185,7 @@ abbrev pub IsFlawOfWords : List Text → LineFlaw → Type 0
 IsFlawOfWords words (flaw.NoWords why) = ⊥
 IsFlawOfWords words flaw.Verdict = IsToldOf (wrong_with words) words_fault.Verdict
 IsFlawOfWords words flaw.Origin = IsToldOf (wrong_with words) words_fault.Origin
+IsFlawOfWords words flaw.Digest = IsToldOf (wrong_with words) words_fault.Digest
 IsFlawOfWords words (flaw.Words text) = (status : ℕ) × (status ≢ 0) × IsToldOf (wrong_with words) (words_fault.Words text status)
 IsFlawOfWords words flaw.Elsewhere =
     (list_any (λ kind. status_of_kind kind == 0) (wrong_with words) ≡ true)

@@ -1,49 +1,63 @@
 -- What is told where nothing is sent: what was asked, or why a file isn't taken.
 use Rattle.std.specs.Prelude.{◌≡◌, ◌⊎◌, ℕ, List, Option, Some, None, Result, Ok, Err}
 use Rattle.register.specs.Offices.{OfficeState}
+use Rattle.register.specs.declared.command.Request.{Request}
 use Rattle.register.specs.declared.refusal.Reason.{Reason}
-use Rattle.office.specs.Reads.{columns_told, status_told}
+use Rattle.office.specs.Answers.{Told}
+use Rattle.office.specs.Reads.{columns_told, next_told, status_told}
+use Rattle.office.specs.Index.{index_told}
 use Rattle.office.specs.Sheets.{text_told}
 use Rattle.keyfile.specs.Candidates.{candidates}
-use Rattle.keyfile.specs.Files.{Format, IsFaultOf}
+use Rattle.keyfile.specs.Digests.{IsFaultBy, asked_digest}
+use Rattle.keyfile.specs.Files.{Format}
 use Rattle.keyfile.specs.Keying.{keying}
 use Rattle.keyfile.specs.Reading.{Known}
-use Rattle.keyfile.specs.Records.{file_records}
 use Rattle.keyfile.specs.declared.fault.FileFault.{FileFault}
 use Rattle.keyfile.specs.declared.fault.Flaw.TheVariants.{ReadFailed}
 use Rattle.desk.specs.Folders.{File, Folder, IsFileAt}
 use Rattle.desk.specs.Overviews.{page_asked}
-use Rattle.desk.specs.Pages.{Page, page_found, printed, refused, replied, script_page, unread}
+use Rattle.desk.specs.Pages.{Page, page_counted, page_for, page_found, printed, refused, replied, script_page, unread}
+use Rattle.desk.specs.Requests.{is_first}
 use Rattle.desk.specs.Scripts.{IsFirstFlaw, script_lines}
 use Rattle.desk.specs.Standings.{status_text}
+use Rattle.desk.specs.Steps.{step_text}
 use Rattle.desk.specs.declared.orders.Errand.{Errand}
 use Rattle.desk.specs.declared.orders.Errand.TheVariants as errand
 use Rattle.desk.specs.declared.orders.Job.{Job}
 use Rattle.desk.specs.declared.orders.Job.TheVariants as job
+use Rattle.desk.specs.declared.orders.KeyingFile.{KeyingFile}
 use Rattle.desk.specs.declared.scripts.LineFlaw.{LineFlaw}
 use Rattle.desk.specs.declared.scripts.ScriptFault.TheVariants as script
+
+-- what an errand tells of the answer to a request that it sends: one that counts tells why the count rests
+abbrev pub page_answered : Errand → Request → Told → Page
+page_answered (errand.Count ward id) = λ r. page_counted (is_first id.now r)
+page_answered other = page_for
 
 -- that a file can't be opened or read
 abbrev pub unopened : Page
 unopened = unread (record { flaw = ReadFailed; record_number = 0 })
 
--- why the file isn't taken
-abbrev pub IsRefusedFile : {Row : Type 0} → Format Row → File → Page → Type 0
-IsRefusedFile format None page = page ≡ unopened
-IsRefusedFile format (Some told) page = (fault : FileFault) × (page ≡ unread fault) × Known told (λ bytes. IsFaultOf format (file_records bytes) fault)
+-- why the file isn't taken, where a digest is asked for or none
+abbrev pub IsRefusedFile : {Row : Type 0} → Format Row → Option (List ℕ) → File → Page → Type 0
+IsRefusedFile format digest None page = page ≡ unopened
+IsRefusedFile format digest (Some told) page = (fault : FileFault) × (page ≡ unread fault) × Known told (λ bytes. IsFaultBy digest format bytes fault)
 
--- the same of the keying of a batch, which may not be there
-abbrev pub IsRefusedKeying : Result (List ℕ) Reason → File → Page → Type 0
-IsRefusedKeying (Ok columns) file page = IsRefusedFile (keying columns) file page
-IsRefusedKeying (Err why) file page = page ≡ refused why
+-- the same of a clerk's keying of a batch, which may not be there
+abbrev pub IsRefusedKeying : Result (List ℕ) Reason → KeyingFile → File → Page → Type 0
+IsRefusedKeying (Ok columns) k file page = IsRefusedFile (keying columns k.batch k.clerk) (asked_digest k.digest) file page
+IsRefusedKeying (Err why) k file page = page ≡ refused why
 
 -- what is told of a state, or why nothing is sent
 abbrev pub IsTold : OfficeState → Errand → File → Page → Type 0
 IsTold s (errand.Send request) file page = ⊥
-IsTold s (errand.ImportCandidates path id) file page = IsRefusedFile candidates file page
-IsTold s (errand.ImportKeying k) file page = IsRefusedKeying (columns_told s k.batch) file page
+IsTold s (errand.ImportCandidates path id digest) file page = IsRefusedFile candidates (asked_digest digest) file page
+IsTold s (errand.ImportKeying k) file page = IsRefusedKeying (columns_told s k.batch) k file page
+IsTold s (errand.Count ward id) file page = ⊥
+IsTold s (errand.TellNext ward) file page = page ≡ page_found (λ step. replied (step_text ward step)) (next_told s ward)
 IsTold s (errand.TellStatus ward) file page = page ≡ page_found (λ status. replied (status_text status)) (status_told s ward)
 IsTold s (errand.Print ward text) file page = page ≡ page_found printed (text_told text s ward)
+IsTold s (errand.PrintIndex title) file page = page ≡ page_found printed (index_told title.now s)
 IsTold s (errand.Ask question) file page = page ≡ page_asked s question
 
 -- why a file isn't taken for a script: it can't be opened or read, or this is wrong with the first line that isn't understood
@@ -55,4 +69,4 @@ IsRefusedScript (Some told) page =
 -- why the file of a job isn't taken for a script
 abbrev pub IsNoScript : Folder → Job → Page → Type 0
 IsNoScript folder (job.Run errand) page = ⊥
-IsNoScript folder (job.Replay path) page = (file : File) × IsFileAt folder (Some path.now) file × IsRefusedScript file page
+IsNoScript folder (job.Replay path keep_going) page = (file : File) × IsFileAt folder (Some path.now) file × IsRefusedScript file page

@@ -3,10 +3,11 @@ use Rattle.std.specs.Prelude.{◌≡◌, ◌≢◌, ◌==◌, ◌&&◌, ⊤, ℕ
 use Rattle.std.specs.Prelude.{codes, map, find, option_and_then, option_map, string_bytes, unwrap_or}
 use Rattle.std.specs.List.{list_any}
 use Rattle.std.specs.Str.{bytes_eq}
-use Rattle.clap.specs.Words.{App, Kinds, Row, Rule, Text, fault_of, first_of, new_app, new_rule, one_of, with_rule, with_subcommand}
+use Rattle.clap.specs.Words.{App, Kinds, Row, Rule, Text, all_of, fault_of, first_of, new_app, new_rule, one_of, with_rule, with_subcommand}
 use Rattle.clap.specs.Simple.{on_top}
 use Rattle.clap.specs.declared.builder.value_parser.ValueParser.{ValueParser}
 use Rattle.clap.specs.declared.builder.value_parser.ValueParser.TheVariants as parser
+use Rattle.clap.specs.declared.builder.action.ArgAction.TheVariants.{Append, SetTrue}
 use Rattle.clap.specs.declared.error.kind.ErrorKind.{ErrorKind}
 use Rattle.clap.specs.declared.error.kind.ErrorKind.TheVariants.{DisplayHelp, DisplayVersion, OutOfMemory}
 use Rattle.desk.specs.declared.words.WordsFault.{WordsFault}
@@ -14,10 +15,11 @@ use Rattle.desk.specs.declared.words.WordsFault.TheVariants as words_fault
 use Rattle.desk.specs.declared.table.Kind.{Kind}
 use Rattle.desk.specs.declared.table.Kind.TheVariants as kind
 use Rattle.desk.specs.Numbers.{number_in}
-use Rattle.desk.specs.Orders.{Meant, OfWords, OrderWords, WordValue, WordEntry, asked_by, by_office, no_origin, no_verdict, orders, send}
+use Rattle.desk.specs.Orders.{Meant, OfWords, OrderWords, WordValue, WordEntry, asked_by, by_office, no_digest, no_origin, no_verdict, orders, send}
 use Rattle.desk.specs.Verdicts.{Judgement, judgement_in}
 use Rattle.register.specs.declared.command.Command.{Command}
 use Rattle.wire.specs.Origins.{origin_in}
+use Rattle.keyfile.specs.Digests.{digest_in}
 
 -- the numbers that a word may be
 abbrev pub any_number : ValueParser
@@ -49,6 +51,14 @@ id_rule name = record (new_rule name) { long = Some name; value_names = 1; requi
 abbrev pub option_rule : Text → Rule
 option_rule name = record (new_rule name) { long = Some name; value_names = 1 }
 
+-- any values behind the other words, each of them one word more of the same name
+abbrev pub texts_rule : Text → Rule
+texts_rule name = record (new_rule name) { action = Some Append }
+
+-- `--` and the word's name, with no value behind it
+abbrev pub flag_rule : Text → Rule
+flag_rule name = record (new_rule name) { long = Some name; action = Some SetTrue }
+
 -- what `clap` is told of a word
 abbrev pub rule_of_kind : Kind → Text → Rule
 rule_of_kind kind.Number = number_rule any_number
@@ -59,6 +69,10 @@ rule_of_kind kind.Text = text_rule
 rule_of_kind kind.Verdict = text_rule
 rule_of_kind kind.Id = id_rule
 rule_of_kind kind.Origin = option_rule
+rule_of_kind kind.Title = option_rule
+rule_of_kind kind.Digest = option_rule
+rule_of_kind kind.Texts = texts_rule
+rule_of_kind kind.Flag = flag_rule
 
 -- a command, and these words more
 abbrev pub with_words : App → List WordEntry → App
@@ -97,9 +111,21 @@ number_at name rows = unwrap_or (number_found name rows) 0
 abbrev pub text_at : Text → List Row → Text
 text_at name rows = unwrap_or (first_of name rows) []
 
+-- the texts that were matched under a name, and none without one
+abbrev pub texts_at : Text → List Row → List Text
+texts_at name rows = unwrap_or (all_of name rows) []
+
+-- whether a flag was given: `clap` matches it as `true`, and as `false` where it was left out
+abbrev pub flag_at : Text → List Row → Bool
+flag_at name rows = bytes_eq (text_at name rows) (codes "true")
+
 -- what was matched under a name, if a text was: the origin that it is, or none
 abbrev pub origin_at : Text → List Row → Option (Option Text)
 origin_at name rows = option_map origin_in (first_of name rows)
+
+-- what was matched under a name, if a text was: the digest that it is, or none
+abbrev pub digest_at : Text → List Row → Option (Option (List ℕ))
+digest_at name rows = option_map digest_in (first_of name rows)
 
 -- what comes of a verdict, or that there is none
 abbrev pub judged : Option Judgement → (Judgement → Meant) → Meant
@@ -112,6 +138,12 @@ served_to None means = means None
 served_to (Some None) means = no_origin
 served_to (Some (Some origin)) means = means (Some origin)
 
+-- what comes of a digest that may be left out, or that what was given is none
+abbrev pub digested_by : Option (Option (List ℕ)) → (Option (List ℕ) → Meant) → Meant
+digested_by None means = means None
+digested_by (Some None) means = no_digest
+digested_by (Some (Some digest)) means = means (Some digest)
+
 -- what comes of the value that the matches give a word
 abbrev pub with_value : (k : Kind) → List Row → Text → (WordValue k → Meant) → Meant
 with_value kind.Number rows name means = means (number_at name rows)
@@ -122,6 +154,10 @@ with_value kind.Text rows name means = means (text_at name rows)
 with_value kind.Verdict rows name means = judged (judgement_in (text_at name rows)) means
 with_value kind.Id rows name means = means (text_at name rows)
 with_value kind.Origin rows name means = served_to (origin_at name rows) means
+with_value kind.Title rows name means = means (text_at name rows)
+with_value kind.Digest rows name means = digested_by (digest_at name rows) means
+with_value kind.Texts rows name means = means (texts_at name rows)
+with_value kind.Flag rows name means = means (flag_at name rows)
 
 -- what comes of the values that the matches give some words
 abbrev pub with_values : List Row → (words : List WordEntry) → OfWords words Meant → Meant
@@ -167,16 +203,21 @@ status_of_kind DisplayVersion = 0
 status_of_kind _ = 2
 
 -- what is told of words, by what is wrong with them: a text that isn't empty, with the status of that; or, where nothing is wrong, that the word of a verdict
--- says no verdict, or that the word of an origin is none; or want of memory
+-- says no verdict, or that the word of an origin or of a digest is none; or want of memory
 abbrev pub IsToldOf : Kinds → WordsFault → Type 0
 IsToldOf kinds words_fault.Memory = ⊤
 IsToldOf kinds words_fault.Verdict = kinds ≡ []
 IsToldOf kinds words_fault.Origin = kinds ≡ []
+IsToldOf kinds words_fault.Digest = kinds ≡ []
 IsToldOf kinds (words_fault.Words text status) = (list_any (λ kind. status_of_kind kind == status) kinds ≡ true) × (string_bytes text ≢ [])
 
 -- what is told of a word behind `--origin` that is none
 abbrev pub bad_origin : Text
 bad_origin = codes "error: an origin is http:// or https://, a host in small letters, and its port where it isn't the usual one, as https://count.example.org\n"
+
+-- what is told of a word behind `--sha256` that is none
+abbrev pub bad_digest : Text
+bad_digest = codes "error: a digest is 64 hexadecimal digits, as sha256sum prints them\n"
 
 -- the text is the own one of what displays itself, where that is known and not empty
 abbrev pub IsOwnText : Option Text → Text → Type 0
@@ -187,6 +228,7 @@ abbrev pub TellsRefusal : ErrorKind → WordsFault → Type 0
 TellsRefusal kind words_fault.Memory = ⊤
 TellsRefusal kind words_fault.Verdict = ⊥
 TellsRefusal kind words_fault.Origin = ⊥
+TellsRefusal kind words_fault.Digest = ⊥
 TellsRefusal kind (words_fault.Words text status) = (kind ≢ OutOfMemory) × (status ≡ status_of_kind kind) × (string_bytes text ≢ [])
 
 -- the text is that of what is told
@@ -194,4 +236,5 @@ abbrev pub TellsOwnText : Option Text → WordsFault → Type 0
 TellsOwnText own words_fault.Memory = ⊤
 TellsOwnText own words_fault.Verdict = ⊥
 TellsOwnText own words_fault.Origin = ⊥
+TellsOwnText own words_fault.Digest = ⊥
 TellsOwnText own (words_fault.Words text status) = IsOwnText own (string_bytes text)

@@ -4,6 +4,7 @@ ghost use Rattle.std.specs.Prelude.{option_map, [], ◌∷◌, IfErr, IfOk};
 ghost use Rattle.sqlite.specs.Held.{state};
 ghost use Rattle.tables.specs.Reading.{OnlyReads};
 ghost use Rattle.keyfile.specs.Candidates.{candidates};
+ghost use Rattle.keyfile.specs.Digests.{asked_digest};
 ghost use Rattle.keyfile.specs.Keying.{keying};
 ghost use Rattle.office.specs.Answers.{WhenOpenAt};
 ghost use Rattle.desk.specs.Parts.{IsKeyingRead, IsUnread};
@@ -13,7 +14,7 @@ ghost use Rattle.desk.specs.Requests.{HoldsRequests, keyings_for, requests_for};
 use crate::lines::Outcome;
 use crate::orders::KeyingFile;
 use crate::requests::{keying_request, requests_for};
-use keyfile::{FileFault, Flaw, read_candidates, read_keying};
+use keyfile::{FileDigest, FileFault, Flaw, read_candidates, read_keying};
 use office::{Office, Stop};
 use paper::Columns;
 use register::Request;
@@ -29,19 +30,20 @@ pub(crate) const UNOPENED: FileFault = FileFault {
 };
 
 /// The requests that add the candidates of a file; or why there are none. The file is None where it can't be opened,
-/// and is read to its end.
+/// and is read to its end. Where a digest is asked for, the requests are those of bytes that have it.
 pub(crate) fn candidate_requests<R: Read + Drop>(
     alloc: Global,
     id: &str,
     file: Option<R>,
+    digest: Option<FileDigest>,
 ) -> Result<Vec<Request>, Outcome>
-    ensures rows { IfOk result (λ requests. HoldsRequests candidates (requests_for id.now) (option_map R.remaining file) requests.items) }
-    ensures refused { IfErr result (λ outcome. IsUnread candidates (option_map R.remaining file) (page_of outcome)) }
+    ensures rows { IfOk result (λ requests. HoldsRequests candidates (requests_for id.now) (asked_digest digest) (option_map R.remaining file) requests.items) }
+    ensures refused { IfErr result (λ outcome. IsUnread candidates (asked_digest digest) (option_map R.remaining file) (page_of outcome)) }
 {
     let Some(file) = file else {
         return Err(Outcome::Unread(UNOPENED));
     };
-    let rows = match read_candidates(alloc, file) {
+    let rows = match read_candidates(alloc, file, digest) {
         Ok(rows) => rows,
         Err(fault) => return Err(Outcome::Unread(fault)),
     };
@@ -52,20 +54,24 @@ pub(crate) fn candidate_requests<R: Read + Drop>(
 }
 
 /// The request that keeps the keying that a file holds, of papers with these columns; or why there is none. The file
-/// is None where it can't be opened, and is read to its end.
+/// is None where it can't be opened, and is read to its end. It may name its batch and its clerk, and these are then
+/// the request's. Where a digest is asked for, the request is that of bytes that have it.
 fn keying_in<R: Read + Drop>(
     alloc: Global,
     keyed: KeyingFile<'_>,
     columns: Columns,
     file: Option<R>,
 ) -> Result<Request, Outcome>
-    ensures papers { IfOk result (λ request. HoldsRequests (keying columns) (keyings_for keyed.entry) (option_map R.remaining file) (request ∷ [])) }
-    ensures refused { IfErr result (λ outcome. IsUnread (keying columns) (option_map R.remaining file) (page_of outcome)) }
+    ensures papers { let format = keying columns keyed.entry.batch keyed.entry.clerk in
+        IfOk result (λ request. HoldsRequests format (keyings_for keyed.entry) (asked_digest keyed.entry.digest) (option_map R.remaining file) (request ∷ [])) }
+    ensures refused { let format = keying columns keyed.entry.batch keyed.entry.clerk in
+        IfErr result (λ outcome. IsUnread format (asked_digest keyed.entry.digest) (option_map R.remaining file) (page_of outcome)) }
 {
     let Some(file) = file else {
         return Err(Outcome::Unread(UNOPENED));
     };
-    let papers = match read_keying(alloc, file, columns) {
+    let read = read_keying(alloc, file, columns, keyed.batch, keyed.clerk, keyed.digest);
+    let papers = match read {
         Ok(papers) => papers,
         Err(fault) => return Err(Outcome::Unread(fault)),
     };

@@ -3,14 +3,14 @@
 //! [`order`](words) reads the words to an [`Order`](orders), and [`perform`](perform) does its task over an
 //! opened connection, to any store of `sqlite`, and prints its lines. A file that it names, or that a script
 //! names, is opened by a [`Folder`](folders). Words that are no order, and other failures, are told by
-//! [`lines`](lines). An order to serve is followed by [`serve_on`](serving), over an opened office, and one to
-//! copy by [`copy_office`](copying), over two connections. Which files, outputs and sockets these are, the
-//! program says.
+//! [`lines`](lines). An order to serve is followed by [`serve_on`](serving), over an opened office; one to copy by
+//! [`copy_office`](copying), and one for the journal by [`journal_office`](journalling), over two connections.
+//! Which files, outputs and sockets these are, the program says.
 //!
 //! ```text
 //! match order(alloc, words) {
 //!     Ok(Order::Perform(task)) => perform(alloc, &task, conn, folder, out, err),    // the status and the connection
-//!     Ok(Order::Serve { .. } | Order::Copy { .. }) => ..,
+//!     Ok(Order::Serve { .. } | Order::Copy { .. } | Order::Journal) => ..,
 //!     Err(fault) => tell_words(&fault, out, err),
 //! }
 //! ```
@@ -31,9 +31,14 @@ mod scripts;
 mod requests;
 // and those to lines and a status.
 pub mod copying;
+mod counting;
 mod import;
+mod journal;
+pub mod journalling;
 pub mod lines;
+mod names;
 mod overviews;
+mod papers;
 pub mod patience;
 pub mod perform;
 mod printing;
@@ -42,9 +47,11 @@ mod replaying;
 mod sending;
 pub mod serving;
 mod standing;
+mod steps;
 
 pub use copying::{CopyState, copy_office};
 pub use folders::Folder;
+pub use journalling::journal_office;
 pub use lines::{Failure, tell_failure, tell_words};
 pub use orders::{Errand, Job, KeyingFile, Order, Question, Task};
 pub use progress::Progress;

@@ -2,17 +2,21 @@
 
 ghost use Rattle.std.specs.Prelude.{◌≡◌, ◌⊎◌, ◌-◌, ◌^◌, ◌<◌, ◌++◌};
 ghost use Rattle.std.specs.List.{flat_map};
+ghost use Rattle.keyfile.specs.Faults.{flaw_batch, flaw_between, flaw_clerk};
 ghost use Rattle.desk.specs.Pages.{IsErrorTold, IsPut, Shows, fronted, line_front, migrated_text, numbered_line, outputs_of, printed, status_of_file};
-ghost use Rattle.desk.specs.Pages.{failed, failure_number, failure_of, failure_text, page_of, refused, script_page, unread, words_page};
+ghost use Rattle.desk.specs.Pages.{failed, failure_number, failure_of, failure_text, page_of, refused, script_page, unjournalled, unread, words_page};
 
 use crate::scripts::ScriptFault;
-use crate::words::{BAD_ORIGIN, WordsFault};
+use crate::words::{BAD_DIGEST, BAD_ORIGIN, WordsFault};
 use itoa::Buffer;
 use keyfile::{FileFault, Flaw};
 use register::{Refusal, Reply};
 use store::{CopyFault, Fault, Migrated};
 use thiserror::Error;
 use votes::{Broken, Sink, put_all};
+
+/// What is told of an office whose receipts and other tables don't belong together.
+const NO_JOURNAL: &str = "no journal: the receipts are not those of these tables";
 
 /// What an order came to.
 #[derive(Drop)]
@@ -25,6 +29,10 @@ pub(crate) enum Outcome {
     Replied(Reply),
     /// This text is told as it is, its lines ended.
     Printed(String),
+    /// No seat is left in a count.
+    CountFinished,
+    /// A count waits for a lot, for which a request for one stage more was refused.
+    LotNeeded(Refusal),
     /// A request was refused.
     Refused(Refusal),
     /// The file was refused, or couldn't be read.
@@ -33,6 +41,8 @@ pub(crate) enum Outcome {
     Failed(Fault),
     /// No copy is told.
     Uncopied(CopyFault),
+    /// The office has no journal.
+    Unjournalled,
 }
 
 /// Why the program gives up: a fault of the office, told by its number 101 to 106 or 108; an output that
@@ -162,6 +172,36 @@ fn status_of_file(fault: FileFault) -> u8
     }
 }
 
+/// The batch that a flaw names, in digits; nothing, where it names none.
+fn batch_of(flaw: Flaw, digits: &mut Buffer) -> &str
+    ensures { result.now ≡ flaw_batch flaw }
+{
+    match flaw {
+        Flaw::OtherKeying { batch, .. } => digits.format(batch),
+        _ => "",
+    }
+}
+
+/// What stands between the batch and the clerk that a flaw names.
+fn between_of(flaw: Flaw) -> &'static str
+    ensures { result.now ≡ flaw_between flaw }
+{
+    match flaw {
+        Flaw::OtherKeying { .. } => ", clerk ",
+        _ => "",
+    }
+}
+
+/// The clerk whom a flaw names, in digits; nothing, where it names none.
+fn clerk_of(flaw: Flaw, digits: &mut Buffer) -> &str
+    ensures { result.now ≡ flaw_clerk flaw }
+{
+    match flaw {
+        Flaw::OtherKeying { clerk, .. } => digits.format(clerk),
+        _ => "",
+    }
+}
+
 /// Tells why a file isn't taken, and gives the status: 1, or 3 where its reading was stopped or the error
 /// output fails.
 fn tell_file_fault<E: Sink>(line: Option<usize>, fault: FileFault, err: &mut E) -> u8
@@ -169,16 +209,28 @@ fn tell_file_fault<E: Sink>(line: Option<usize>, fault: FileFault, err: &mut E) 
     ensures { IsErrorTold E.taken E.failed err.old err.new (line_front line ++ (unread fault).err) (status_of_file fault) result }
 {
     let (mut number, mut record) = (Buffer::new(), Buffer::new());
+    let (mut batch, mut clerk) = (Buffer::new(), Buffer::new());
     let pieces = [
         "file fault ",
         number.format(fault.number()),
         " at record ",
         record.format(fault.record_number),
         ": ",
-        fault.flaw.text(),
+        fault.flaw.words(),
+        batch_of(fault.flaw, &mut batch),
+        between_of(fault.flaw),
+        clerk_of(fault.flaw, &mut clerk),
         "\n",
     ];
     tell_error(line, &pieces, status_of_file(fault), err)
+}
+
+/// Tells that an office has no journal, and gives the status: 1, or 3 where the error output fails.
+fn tell_no_journal<E: Sink>(line: Option<usize>, err: &mut E) -> u8
+    requires { E.failed err.old < 2 ^ 64 - 1 }
+    ensures { IsErrorTold E.taken E.failed err.old err.new (line_front line ++ unjournalled.err) 1 result }
+{
+    tell_error(line, &[NO_JOURNAL, "\n"], 1, err)
 }
 
 /// Tells a failure, and gives its status, 3.
@@ -222,9 +274,9 @@ fn migrated_text(migrated: Migrated) -> &'static str
 }
 
 /// Tells an outcome, and gives its status. The status is 0 where it is told on the output. On the error output it is 1
-/// for a refusal of a request or a file, and 3 for a fault or a file that couldn't be read. Where one of the two fails
-/// it is 3, and that output has taken a beginning. If the outcome is that of a script's line, what goes to the error
-/// output begins with the number of that line.
+/// for a refusal of a request or a file, and for an office without a journal, and 3 for a fault or a file that couldn't
+/// be read. Where one of the two fails it is 3, and that output has taken a beginning. If the outcome is that of a
+/// script's line, what goes to the error output begins with the number of that line.
 pub(crate) fn tell<O: Sink, E: Sink>(
     line: Option<usize>,
     outcome: &Outcome,
@@ -240,10 +292,13 @@ pub(crate) fn tell<O: Sink, E: Sink>(
         Outcome::Migrated(migrated) => tell_text(&[migrated_text(*migrated), "\n"], out, err),
         Outcome::Replied(reply) => tell_text(&[reply.as_str(), "\n"], out, err),
         Outcome::Printed(text) => tell_text(&[text.as_str()], out, err),
+        Outcome::CountFinished => tell_text(&["count finished", "\n"], out, err),
+        Outcome::LotNeeded(refusal) => tell_text(&[refusal.text(), "\n"], out, err),
         Outcome::Refused(refusal) => tell_refusal(line, refusal, err),
         Outcome::Unread(fault) => tell_file_fault(line, *fault, err),
         Outcome::Failed(fault) => tell_failure_at(line, Failure::Office(*fault), err),
         Outcome::Uncopied(fault) => tell_failure_at(line, failure_of(*fault), err),
+        Outcome::Unjournalled => tell_no_journal(line, err),
     }
 }
 
@@ -270,6 +325,7 @@ pub fn tell_words<O: Sink, E: Sink>(fault: &WordsFault, out: &mut O, err: &mut E
         WordsFault::Memory => tell_failure(Failure::Office(Fault::Memory), err),
         WordsFault::Verdict => tell_error(None, &["bad verdict word\n"], 2, err),
         WordsFault::Origin => tell_error(None, &[BAD_ORIGIN], 2, err),
+        WordsFault::Digest => tell_error(None, &[BAD_DIGEST], 2, err),
         WordsFault::Words { text, status: 0 } => tell_text(&[text.as_str()], out, err),
         WordsFault::Words { text, status } => tell_error(None, &[text.as_str()], *status, err),
     }

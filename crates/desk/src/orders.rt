@@ -4,6 +4,7 @@ ghost use Rattle.std.specs.Prelude.{◌≡◌, option_map};
 ghost use Rattle.desk.specs.Requests.{file_of, file_of_task};
 ghost use Rattle.desk.specs.Scripts.{sends_requests};
 
+use keyfile::FileDigest;
 use office::Text;
 use register::Request;
 use wire::Origin;
@@ -16,6 +17,8 @@ pub struct KeyingFile<'a> {
     pub round: u32,
     pub file: &'a str,
     pub id: &'a str,
+    /// The digest that the file must have, if one is asked for.
+    pub digest: Option<FileDigest>,
 }
 
 /// What the office alone asks of how all stands.
@@ -29,6 +32,8 @@ pub enum Question {
     Doubtful { ward: u32 },
     /// On which papers the keyings of a batch differ.
     Differences { batch: u32 },
+    /// How each paper of a batch counts.
+    Papers { batch: u32 },
     /// What was kept of an actor, or of all.
     Receipts { actor: Option<u32> },
 }
@@ -37,16 +42,39 @@ pub enum Question {
 /// not.
 #[derive(Debug, Drop)]
 pub enum Errand<'a> {
-    /// Send it this request, which is the office's own.
+    /// Send it this request: one of the office's own, or a clerk's keying.
     Send(Request),
-    /// Add the candidates of a file, each under this id, a hyphen, and its record's number.
-    ImportCandidates { file: &'a str, id: &'a str },
+    /// Add the candidates of a file, each under this id, a hyphen, and its record's number. The file must have a
+    /// digest, if one is asked for.
+    ImportCandidates {
+        file: &'a str,
+        id: &'a str,
+        digest: Option<FileDigest>,
+    },
     /// Keep a clerk's keying.
     ImportKeying(KeyingFile<'a>),
+    /// Count the stages of a ward up to a lot or the end, each under this id, a hyphen, and its number in the order.
+    Count {
+        ward: u32,
+        id: &'a str,
+    },
     /// Tell how a ward stands.
-    TellStatus { ward: u32 },
+    TellStatus {
+        ward: u32,
+    },
+    /// Tell what comes next in a ward.
+    TellNext {
+        ward: u32,
+    },
     /// Print a text of a ward.
-    Print { ward: u32, text: Text },
+    Print {
+        ward: u32,
+        text: Text<'a>,
+    },
+    /// Print the page of all wards, under this title.
+    PrintIndex {
+        title: &'a str,
+    },
     /// Tell this of how all stands.
     Ask(Question),
 }
@@ -69,7 +97,10 @@ impl<'a> Errand<'a> {
     {
         matches!(
             self,
-            Errand::Send(_) | Errand::ImportCandidates { .. } | Errand::ImportKeying(_)
+            Errand::Send(_)
+                | Errand::ImportCandidates { .. }
+                | Errand::ImportKeying(_)
+                | Errand::Count { .. }
         )
     }
 }
@@ -79,8 +110,8 @@ impl<'a> Errand<'a> {
 pub enum Job<'a> {
     /// Run this errand.
     Run(Errand<'a>),
-    /// Run the errands of a script in turn.
-    Replay { file: &'a str },
+    /// Run the errands of a script in turn, up to the first that is refused; or past each of these.
+    Replay { file: &'a str, keep_going: bool },
 }
 
 /// What is done over a connection to the office's database, and needs no more than that.
@@ -101,7 +132,7 @@ impl<'a> Task<'a> {
     {
         match self {
             Task::InOffice(Job::Run(errand)) => errand.file(),
-            Task::InOffice(Job::Replay { file }) => Some(file),
+            Task::InOffice(Job::Replay { file, .. }) => Some(file),
             Task::Init | Task::Migrate => None,
         }
     }
@@ -116,6 +147,8 @@ pub enum Order<'a> {
     Copy {
         path: &'a str,
     },
+    /// Print the journal of the office.
+    Journal,
     /// Answer so many connections on a port of this machine, and pages of an origin through a proxy, if one is given.
     Serve {
         port: u32,

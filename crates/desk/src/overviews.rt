@@ -1,30 +1,29 @@
-//! How all stands, told in lines: the wards, the batches of a ward, their doubtful papers, where a batch differs,
-//! and what was kept.
+//! How all stands, told in lines: the wards, the batches of a ward, where a batch differs, and what was kept; and
+//! papers, whose lines stand in [`papers`](crate::papers).
 
-ghost use Rattle.std.specs.Prelude.{◌≡◌, ◌⊎◌, ◌++◌, map, option_map, IfOk, IfErr, string_bytes};
+ghost use Rattle.std.specs.Prelude.{◌≡◌, ◌⊎◌, ◌++◌, map, IfOk, IfErr, string_bytes};
 ghost use Rattle.std.specs.List.{flat_map};
 ghost use Rattle.sqlite.specs.Held.{state};
-ghost use Rattle.register.specs.Offices.{judged_entry, receipt_entry};
+ghost use Rattle.register.specs.Offices.{receipt_entry};
 ghost use Rattle.register.specs.Texts.{behind, listed};
-ghost use Rattle.store.specs.Overviews.{batch_view, clerk_view, differences_view, doubtful_view, ward_view};
+ghost use Rattle.store.specs.Overviews.{batch_view, clerk_view, differences_view, ward_view};
 ghost use Rattle.tables.specs.Reading.{OnlyReads};
 ghost use Rattle.office.specs.Answers.{WhenOpenAt};
 ghost use Rattle.desk.specs.Parts.{IsAskedOf};
-ghost use Rattle.desk.specs.Overviews.{batch_line, differences_line, doubtful_line, receipt_line, ward_line};
-ghost use Rattle.desk.specs.Overviews.{clerk_words, elected_words, keyed_word, open_words, seats_words, size_words, standing_word, twin_words, untaken_words, verdict_words};
+ghost use Rattle.desk.specs.Overviews.{batch_line, differences_line, receipt_line, ward_line};
+ghost use Rattle.desk.specs.Overviews.{clerk_words, elected_words, keyed_word, open_words, seats_words, size_words, standing_word, twin_words, untaken_words};
 ghost use Rattle.desk.specs.Pages.{failed, line, page_of, page_stopped, printed};
 
 use crate::lines::{Failure, Outcome};
 use crate::orders::Question;
+use crate::papers::{doubtful_lines, paper_lines};
 use crate::standing::phase_word;
 use office::{Office, Stop};
 use paper::Columns;
-use register::{JudgedPaper, Receipt};
+use register::Receipt;
 use sqlite::Alter;
 use std::alloc::{AllocError, Global};
-use store::{
-    BatchOverview, ClerkOverview, Differences, DoubtfulPaper, Fault, Standing, WardOverview,
-};
+use store::{BatchOverview, ClerkOverview, Differences, Fault, Standing, WardOverview};
 
 /// What is told in a line.
 trait Lined {
@@ -210,36 +209,6 @@ impl Lined for BatchOverview {
     }
 }
 
-// ---- a doubtful paper
-
-#[tactic(auto, unfolding(crate::specs::Overviews::verdict_words))]
-/// The verdict on it.
-fn verdict_words(alloc: Global, verdict: &Option<JudgedPaper>) -> Result<String, AllocError>
-    ensures { IfOk result (λ text. string_bytes text ≡ verdict_words (option_map judged_entry verdict.now)) }
-{
-    let Some(judged) = verdict else {
-        return String::from_str(alloc, "open");
-    };
-    if judged.code == 0 {
-        let marks = judged.marks.as_str();
-        return format!(in alloc; "accepted {marks}");
-    }
-    let code = judged.code;
-    format!(in alloc; "rejected {code}")
-}
-
-impl Lined for DoubtfulPaper {
-    ghost text = { λ d. doubtful_line (doubtful_view d) };
-
-    #[tactic(auto, unfolding(crate::specs::Overviews::doubtful_line))]
-    /// Which paper it is, and the verdict on it.
-    fn line(&self, alloc: Global) -> Result<String, AllocError> {
-        let (batch, paper) = (self.batch, self.paper);
-        let verdict = verdict_words(alloc, &self.verdict)?;
-        format!(in alloc; "batch {batch} paper {paper} {verdict}")
-    }
-}
-
 // ---- differences, and receipts
 
 #[tactic(auto, unfolding(crate::specs::Overviews::differences_line))]
@@ -326,6 +295,36 @@ fn differences_of<S: Alter>(alloc: Global, office: &mut Office<S>, batch: u32) -
     }
 }
 
+/// The doubtful papers of a ward, in lines; or why they aren't told.
+fn doubtful_of<S: Alter>(alloc: Global, office: &mut Office<S>, ward: u32) -> Outcome
+    ensures found { WhenOpenAt (state S.Store) office.old office.new
+        (λ s. IsAskedOf s (Question.Doubtful ward) (page_of result) office.new.closed (state S.Store office.old.held) (state S.Store office.new.held)) }
+    ensures same { OnlyReads (state S.Store office.old.held) (state S.Store office.new.held) }
+{
+    match office.doubtful(ward) {
+        Ok(found) => match doubtful_lines(alloc, &found) {
+            Ok(text) => Outcome::Printed(text),
+            Err(AllocError) => Outcome::Failed(Fault::Memory),
+        },
+        Err(stop) => stopped(stop),
+    }
+}
+
+/// The papers of a batch as they count, in lines; or why they aren't told.
+fn papers_of<S: Alter>(alloc: Global, office: &mut Office<S>, batch: u32) -> Outcome
+    ensures found { WhenOpenAt (state S.Store) office.old office.new
+        (λ s. IsAskedOf s (Question.Papers batch) (page_of result) office.new.closed (state S.Store office.old.held) (state S.Store office.new.held)) }
+    ensures same { OnlyReads (state S.Store office.old.held) (state S.Store office.new.held) }
+{
+    match office.papers(batch) {
+        Ok(found) => match paper_lines(alloc, &found) {
+            Ok(text) => Outcome::Printed(text),
+            Err(AllocError) => Outcome::Failed(Fault::Memory),
+        },
+        Err(stop) => stopped(stop),
+    }
+}
+
 /// What the office is told of how all stands, or why that isn't told.
 pub(crate) fn answer_to<S: Alter>(
     alloc: Global,
@@ -339,8 +338,9 @@ pub(crate) fn answer_to<S: Alter>(
     match question {
         Question::Wards => outcome_of(alloc, office.wards()),
         Question::Batches { ward } => outcome_of(alloc, office.batches(ward)),
-        Question::Doubtful { ward } => outcome_of(alloc, office.doubtful(ward)),
+        Question::Doubtful { ward } => doubtful_of(alloc, office, ward),
         Question::Differences { batch } => differences_of(alloc, office, batch),
+        Question::Papers { batch } => papers_of(alloc, office, batch),
         Question::Receipts { actor } => outcome_of(alloc, office.receipts(actor)),
     }
 }

@@ -93,7 +93,8 @@ fn migrate_office<S: Alter, O: Sink, E: Sink>(
 ///
 /// All lines of a script are understood before its first order is sent. Where one isn't, the first such line is told,
 /// with status 2, and nothing is sent. A refusal or a fault of one of its orders ends the script, and is told behind
-/// the number of its line. The requests of a script are those of its orders up to that one.
+/// the number of its line. The requests of a script are those of its orders up to that one. A script that is to keep
+/// going isn't ended by a refusal. It tells each of them, and its status is 1 then, if no fault ends it.
 ///
 /// A database that holds no office, or a newer, an older or a damaged one, is told as that fault, and isn't changed.
 /// Where a table has one of our names, `init` makes no office: fault 105 is told, and nothing is changed. `migrate`

@@ -1,6 +1,7 @@
-//! The texts of a ward that people hold in their hands, printed.
+//! The texts of a ward that people hold in their hands, and the page of all wards, printed.
 
 ghost use Rattle.sqlite.specs.Held.{state};
+ghost use Rattle.office.specs.Index.{index_told};
 ghost use Rattle.office.specs.Sheets.{text_told};
 ghost use Rattle.tables.specs.Reading.{OnlyReads};
 ghost use Rattle.office.specs.Answers.{WhenOpenAt};
@@ -14,7 +15,7 @@ use sqlite::Alter;
 /// A text of a ward, or why it isn't told.
 pub(crate) fn text_of<S: Alter>(office: &mut Office<S>, ward: u32, text: Text) -> Outcome
     ensures found { WhenOpenAt (state S.Store) office.old office.new
-        (λ s. IsFound s printed (text_told text s ward) (page_of result) office.new.closed (state S.Store office.old.held) (state S.Store office.new.held)) }
+        (λ s. IsFound s printed (text_told text.entry s ward) (page_of result) office.new.closed (state S.Store office.old.held) (state S.Store office.new.held)) }
     ensures same { OnlyReads (state S.Store office.old.held) (state S.Store office.new.held) }
 {
     let told = match text {
@@ -23,6 +24,19 @@ pub(crate) fn text_of<S: Alter>(office: &mut Office<S>, ward: u32, text: Text) -
         _ => office.text(ward, text),
     };
     match told {
+        Ok(text) => Outcome::Printed(text),
+        Err(Stop::Refused(refusal)) => Outcome::Refused(refusal),
+        Err(Stop::Fault(fault)) => Outcome::Failed(fault),
+    }
+}
+
+/// The page of all wards, or why it isn't told.
+pub(crate) fn index_of<S: Alter>(office: &mut Office<S>, title: &str) -> Outcome
+    ensures found { WhenOpenAt (state S.Store) office.old office.new
+        (λ s. IsFound s printed (index_told title.now s) (page_of result) office.new.closed (state S.Store office.old.held) (state S.Store office.new.held)) }
+    ensures same { OnlyReads (state S.Store office.old.held) (state S.Store office.new.held) }
+{
+    match office.index(title) {
         Ok(text) => Outcome::Printed(text),
         Err(Stop::Refused(refusal)) => Outcome::Refused(refusal),
         Err(Stop::Fault(fault)) => Outcome::Failed(fault),

@@ -1,7 +1,6 @@
 //! The turns of an order: an errand, or the orders of a script, taken in turn.
 
-ghost use Rattle.std.specs.Prelude.{◌≡◌, ◌∷◌, [], ◌-◌, ◌^◌, ◌<◌, true, map, option_map, IfErr, IfOk};
-ghost use Rattle.std.specs.List.{list_all};
+ghost use Rattle.std.specs.Prelude.{◌≡◌, ◌∷◌, [], ◌-◌, ◌^◌, ◌<◌, map, option_map, IfErr, IfOk};
 ghost use Rattle.sqlite.specs.State.{HasCleanDisk};
 ghost use Rattle.sqlite.specs.Held.{state};
 ghost use Rattle.store.specs.Offices.{Wears};
@@ -9,20 +8,23 @@ ghost use Rattle.office.specs.Answers.{WhenOpenAt};
 ghost use Rattle.desk.specs.Cuttings.{IsReplayOf, line_entry, said_entry};
 ghost use Rattle.desk.specs.Folders.{HoldsText, IsFileAt};
 ghost use Rattle.desk.specs.Headline.{IsDone, IsPlayed};
-ghost use Rattle.desk.specs.Pages.{IsQuiet, Tells, outputs_of, page_of};
+ghost use Rattle.desk.specs.Pages.{Tells, outputs_of, page_of};
 ghost use Rattle.desk.specs.Parts.{ComesTo, IsUnreadScript};
 ghost use Rattle.desk.specs.Requests.{file_of};
-ghost use Rattle.desk.specs.Scripts.{lines_of, numbered_from, sends_requests};
+ghost use Rattle.desk.specs.Scripts.{lines_of, numbered_from};
 
+use crate::counting::count_stages;
 use crate::folders::Folder;
 use crate::import::{UNOPENED, candidate_requests, keying_of};
 use crate::lines::{Outcome, tell, tell_script_fault};
 use crate::orders::{Errand, Job};
 use crate::overviews::answer_to;
-use crate::printing::text_of;
+use crate::printing::{index_of, text_of};
+use crate::requests::advances;
 use crate::scripts::{Line, Said, ScriptFault, Turn, all_said, lines_in, turns_in};
-use crate::sending::send_all;
+use crate::sending::{goes_on, send_all, status_behind};
 use crate::standing::standing_of;
+use crate::steps::next_of;
 use office::Office;
 use sqlite::Alter;
 use std::alloc::Global;
@@ -42,10 +44,12 @@ fn opened<F: Folder>(folder: &F, errand: &Errand<'_>) -> Option<F::File>
 }
 
 /// Does an errand in an opened office, tells what comes of it, and gives the status. Where it is that of a script's
-/// line, what `err` is told begins with the number of that line.
+/// line, what `err` is told begins with the number of that line. Where it is to keep going, a refused request doesn't
+/// end it.
 fn run<S: Alter, F: Folder, O: Sink, E: Sink>(
     alloc: Global,
     office: &mut Office<S>,
+    keep_going: bool,
     line: Option<usize>,
     errand: &Errand<'_>,
     folder: &F,
@@ -55,34 +59,46 @@ fn run<S: Alter, F: Folder, O: Sink, E: Sink>(
     requires out { O.failed out.old < 2 ^ 64 - 1 }
     requires err { E.failed err.old < 2 ^ 64 - 1 }
     ensures ran { let outputs = outputs_of O.taken O.failed E.taken E.failed in Tells (outputs out.old err.old) (outputs out.new err.new) result
-        (λ cut page. IsQuiet page × WhenOpenAt (state S.Store) office.old office.new (λ s. ComesTo cut page (λ course.
-        IsPlayed (state S.Store office.old.held) office.new.closed (state S.Store office.new.held) (F.held folder.now) s (record { line = line; errand = errand.now } ∷ []) course))) }
+        (λ cut page. WhenOpenAt (state S.Store) office.old office.new (λ s. ComesTo cut page (λ course.
+        IsPlayed (state S.Store office.old.held) office.new.closed (state S.Store office.new.held) keep_going (F.held folder.now) s (record { line = line; errand = errand.now } ∷ []) course))) }
     ensures wears { Wears (state S.Store office.old.held) (state S.Store office.new.held) }
     ensures clean { HasCleanDisk (state S.Store office.new.held) → HasCleanDisk (state S.Store office.old.held) }
 {
     let file = opened(folder, errand);
     match errand {
-        Errand::Send(request) => send_all(office, line, slice::from_ref(request), out, err),
-        Errand::ImportCandidates { id, .. } => match candidate_requests(alloc, id, file) {
-            Ok(requests) => send_all(office, line, &requests, out, err),
-            Err(outcome) => tell(line, &outcome, out, err),
-        },
+        Errand::Send(request) => {
+            let requests = slice::from_ref(request);
+            send_all(office, keep_going, line, requests, out, err)
+        }
+        Errand::ImportCandidates { id, digest, .. } => {
+            match candidate_requests(alloc, id, file, *digest) {
+                Ok(requests) => send_all(office, keep_going, line, &requests, out, err),
+                Err(outcome) => tell(line, &outcome, out, err),
+            }
+        }
         Errand::ImportKeying(keyed) => match keying_of(alloc, office, *keyed, file) {
-            Ok(request) => send_all(office, line, &[request], out, err),
+            Ok(request) => send_all(office, keep_going, line, &[request], out, err),
             Err(outcome) => tell(line, &outcome, out, err),
         },
+        Errand::Count { ward, id } => match advances(alloc, *ward, id) {
+            Ok(requests) => count_stages(office, line, &requests, out, err),
+            Err(_) => tell(line, &Outcome::Failed(Fault::Memory), out, err),
+        },
+        Errand::TellNext { ward } => tell(line, &next_of(alloc, office, *ward), out, err),
         Errand::TellStatus { ward } => tell(line, &standing_of(alloc, office, *ward), out, err),
         Errand::Print { ward, text } => tell(line, &text_of(office, *ward, *text), out, err),
+        Errand::PrintIndex { title } => tell(line, &index_of(office, title), out, err),
         Errand::Ask(question) => tell(line, &answer_to(alloc, office, *question), out, err),
     }
 }
 
-/// Takes turns one after the other, and tells each reply. The first refusal or fault ends it, and is told behind
-/// the number of its line; so does the first output that fails. A file is opened when its turn comes. The status is
-/// that of the last that was told.
+/// Takes turns one after the other, and tells each reply. A refusal or a fault is told behind the number of its line. The
+/// first fault ends it; so does the first output that fails, and the first refusal, but where it is to keep going. A
+/// file is opened when its turn comes. The status is that of the last that was told with one other than 0.
 fn send_turns<S: Alter, F: Folder, O: Sink, E: Sink>(
     alloc: Global,
     office: &mut Office<S>,
+    keep_going: bool,
     turns: &[Turn<'_>],
     folder: &F,
     out: &mut O,
@@ -90,20 +106,30 @@ fn send_turns<S: Alter, F: Folder, O: Sink, E: Sink>(
 ) -> u8
     requires out { O.failed out.old < 2 ^ 64 - 1 }
     requires err { E.failed err.old < 2 ^ 64 - 1 }
-    requires turns { list_all (λ turn. sends_requests turn.errand) turns.now ≡ true }
     ensures sent { let outputs = outputs_of O.taken O.failed E.taken E.failed in Tells (outputs out.old err.old) (outputs out.new err.new) result
         (λ cut page. WhenOpenAt (state S.Store) office.old office.new (λ s. ComesTo cut page (λ course.
-        IsPlayed (state S.Store office.old.held) office.new.closed (state S.Store office.new.held) (F.held folder.now) s turns.now course))) }
+        IsPlayed (state S.Store office.old.held) office.new.closed (state S.Store office.new.held) keep_going (F.held folder.now) s turns.now course))) }
     ensures wears { Wears (state S.Store office.old.held) (state S.Store office.new.held) }
     ensures clean { HasCleanDisk (state S.Store office.new.held) → HasCleanDisk (state S.Store office.old.held) }
 {
+    let mut ends = 0;
     for turn in turns {
-        let status = run(alloc, office, turn.line, &turn.errand, folder, out, err);
-        if status != 0 {
+        let status = run(
+            alloc,
+            office,
+            keep_going,
+            turn.line,
+            &turn.errand,
+            folder,
+            out,
+            err,
+        );
+        if !goes_on(keep_going, status) {
             return status;
         }
+        ends = status_behind(ends, status);
     }
-    0
+    ends
 }
 
 /// Sends the orders that the lines of a script are, once each line was understood. Where one isn't, it tells what is
@@ -111,6 +137,7 @@ fn send_turns<S: Alter, F: Folder, O: Sink, E: Sink>(
 fn send_lines<S: Alter, F: Folder, O: Sink, E: Sink>(
     alloc: Global,
     office: &mut Office<S>,
+    keep_going: bool,
     lines: &[Said<'_>],
     folder: &F,
     out: &mut O,
@@ -120,12 +147,12 @@ fn send_lines<S: Alter, F: Folder, O: Sink, E: Sink>(
     requires err { E.failed err.old < 2 ^ 64 - 1 }
     ensures sent { let outputs = outputs_of O.taken O.failed E.taken E.failed in Tells (outputs out.old err.old) (outputs out.new err.new) result
         (λ cut page. WhenOpenAt (state S.Store) office.old office.new (λ s. ComesTo cut page (λ course.
-        IsReplayOf (F.held folder.now) s (map said_entry lines.now) course (state S.Store office.old.held) office.new.closed (state S.Store office.new.held)))) }
+        IsReplayOf keep_going (F.held folder.now) s (map said_entry lines.now) course (state S.Store office.old.held) office.new.closed (state S.Store office.new.held)))) }
     ensures wears { Wears (state S.Store office.old.held) (state S.Store office.new.held) }
     ensures clean { HasCleanDisk (state S.Store office.new.held) → HasCleanDisk (state S.Store office.old.held) }
 {
     match turns_in(alloc, lines) {
-        Ok(turns) => send_turns(alloc, office, &turns, folder, out, err),
+        Ok(turns) => send_turns(alloc, office, keep_going, &turns, folder, out, err),
         Err(fault) => tell_script_fault(&fault, err),
     }
 }
@@ -161,11 +188,13 @@ fn script_of<R: Read + Drop>(alloc: Global, file: Option<R>) -> Result<Vec<Line>
     }
 }
 
-/// Sends the orders of a script's file in turn, once all its lines were understood. The status is 2 where one isn't,
-/// which is told with its number, and nothing is sent.
+/// Sends the orders of a script's file in turn, once all its lines were understood; past those that are refused, where
+/// it is to keep going. The status is 2 where a line isn't understood, which is told with its number, and nothing is
+/// sent.
 fn replay<S: Alter, F: Folder, O: Sink, E: Sink>(
     alloc: Global,
     office: &mut Office<S>,
+    keep_going: bool,
     path: &str,
     folder: &F,
     out: &mut O,
@@ -175,7 +204,7 @@ fn replay<S: Alter, F: Folder, O: Sink, E: Sink>(
     requires err { E.failed err.old < 2 ^ 64 - 1 }
     ensures ran { let outputs = outputs_of O.taken O.failed E.taken E.failed in Tells (outputs out.old err.old) (outputs out.new err.new) result
         (λ cut page. WhenOpenAt (state S.Store) office.old office.new (λ s. ComesTo cut page (λ course.
-        IsDone (state S.Store office.old.held) office.new.closed (state S.Store office.new.held) (F.held folder.now) s (Job.Replay path.entry) course))) }
+        IsDone (state S.Store office.old.held) office.new.closed (state S.Store office.new.held) (F.held folder.now) s (Job.Replay path.entry keep_going) course))) }
     ensures wears { Wears (state S.Store office.old.held) (state S.Store office.new.held) }
     ensures clean { HasCleanDisk (state S.Store office.new.held) → HasCleanDisk (state S.Store office.old.held) }
 {
@@ -184,7 +213,7 @@ fn replay<S: Alter, F: Folder, O: Sink, E: Sink>(
         Err(outcome) => return tell(None, &outcome, out, err),
     };
     match all_said(alloc, &lines) {
-        Ok(said) => send_lines(alloc, office, &said, folder, out, err),
+        Ok(said) => send_lines(alloc, office, keep_going, &said, folder, out, err),
         Err(_) => tell_script_fault(&ScriptFault::Memory, err),
     }
 }
@@ -207,7 +236,9 @@ pub(crate) fn follow<S: Alter, F: Folder, O: Sink, E: Sink>(
     ensures clean { HasCleanDisk (state S.Store office.new.held) → HasCleanDisk (state S.Store office.old.held) }
 {
     match job {
-        Job::Run(errand) => run(alloc, office, None, errand, folder, out, err),
-        Job::Replay { file } => replay(alloc, office, file, folder, out, err),
+        Job::Run(errand) => run(alloc, office, false, None, errand, folder, out, err),
+        Job::Replay { file, keep_going } => {
+            replay(alloc, office, *keep_going, file, folder, out, err)
+        }
     }
 }

@@ -2,12 +2,12 @@
 
 ghost use Rattle.std.specs.Prelude.{◌≡◌, map, IfOk, string_bytes};
 ghost use Rattle.keyfile.specs.Candidates.{candidate_entry};
-ghost use Rattle.desk.specs.Orders.{asked_by, by_office, sent_as};
-ghost use Rattle.desk.specs.Requests.{id_at, keying_by, request_at, requests_from};
+ghost use Rattle.desk.specs.Orders.{asked_by, by_clerk, by_office, sent_as};
+ghost use Rattle.desk.specs.Requests.{advance_at, advances, id_at, keying_by, most_advances, request_at, requests_from};
 
 use crate::orders::KeyingFile;
 use keyfile::CandidateRow;
-use register::{CandidateCommand, Command, KeyingCommand, Request};
+use register::{CandidateCommand, Command, CountCommand, KeyingCommand, Request};
 use std::alloc::{AllocError, Global};
 
 /// Who sends these requests: the office itself.
@@ -24,6 +24,17 @@ pub(crate) fn by_office(id: String, command: Command) -> Request
     }
 }
 
+/// A request of a clerk himself.
+pub(crate) fn by_clerk(clerk: u32, id: String, command: Command) -> Request
+    ensures { sent_as result ≡ by_clerk clerk (string_bytes id) (asked_by command) }
+{
+    Request {
+        actor: clerk,
+        id,
+        command,
+    }
+}
+
 /// The request that keeps a clerk's keying of these papers, sent by the clerk.
 pub(crate) fn keying_request(
     alloc: Global,
@@ -32,15 +43,13 @@ pub(crate) fn keying_request(
 ) -> Result<Request, AllocError>
     ensures { IfOk result (λ request. sent_as request ≡ keying_by keying.entry (map string_bytes papers.items)) }
 {
-    Ok(Request {
-        actor: keying.clerk,
-        id: String::from_str(alloc, keying.id)?,
-        command: Command::Keying(KeyingCommand {
-            batch: keying.batch,
-            round: keying.round,
-            papers,
-        }),
-    })
+    let id = String::from_str(alloc, keying.id)?;
+    let command = KeyingCommand {
+        batch: keying.batch,
+        round: keying.round,
+        papers,
+    };
+    Ok(by_clerk(keying.clerk, id, Command::Keying(command)))
 }
 
 #[tactic(auto, unfolding(crate::specs::Requests::id_at))]
@@ -80,6 +89,28 @@ pub(crate) fn requests_for(
     let mut requests = Vec::new(alloc);
     for (i, row) in rows.iter().enumerate() {
         requests.push(request_at(alloc, id, i + 1, row)?)?;
+    }
+    Ok(requests)
+}
+
+/// The request that counts a stage of a ward, the one of some number in its order.
+fn advance_at(alloc: Global, ward: u32, id: &str, number: usize) -> Result<Request, AllocError>
+    ensures { IfOk result (λ request. sent_as request ≡ advance_at ward id.now number) }
+{
+    let id = id_at(alloc, id, number)?;
+    Ok(by_office(id, Command::Count(CountCommand::Advance { ward })))
+}
+
+/// The most requests of an order that counts: one more than a count can have stages.
+const MOST_ADVANCES: usize = 32;
+
+/// The requests that count the stages of a ward, from the first on, as many as an order may send.
+pub(crate) fn advances(alloc: Global, ward: u32, id: &str) -> Result<Vec<Request>, AllocError>
+    ensures { IfOk result (λ requests. map sent_as requests.items ≡ advances ward id.now most_advances) }
+{
+    let mut requests = Vec::new(alloc);
+    for before in 0..MOST_ADVANCES {
+        requests.push(advance_at(alloc, ward, id, before + 1)?)?;
     }
     Ok(requests)
 }

@@ -6,7 +6,7 @@ ghost use Rattle.desk.specs.Scripts.{AreTurns, IsFlawOfWords, IsTurn, Means, lin
 
 use crate::cutting;
 use crate::orders::{Errand, Job, Order, Task};
-use crate::words::{BAD_ORIGIN, WordsFault, order};
+use crate::words::{BAD_DIGEST, BAD_ORIGIN, WordsFault, order};
 use std::alloc::{AllocError, Global};
 use std::str;
 
@@ -28,6 +28,8 @@ pub(crate) enum LineFlaw {
     Verdict,
     /// The word behind `--origin` is none.
     Origin,
+    /// The word behind `--sha256` is none.
+    Digest,
     /// The words are no order; this is told of them.
     Words(String),
     /// The order stands in no script.
@@ -44,6 +46,7 @@ impl LineFlaw {
             LineFlaw::NoWords(Garbled::NotUtf8) => "error: a word is not UTF-8\n",
             LineFlaw::Verdict => "bad verdict word\n",
             LineFlaw::Origin => BAD_ORIGIN,
+            LineFlaw::Digest => BAD_DIGEST,
             LineFlaw::Words(text) => text.as_str(),
             LineFlaw::Elsewhere => "error: this order stands in no script\n",
         }
@@ -154,7 +157,7 @@ fn errand_of(order: Order<'_>) -> Option<Errand<'_>>
         Order::Perform(Task::InOffice(Job::Run(errand))) => Some(errand),
         Order::Perform(Task::InOffice(Job::Replay { .. })) => None,
         Order::Perform(Task::Init | Task::Migrate) => None,
-        Order::Copy { .. } | Order::Serve { .. } => None,
+        Order::Copy { .. } | Order::Journal | Order::Serve { .. } => None,
     }
 }
 
@@ -172,6 +175,7 @@ fn errand_in<'a>(alloc: Global, words: &'a [&'a str]) -> Result<Errand<'a>, Opti
         Err(WordsFault::Memory) => Err(None),
         Err(WordsFault::Verdict) => Err(Some(LineFlaw::Verdict)),
         Err(WordsFault::Origin) => Err(Some(LineFlaw::Origin)),
+        Err(WordsFault::Digest) => Err(Some(LineFlaw::Digest)),
         Err(WordsFault::Words { status: 0, .. }) => Err(Some(LineFlaw::Elsewhere)),
         Err(WordsFault::Words { text, .. }) => Err(Some(LineFlaw::Words(text))),
     }

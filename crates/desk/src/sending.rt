@@ -6,7 +6,7 @@ ghost use Rattle.sqlite.specs.Held.{state};
 ghost use Rattle.store.specs.Offices.{Wears};
 ghost use Rattle.office.specs.Answers.{WhenOpenAt};
 ghost use Rattle.desk.specs.Headline.{IsAnswered, IsSent};
-ghost use Rattle.desk.specs.Pages.{IsQuiet, Tells, outputs_of, page_of};
+ghost use Rattle.desk.specs.Pages.{Tells, goes_on, outputs_of, page_for, page_of, status_behind};
 ghost use Rattle.desk.specs.Parts.{ComesTo, IsOver};
 
 use crate::lines::{Outcome, tell};
@@ -15,10 +15,25 @@ use register::Request;
 use sqlite::Alter;
 use votes::Sink;
 
+/// Whether an order goes on after a page of this status: after one of status 0, and after a refusal where it is to keep
+/// going.
+pub(crate) fn goes_on(keep_going: bool, status: u8) -> bool
+    ensures { result ≡ goes_on keep_going status }
+{
+    status == 0 || (keep_going && status == 1)
+}
+
+/// The status behind another one: that of the last page that has one other than 0.
+pub(crate) fn status_behind(before: u8, status: u8) -> u8
+    ensures { result ≡ status_behind before status }
+{
+    if status == 0 { before } else { status }
+}
+
 /// What comes of one request to an office.
 fn outcome_of<S: Alter>(office: &mut Office<S>, request: &Request) -> Outcome
     ensures told { WhenOpenAt (state S.Store) office.old office.new
-        (λ s. (answered : ℕ) × IsAnswered (state S.Store office.old.held) office.new.closed (state S.Store office.new.held) s request.now answered (page_of result)) }
+        (λ s. (answered : ℕ) × IsAnswered (state S.Store office.old.held) office.new.closed (state S.Store office.new.held) page_for s request.now answered (page_of result)) }
     ensures wears { Wears (state S.Store office.old.held) (state S.Store office.new.held) }
     ensures clean { HasCleanDisk (state S.Store office.new.held) → HasCleanDisk (state S.Store office.old.held) }
 {
@@ -30,11 +45,13 @@ fn outcome_of<S: Alter>(office: &mut Office<S>, request: &Request) -> Outcome
     }
 }
 
-/// Sends requests to an office in turn, and tells each reply. The first refusal or fault ends it, and is told too; so
-/// does the first output that fails. If the requests are those of a script's line, the refusal or fault is told behind
-/// the number of that line. The status is that of the last that was told.
+/// Sends requests to an office in turn, and tells each reply. The first fault ends it, and is told too. So does the first
+/// output that fails; and the first refusal, but where the order is to keep going. If the requests are those of a
+/// script's line, a refusal or fault is told behind the number of that line. The status is that of the last that was
+/// told with one other than 0.
 pub(crate) fn send_all<S: Alter, O: Sink, E: Sink>(
     office: &mut Office<S>,
+    keep_going: bool,
     line: Option<usize>,
     requests: &[Request],
     out: &mut O,
@@ -43,16 +60,18 @@ pub(crate) fn send_all<S: Alter, O: Sink, E: Sink>(
     requires out { O.failed out.old < 2 ^ 64 - 1 }
     requires err { E.failed err.old < 2 ^ 64 - 1 }
     ensures sent { let outputs = outputs_of O.taken O.failed E.taken E.failed in Tells (outputs out.old err.old) (outputs out.new err.new) result
-        (λ cut page. IsQuiet page × WhenOpenAt (state S.Store) office.old office.new (λ s. ComesTo cut page (λ course.
-        IsSent (state S.Store office.old.held) office.new.closed (state S.Store office.new.held) line (IsOver office.new.closed (state S.Store office.new.held)) s requests.now course))) }
+        (λ cut page. WhenOpenAt (state S.Store) office.old office.new (λ s. ComesTo cut page (λ course.
+        IsSent (state S.Store office.old.held) office.new.closed (state S.Store office.new.held) keep_going line page_for (IsOver office.new.closed (state S.Store office.new.held)) s requests.now course))) }
     ensures wears { Wears (state S.Store office.old.held) (state S.Store office.new.held) }
     ensures clean { HasCleanDisk (state S.Store office.new.held) → HasCleanDisk (state S.Store office.old.held) }
 {
+    let mut ends = 0;
     for request in requests {
         let status = tell(line, &outcome_of(office, request), out, err);
-        if status != 0 {
+        if !goes_on(keep_going, status) {
             return status;
         }
+        ends = status_behind(ends, status);
     }
-    0
+    ends
 }

@@ -19,6 +19,14 @@ pub(crate) enum Kind {
     Id,
     /// An origin as a browser writes it, after `--origin`; it may be left out.
     Origin,
+    /// Any text, after `--title`; left out, it is empty.
+    Title,
+    /// A digest in 64 hexadecimal digits, after `--sha256`; it may be left out.
+    Digest,
+    /// Any texts, one or more words behind the others; or none.
+    Texts,
+    /// A flag: `--` and its name, which may be left out.
+    Flag,
 }
 
 /// A word that an order takes, and its line of help.
@@ -88,6 +96,9 @@ pub(crate) const ACTOR: Word =
 pub(crate) const ROUND: Word =
     word!(Number "ROUND", "The round that the batch is in, 1 to 99; it begins with 1");
 
+pub(crate) const MARKS: Word =
+    word!(Texts "MARKS", "The marks of its papers in turn, a word a paper: a field for each candidate,\nparted by commas, or D where the paper is doubtful");
+
 pub(crate) const PAPER: Word = word!(Number "PAPER", "The paper's number in the batch, 1 to 500");
 
 pub(crate) const VERDICT: Word =
@@ -105,6 +116,9 @@ pub(crate) const NEW: Word =
 pub(crate) const SCRIPT: Word =
     word!(Text "FILE", "The path of a script; docs/FORMATS.md tells its form");
 
+pub(crate) const KEEP_GOING: Word =
+    word!(Flag "keep-going", "Goes past refusals, each told with its line, and ends with status 1 then");
+
 pub(crate) const ID: Word =
     word!(Id "id", "An id that you choose for this order, 1 to 40 of a-z, 0-9 and -;\nsent again under the same id, it does nothing twice");
 
@@ -121,3 +135,9 @@ pub(crate) const CONNECTIONS: Word =
 
 pub(crate) const ORIGIN: Word =
     word!(Origin "origin", "The origin of pages that ask through a proxy, as https://count.example.org;\nleft out, no page of another machine is answered");
+
+pub(crate) const TITLE: Word =
+    word!(Title "title", "What stands above, as the names of the election and of the council;\nin quotes where it has spaces");
+
+pub(crate) const DIGEST: Word =
+    word!(Digest "sha256", "The SHA-256 of FILE, 64 hexadecimal digits, as sha256sum prints it;\nwhere FILE has another, nothing of it is sent");

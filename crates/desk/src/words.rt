@@ -3,7 +3,7 @@
 ghost use Rattle.std.specs.Prelude.{◌≡◌, ◌≢◌, ◌⊎◌, ◌∷◌, true, false, [], Some, map, string_bytes, IfOk, IfErr};
 ghost use Rattle.clap.specs.Words.{app_of, rule_of, subcommand_of, takes, with_rule, with_subcommand};
 ghost use Rattle.clap.specs.declared.builder.command.Command.TheViews.{out-Command as fields_of};
-ghost use Rattle.desk.specs.Orders.{no_origin, no_verdict, told, words_of};
+ghost use Rattle.desk.specs.Orders.{no_digest, no_origin, no_verdict, told, words_of};
 ghost use Rattle.desk.specs.Versions.{version_text};
 ghost use Rattle.desk.specs.Words.{IsOwnText, IsToldOf, TellsOwnText, TellsRefusal, meaning, status_of_kind, wrong_with};
 ghost use Rattle.desk.specs.Words.{office_words, order_words, rule_of_kind, start_words, with_orders};
@@ -13,7 +13,7 @@ use crate::orders::Order;
 use crate::table::{Entry, Heading, Kind, MAX_CONNECTIONS, MAX_PORT, Word};
 use crate::version::{VERSION, version_text};
 use clap::error::ErrorKind;
-use clap::{Arg, Command, Error, value_parser};
+use clap::{Arg, ArgAction, Command, Error, value_parser};
 use std::alloc::{AllocError, Global};
 use std::fmt::Display;
 
@@ -28,13 +28,15 @@ changes nothing.";
 
 /// The end of the help: the orders of [`Heading::Office`] and of [`Heading::Everyone`], and what comes of orders.
 const END_OF_HELP: &str =
-    "For the office alone. The first five change nothing, and no clerk is to see what they tell:
+    "For the office alone. The first seven change nothing, and no clerk is to see what they tell:
   wards              How each ward stands, and what is left to do
   batches WARD       Who has keyed each batch of a ward, how it stands, and which other
                      batch has the very same papers
   doubtful WARD      Which papers of a ward are doubtful, each open or with its verdict
   differences BATCH  On which papers a batch differs
+  papers BATCH       How each paper of a taken batch counts, with the candidates' names
   receipts [ACTOR]   What was kept, under which id: of an actor, 0 for the office, or of all
+  journal            What was kept, as a script of orders that makes the same office anew
   replay FILE        Sends the orders of a text file, a line each, up to a refusal
   copy NEW           Makes a copy of the office, in a file that isn't there yet
 
@@ -42,6 +44,8 @@ For everyone who wants to see or check a count, once the ward is sealed:
   ballots WARD       Its ballots, in a form that counting programs read (BLT)
   page WARD          Its result as a page for a browser, to print and sign (HTML)
   table WARD         Its stages as a table for a spreadsheet (CSV)
+  index              How all wards stand, sealed or not, and who is elected, as a page
+                     to hang at the door (HTML)
 
 An example stands under each order. Its words, with their ranges, are shown by
   count-office DB ORDER --help
@@ -59,6 +63,10 @@ const NOT_UNDERSTOOD: &str = "error: the words are not understood\n";
 pub(crate) const BAD_ORIGIN: &str =
     "error: an origin is http:// or https://, a host in small letters, and its port where it isn't the usual one, as https://count.example.org\n";
 
+/// What is told of a word behind `--sha256` that is none.
+pub(crate) const BAD_DIGEST: &str =
+    "error: a digest is 64 hexadecimal digits, as sha256sum prints them\n";
+
 /// Why the words are no order.
 #[derive(Drop)]
 pub enum WordsFault {
@@ -68,6 +76,8 @@ pub enum WordsFault {
     Verdict,
     /// The word behind `--origin` is none.
     Origin,
+    /// The word behind `--sha256` is none.
+    Digest,
     /// The text to print, and the status to end with: 0 where help was asked for, and 2 where the
     /// words are not understood.
     Words { text: String, status: u8 },
@@ -93,6 +103,10 @@ fn arg_of<'a>(alloc: Global, word: Word) -> Arg<'a>
         Kind::Text | Kind::Verdict => arg.required(true),
         Kind::Id => arg.long(word.name).value_name("ID").required(true),
         Kind::Origin => arg.long(word.name).value_name("ORIGIN"),
+        Kind::Title => arg.long(word.name).value_name("TEXT"),
+        Kind::Digest => arg.long(word.name).value_name("HEX"),
+        Kind::Texts => arg.action(ArgAction::Append),
+        Kind::Flag => arg.long(word.name).action(ArgAction::SetTrue),
     }
 }
 
@@ -245,7 +259,7 @@ fn denied(alloc: Global, kind: ErrorKind, error: &Error) -> WordsFault
 ///
 /// The order and its values are those that `clap` matches in the words, read by the table of orders.
 /// Words that `clap` takes are refused for want of memory, where the word of a verdict says none, and where the word of
-/// an origin is none, and for nothing else.
+/// an origin or of a digest is none, and for nothing else.
 /// Words that it doesn't take are no order. A text that isn't empty is told of them, with status 0 where what is first
 /// wrong with them is that they ask for help or the version, and else with 2; or want of memory is told.
 pub fn order<'a>(alloc: Global, words: &'a [&'a str]) -> Result<Order<'a>, WordsFault>
@@ -255,7 +269,8 @@ pub fn order<'a>(alloc: Global, words: &'a [&'a str]) -> Result<Order<'a>, Words
     ensures ok { IfOk result (λ o. meaning (subcommand_of office_words (map (λ s. s.now) words.entry.now)) ≡ Some (told o)) }
     ensures err { takes office_words (map (λ s. s.now) words.entry.now) ≡ true → IfErr result (λ e. (e ≡ WordsFault.Memory)
         ⊎ (((e ≡ WordsFault.Verdict) × (meaning (subcommand_of office_words (map (λ s. s.now) words.entry.now)) ≡ Some no_verdict))
-        ⊎ ((e ≡ WordsFault.Origin) × (meaning (subcommand_of office_words (map (λ s. s.now) words.entry.now)) ≡ Some no_origin)))) }
+        ⊎ (((e ≡ WordsFault.Origin) × (meaning (subcommand_of office_words (map (λ s. s.now) words.entry.now)) ≡ Some no_origin))
+        ⊎ ((e ≡ WordsFault.Digest) × (meaning (subcommand_of office_words (map (λ s. s.now) words.entry.now)) ≡ Some no_digest))))) }
 {
     let command = match office_command(alloc) {
         Ok(command) => command,
@@ -270,6 +285,7 @@ pub fn order<'a>(alloc: Global, words: &'a [&'a str]) -> Result<Order<'a>, Words
         Err(NoOrder::Memory) => Err(WordsFault::Memory),
         Err(NoOrder::BadVerdict) => Err(WordsFault::Verdict),
         Err(NoOrder::BadOrigin) => Err(WordsFault::Origin),
+        Err(NoOrder::BadDigest) => Err(WordsFault::Digest),
         Err(NoOrder::Unknown) => Err(WordsFault::Words {
             text: String::new(alloc),
             status: 2,

@@ -1,8 +1,8 @@
 -- The first faulty record of a file decides.
-use Rattle.std.proofs.Common.{◌≡◌, ◌≢◌, ◌∙◌, ◌≤◌, ◌<◌, ◌+◌, ◌∷◌, ◌++◌, ℕ, suc, Bool, true, false, cond, List, [], length, Some, Result, Ok, Err, refl, sym, ap, arith}
+use Rattle.std.proofs.Common.{◌≡◌, ◌≢◌, ◌∙◌, ◌≤◌, ◌<◌, ◌+◌, ◌∷◌, ◌++◌, ℕ, suc, List, [], length, Option, Some, None, Result, Ok, Err, refl, sym, ap, arith}
 use Rattle.std.specs.Prelude.{IfErr, IfSome}
 use Rattle.std.proofs.lemmas.Bool.{eq-eqb, ne_eqb, le-ltb, lt-ltb}
-use Rattle.keyfile.specs.Files.{Format, and_rows, fault_at, file_rows, is_text_header, read_as_text, read_record, rows_from}
+use Rattle.keyfile.specs.Files.{Format, and_rows, behind_header, fault_at, file_rows, read_as_text, read_record, rows_from, text_header_flaw}
 use Rattle.keyfile.specs.Inside.{wanted}
 use Rattle.keyfile.specs.Records.{Record}
 use Rattle.keyfile.specs.declared.fault.FileFault.{FileFault}
@@ -65,14 +65,14 @@ module _ {Row : Type 0} (format : Format Row) where
   pub file_rows-append : (records others : List Record) (rows : List Row) → file_rows format records ≡ Ok rows
       → file_rows format (records ++ others) ≡ before rows (rows_behind records others)
   file_rows-append [] others rows is = cc
-  file_rows-append (header ∷ records) others rows is = by_header (is_text_header format header) is
+  file_rows-append (header ∷ records) others rows is = by_header (text_header_flaw format header) is
     where
-      by_header : (b : Bool) → cond b (rows_from (read_record format header) 1 records) (Err (fault_at 0 Header)) ≡ Ok rows
-          → cond b (rows_from (read_record format header) 1 (records ++ others)) (Err (fault_at 0 Header)) ≡ before rows (rows_from (read_record format header) (suc (length records)) others)
-      by_header true is =
+      by_header : (o : Option Flaw) → behind_header o (rows_from (read_record format header) 1 records) ≡ Ok rows
+          → behind_header o (rows_from (read_record format header) 1 (records ++ others)) ≡ before rows (rows_from (read_record format header) (suc (length records)) others)
+      by_header None is =
           let same : 1 + length records ≡ suc (length records) = omega arith in
           rows_from-append (read_record format header) 1 records others rows is ∙ ap (λ (k : ℕ). before rows (rows_from (read_record format header) k others)) same
-      by_header false is = cc
+      by_header (Some flaw) is = cc
 
   pub some_record : (records : List Record) (rows : List Row) → file_rows format records ≡ Ok rows → 1 ≤ length records
   some_record [] rows is = cc

@@ -3,6 +3,7 @@ pub mod KeyedLemmas
 pub mod MarkLemmas
 pub mod FieldLemmas
 pub mod MapLemmas
+pub mod HeaderLemmas
 pub mod RecordLemmas
 pub mod ReadLemmas
 pub mod FileLemmas

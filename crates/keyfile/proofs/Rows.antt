@@ -9,11 +9,11 @@ use Rattle.keyfile.specs.Files.{fault_at, file_rows}
 use Rattle.keyfile.specs.Keying.{keying}
 use Rattle.keyfile.specs.Records.{file_records}
 use Rattle.keyfile.specs.declared.fault.FileFault.{FileFault}
-use Rattle.keyfile.specs.declared.fault.Flaw.TheVariants.{Header, RecordLength, Number, PaperOrder, Marks, NotUtf8}
+use Rattle.keyfile.specs.declared.fault.Flaw.TheVariants.{Header, RecordLength, Number, PaperOrder, Marks, NotUtf8, OtherKeying}
 
--- a keying of papers with the columns 1, 2, 3
+-- clerk 4's keying of batch 12, whose papers have the columns 1, 2, 3
 abbrev keying_of : List ℕ → Result (List (List ℕ)) FileFault
-keying_of bytes = file_rows (keying (1 ∷ 2 ∷ 3 ∷ [])) (file_records bytes)
+keying_of bytes = file_rows (keying (1 ∷ 2 ∷ 3 ∷ []) 12 4) (file_records bytes)
 
 -- the same of the records behind its header
 abbrev papers_of : List ℕ → Result (List (List ℕ)) FileFault
@@ -45,6 +45,30 @@ columns_not_ascending = refl
 byte_order_mark : keying_of (239 ∷ 187 ∷ 191 ∷ codes "paper,1,2,3") ≡ Ok []
 unfolding chars encode is_utf8 next_record records_from strip_bom
 byte_order_mark = refl
+
+own_batch_and_clerk : keying_of (codes "paper 12/4,1,2,3" ++ 10 ∷ codes "1,1,2,") ≡ Ok (codes "1,2," ∷ [])
+unfolding chars encode is_utf8 next_record records_from strip_bom
+own_batch_and_clerk = refl
+
+another_batch : keying_of (codes "paper 13/4,1,2,3") ≡ Err (fault_at 0 (OtherKeying 13 4))
+unfolding chars encode is_utf8 next_record records_from strip_bom
+another_batch = refl
+
+another_clerk : keying_of (codes "paper 12/9,1,2,3") ≡ Err (fault_at 0 (OtherKeying 12 9))
+unfolding chars encode is_utf8 next_record records_from strip_bom
+another_clerk = refl
+
+other_columns_first : keying_of (codes "paper 13/9,1,2") ≡ Err (fault_at 0 Header)
+unfolding chars encode is_utf8 next_record records_from strip_bom
+other_columns_first = refl
+
+no_such_batch : keying_of (codes "paper 10000/4,1,2,3") ≡ Err (fault_at 0 Header)
+unfolding chars encode is_utf8 next_record records_from strip_bom
+no_such_batch = refl
+
+clerk_left_out : keying_of (codes "paper 12,1,2,3") ≡ Err (fault_at 0 Header)
+unfolding chars encode is_utf8 next_record records_from strip_bom
+clerk_left_out = refl
 
 short_record : papers_of (codes "1,1,2") ≡ Err (fault_at 1 RecordLength)
 unfolding chars encode is_utf8 next_record records_from strip_bom

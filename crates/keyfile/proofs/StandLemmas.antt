@@ -1,18 +1,22 @@
 -- What is told of a file where its reader stands behind some of its records.
 use Rattle.std.proofs.Common.{◌≡◌, ◌∙◌, ◌≤◌, ◌+◌, ◌∷◌, ◌++◌, ℕ, true, false, List, [], length, Option, Some, None, Result, Ok, Err, refl, sym, ap, subst, arith, length-append, append_assoc}
-use Rattle.std.specs.Prelude.{IfErr, ⊤}
+use Rattle.std.specs.Prelude.{IfErr}
 use Rattle.std.specs.Result.{IsErrAnd}
 use Rattle.csv.specs.declared.reader.Reader.{Reader}
 use Rattle.keyfile.specs.Faults.{is_stop}
-use Rattle.keyfile.specs.Files.{Format, IsFaultOf, fault_at, file_rows, is_text_header, read_as_text}
+use Rattle.keyfile.specs.Files.{Format, IsFaultOf, fault_at, file_rows, read_as_text, text_header_flaw}
 use Rattle.keyfile.specs.Inside.{Begins, EndsBefore, IsNext, IsUneven, StandsAt}
 use Rattle.keyfile.specs.Reading.{Known}
 use Rattle.keyfile.specs.Records.{Record, file_records}
 use Rattle.keyfile.specs.declared.fault.FileFault.{FileFault}
 use Rattle.keyfile.specs.declared.fault.Flaw.{Flaw}
-use Rattle.keyfile.specs.declared.fault.Flaw.TheVariants.{Header, RecordLength, Number, PaperOrder, Marks, NotUtf8, TooManyRecords, ReadFailed, Memory}
+use Rattle.keyfile.specs.declared.fault.Flaw.TheVariants.{Header, RecordLength, Number, PaperOrder, Marks, NotUtf8, TooManyRecords, ReadFailed, Memory, OtherKeying, OtherFile}
 use Rattle.keyfile.proofs.FileLemmas.{file_rows-late, file_rows-more, file_rows-told, read_behind, read_behind-even, read_behind-many, read_behind-uneven, some_record}
 use Rattle.keyfile.proofs.ReadLemmas.{after-begins}
+
+-- a fault at the header, by its flaw
+at_header : (fault : FileFault) → fault.record_number ≡ 0 → fault ≡ fault_at 0 fault.flaw
+at_header fault at = rw (← at) refl
 
 -- what is told of a file whose bytes are known
 abbrev pub Told : {Row : Type 0} → Format Row → Option (List ℕ) → FileFault → Type 0
@@ -73,6 +77,8 @@ module _ {Row : Type 0} (format : Format Row) where
         by_flaw Marks is ends = absurd ends
         by_flaw NotUtf8 is ends = absurd ends
         by_flaw TooManyRecords is ends = absurd ends
+        by_flaw (OtherKeying batch clerk) is ends = absurd ends
+        by_flaw OtherFile is ends = absurd ends
 
     module _ (b : Reader R) (fields : Record) (next : IsNext rem bytes st.records fields b) where
       -- a record more that is read as a row
@@ -123,16 +129,13 @@ module _ {Row : Type 0} (format : Format Row) where
           before = λ _. rw at (late (file_rows format (file_records xs)));
         }
 
-    same : (fault : FileFault) → fault.record_number ≡ 0 → fault.flaw ≡ Header → fault ≡ fault_at 0 Header
-    same fault at is = rw (← at, ← is) refl
-
     module _ (b : Reader R) (fields : Record) (next : IsNext rem bytes [] fields b) where
       -- the first record isn't the header
-      pub header-other : (fault : FileFault) → fault.record_number ≡ 0 → fault.flaw ≡ Header → is_text_header format fields ≡ false → Told format bytes fault
-      header-other fault at is other =
+      pub header-other : (fault : FileFault) → fault.record_number ≡ 0 → text_header_flaw format fields ≡ Some fault.flaw → Told format bytes fault
+      header-other fault at other =
           known-map bytes
           (λ xs (starts : Begins xs (fields ∷ [])).
-          rw starts.1 (own_fault (fields ∷ starts.0) fault (rw other (ap Err (sym (same fault at is)))) (omega (arith, at))))
+          rw starts.1 (own_fault (fields ∷ starts.0) fault (rw other (ap Err (sym (at_header fault at)))) (omega (arith, at))))
           (after-begins rem b bytes (fields ∷ []) next.after)
 
 -- ---- results
@@ -146,12 +149,3 @@ module _ {Row : Type 0} (format : Format Row) (bytes : Option (List ℕ)) {T : T
   -- the one fault of a result
   pub told-only : (r : Result T FileFault) (fault : FileFault) → r ≡ Err fault → Told format bytes fault → IfErr r (Told format bytes)
   told-only r fault is told = rw is told
-
-  -- what is told of a result, where the bytes are known
-  pub fault-known : (r : Result T FileFault) → IfErr r (Told format bytes) → Known bytes (λ xs. IfErr r (IsFaultOf format (file_records xs)))
-  fault-known (Ok x) h = by_bytes bytes
-    where
-      by_bytes : (bytes : Option (List ℕ)) → Known bytes (λ xs. ⊤)
-      by_bytes None = tt
-      by_bytes (Some xs) = tt
-  fault-known (Err fault) h = h

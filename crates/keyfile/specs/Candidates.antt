@@ -1,12 +1,12 @@
 -- The file of candidates.
-use Rattle.std.specs.Prelude.{ℕ, Bool, false, ◌&&◌, List, [], ◌∷◌, Option, Some, None, Result, Ok, Err, codes, bytes_eq, string_bytes}
+use Rattle.std.specs.Prelude.{ℕ, Bool, false, ◌&&◌, if◌then◌else◌, List, [], ◌∷◌, Option, Some, None, Result, Ok, Err, codes, bytes_eq, string_bytes}
 use Rattle.keyfile.specs.Records.{Record}
 use Rattle.paper.specs.Digits.{plain_number_in}
 use Rattle.keyfile.specs.Files.{Format}
 use Rattle.keyfile.specs.declared.candidates.CandidateRow.{CandidateRow}
 use Rattle.keyfile.specs.declared.candidates.TheConstants.{MOST_CANDIDATE_ROWS}
 use Rattle.keyfile.specs.declared.fault.Flaw.{Flaw}
-use Rattle.keyfile.specs.declared.fault.Flaw.TheVariants.{RecordLength, Number}
+use Rattle.keyfile.specs.declared.fault.Flaw.TheVariants.{Header, RecordLength, Number}
 
 -- a candidate to be added: the ward's number, his number, his name
 abbrev pub CandidateEntry : Type 0
@@ -21,6 +21,10 @@ abbrev pub is_candidate_header : Record → Bool
 is_candidate_header (ward ∷ candidate ∷ name ∷ []) = bytes_eq ward (codes "ward") && (bytes_eq candidate (codes "candidate") && bytes_eq name (codes "name"))
 is_candidate_header other = false
 
+-- what is wrong with a first record that is another
+abbrev pub candidate_header_flaw : Record → Option Flaw
+candidate_header_flaw fields = if is_candidate_header fields then None else Some Header
+
 -- a candidate of a name, where both numbers were read
 abbrev pub numbered : Option ℕ → Option ℕ → List ℕ → Result CandidateEntry Flaw
 numbered (Some ward) (Some candidate) name = Ok (ward, candidate, name)
@@ -34,4 +38,4 @@ candidate_in other = Err RecordLength
 
 -- the file of candidates: 30 of each of 99 wards at most
 abbrev pub candidates : Format CandidateEntry
-candidates = record { is_header = is_candidate_header; most = MOST_CANDIDATE_ROWS; read = λ k fields. candidate_in fields }
+candidates = record { header_flaw = candidate_header_flaw; most = MOST_CANDIDATE_ROWS; read = λ k fields. candidate_in fields }

@@ -1,9 +1,10 @@
 -- How the flaws of import files are told.
-use Rattle.std.specs.Prelude.{ℕ, List, codes, Bool, true, false}
+use Rattle.std.specs.Prelude.{ℕ, List, [], ◌++◌, codes, Bool, true, false}
+use Rattle.std.specs.Fmt.{decimal}
 use Rattle.csv.specs.declared.error.ErrorKind.{ErrorKind}
 use Rattle.csv.specs.declared.error.ErrorKind.TheVariants as kind
 use Rattle.keyfile.specs.declared.fault.Flaw.{Flaw}
-use Rattle.keyfile.specs.declared.fault.Flaw.TheVariants.{Header, RecordLength, Number, PaperOrder, Marks, NotUtf8, TooManyRecords, ReadFailed, Memory}
+use Rattle.keyfile.specs.declared.fault.Flaw.TheVariants.{Header, RecordLength, Number, PaperOrder, Marks, NotUtf8, TooManyRecords, ReadFailed, Memory, OtherKeying, OtherFile}
 
 -- the number by which a flaw is told
 abbrev pub flaw_number : Flaw → ℕ
@@ -16,18 +17,39 @@ flaw_number NotUtf8 = 6
 flaw_number TooManyRecords = 7
 flaw_number ReadFailed = 8
 flaw_number Memory = 9
+flaw_number (OtherKeying batch clerk) = 10
+flaw_number OtherFile = 11
 
--- and its text
+-- the flaw in words, before the batch and the clerk that it names, if it names any
+abbrev pub flaw_words : Flaw → List ℕ
+flaw_words Header = codes "header"
+flaw_words RecordLength = codes "record length"
+flaw_words Number = codes "number"
+flaw_words PaperOrder = codes "paper order"
+flaw_words Marks = codes "marks"
+flaw_words NotUtf8 = codes "not UTF-8"
+flaw_words TooManyRecords = codes "too many records"
+flaw_words ReadFailed = codes "read failed"
+flaw_words Memory = codes "memory"
+flaw_words (OtherKeying batch clerk) = codes "the file is of batch "
+flaw_words OtherFile = codes "not the file of this digest"
+
+-- the batch that it names, what stands behind that, and the clerk; nothing, where it names none
+abbrev pub flaw_batch : Flaw → List ℕ
+flaw_batch (OtherKeying batch clerk) = decimal batch
+flaw_batch _ = []
+
+abbrev pub flaw_between : Flaw → List ℕ
+flaw_between (OtherKeying batch clerk) = codes ", clerk "
+flaw_between _ = []
+
+abbrev pub flaw_clerk : Flaw → List ℕ
+flaw_clerk (OtherKeying batch clerk) = decimal clerk
+flaw_clerk _ = []
+
+-- the flaw in words, with the batch and the clerk that it names
 abbrev pub flaw_text : Flaw → List ℕ
-flaw_text Header = codes "header"
-flaw_text RecordLength = codes "record length"
-flaw_text Number = codes "number"
-flaw_text PaperOrder = codes "paper order"
-flaw_text Marks = codes "marks"
-flaw_text NotUtf8 = codes "not UTF-8"
-flaw_text TooManyRecords = codes "too many records"
-flaw_text ReadFailed = codes "read failed"
-flaw_text Memory = codes "memory"
+flaw_text flaw = flaw_words flaw ++ (flaw_batch flaw ++ (flaw_between flaw ++ flaw_clerk flaw))
 
 -- whether a flaw is none of the file, but stopped its reading
 abbrev pub is_stop : Flaw → Bool
@@ -40,6 +62,8 @@ is_stop NotUtf8 = false
 is_stop TooManyRecords = false
 is_stop ReadFailed = true
 is_stop Memory = true
+is_stop (OtherKeying batch clerk) = false
+is_stop OtherFile = false
 
 -- what is told for an error of `csv`: `Io` is the one kind of an error of its reader
 abbrev pub flaw_of : ErrorKind → Flaw

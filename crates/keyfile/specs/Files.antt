@@ -1,5 +1,5 @@
 -- What an import file is read as.
-use Rattle.std.specs.Prelude.{◌≡◌, ℕ, suc, ◌≤◌, Bool, true, false, not, ◌&&◌, ◌==◌, nat_lt, if◌then◌else◌, List, [], ◌∷◌, length, Result, Ok, Err, IfErr}
+use Rattle.std.specs.Prelude.{◌≡◌, ℕ, suc, ◌≤◌, true, false, not, ◌==◌, nat_lt, if◌then◌else◌, List, [], ◌∷◌, length, Option, Some, None, Result, Ok, Err, IfErr}
 use Rattle.std.specs.List.{list_all}
 use Rattle.std.specs.Str.{is_utf8}
 use Rattle.keyfile.specs.Records.{Record}
@@ -8,15 +8,16 @@ use Rattle.keyfile.specs.declared.fault.FileFault.{FileFault}
 use Rattle.keyfile.specs.declared.fault.Flaw.{Flaw}
 use Rattle.keyfile.specs.declared.fault.Flaw.TheVariants.{Header, RecordLength, NotUtf8, TooManyRecords}
 
--- what a file holds: its header, how many records may stand behind it, and what the one of some number is read as
+-- what a file holds: what is wrong with its first record as a header, if anything is, how many records may stand behind that, and what the one of some
+-- number is read as
 pub record Format (Row : Type 0) : Type 0 where
-  pub is_header : Record → Bool
+  pub header_flaw : Record → Option Flaw
   pub most : ℕ
   pub read : ℕ → Record → Result Row Flaw
 
--- whether a record is the header
-abbrev pub is_text_header : {Row : Type 0} → Format Row → Record → Bool
-is_text_header format fields = list_all is_utf8 fields && format.is_header fields
+-- what is wrong with a first record; one that isn't text is no header
+abbrev pub text_header_flaw : {Row : Type 0} → Format Row → Record → Option Flaw
+text_header_flaw format fields = if list_all is_utf8 fields then format.header_flaw fields else Some Header
 
 -- what a record is read as once all its fields are text
 abbrev pub read_as_text : {Row : Type 0} → Format Row → ℕ → Record → Result Row Flaw
@@ -43,11 +44,15 @@ abbrev pub rows_from : {Row : Type 0} → (ℕ → Record → Result Row Flaw) �
 rows_from read k [] = Ok []
 rows_from read k (fields ∷ others) = and_rows k (read k fields) (rows_from read (suc k) others)
 
+-- what is read behind a header, or what is wrong with that
+abbrev pub behind_header : {Row : Type 0} → Option Flaw → Result (List Row) FileFault → Result (List Row) FileFault
+behind_header None rows = rows
+behind_header (Some flaw) rows = Err (fault_at 0 flaw)
+
 -- the rows of a file's records behind its header, or its fault; the header is record 0
 abbrev pub file_rows : {Row : Type 0} → Format Row → List Record → Result (List Row) FileFault
 file_rows format [] = Err (fault_at 0 Header)
-file_rows format (header ∷ others) =
-    if is_text_header format header then rows_from (read_record format header) 1 others else Err (fault_at 0 Header)
+file_rows format (header ∷ others) = behind_header (text_header_flaw format header) (rows_from (read_record format header) 1 others)
 
 -- what is told of a file: its own fault; or that reading was stopped at a record, and then no fault stands before that
 pub record IsFaultOf {Row : Type 0} (format : Format Row) (records : List Record) (fault : FileFault) : Type 0 where

@@ -10,7 +10,7 @@ use Rattle.keyfile.specs.Files.{Format, file_rows}
 use Rattle.keyfile.specs.Reading.{Known}
 use Rattle.keyfile.specs.Records.{Record, file_records}
 use Rattle.keyfile.specs.declared.fault.Flaw.{Flaw}
-use Rattle.keyfile.specs.declared.fault.Flaw.TheVariants.{Header, RecordLength, Number, PaperOrder, Marks, NotUtf8, TooManyRecords, ReadFailed, Memory}
+use Rattle.keyfile.specs.declared.fault.Flaw.TheVariants.{Header, RecordLength, Number, PaperOrder, Marks, NotUtf8, TooManyRecords, ReadFailed, Memory, OtherKeying, OtherFile}
 
 -- the length that the next record must have: that of the first
 abbrev pub wanted : List Record → Option ℕ
@@ -65,3 +65,5 @@ EndsBefore bytes records PaperOrder = ⊥
 EndsBefore bytes records Marks = ⊥
 EndsBefore bytes records NotUtf8 = ⊥
 EndsBefore bytes records TooManyRecords = ⊥
+EndsBefore bytes records (OtherKeying batch clerk) = ⊥
+EndsBefore bytes records OtherFile = ⊥

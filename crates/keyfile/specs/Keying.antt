@@ -1,6 +1,7 @@
 -- The file of a keying.
 use Rattle.std.specs.Prelude.{◌≡◌, ◌≤◌, ℕ, Bool, true, false, ◌&&◌, ◌||◌, ◌==◌, if◌then◌else◌, List, [], ◌∷◌, length, Option, Some, None, Result, Ok, Err, codes, bytes_eq}
 use Rattle.std.specs.List.{list_all, list_any, join_with_byte}
+use Rattle.keyfile.specs.Headers.{first_field_flaw}
 use Rattle.paper.specs.MarksText.{beside, marks_in, reading}
 use Rattle.paper.specs.declared.marked.Keyed.TheVariants.{Doubtful}
 use Rattle.keyfile.specs.Records.{Record}
@@ -8,7 +9,7 @@ use Rattle.paper.specs.Digits.{plain_number_in}
 use Rattle.keyfile.specs.Files.{Format}
 use Rattle.keyfile.specs.declared.fault.Flaw.{Flaw}
 use Rattle.keyfile.specs.declared.keying.TheConstants.{MOST_PAPERS}
-use Rattle.keyfile.specs.declared.fault.Flaw.TheVariants.{RecordLength, Number, PaperOrder, Marks}
+use Rattle.keyfile.specs.declared.fault.Flaw.TheVariants.{Header, RecordLength, Number, PaperOrder, Marks}
 
 -- whether a number was read and is this one
 abbrev pub is_told : Option ℕ → ℕ → Bool
@@ -21,10 +22,10 @@ are_columns [] [] = true
 are_columns (field ∷ fields) (column ∷ columns) = is_told (plain_number_in field) column && are_columns fields columns
 are_columns fields columns = false
 
--- `paper` and the columns in ascending order
-abbrev pub is_keying_header : List ℕ → Record → Bool
-is_keying_header columns [] = false
-is_keying_header columns (first ∷ numbers) = bytes_eq first (codes "paper") && are_columns numbers columns
+-- what is wrong with the header of a keying of a batch by a clerk: its first field and the columns in ascending order are asked for
+abbrev pub keying_header_flaw : List ℕ → ℕ → ℕ → Record → Option Flaw
+keying_header_flaw columns batch clerk [] = Some Header
+keying_header_flaw columns batch clerk (first ∷ numbers) = if are_columns numbers columns then first_field_flaw batch clerk first else Some Header
 
 -- a comma, a double quote or a line end
 abbrev pub is_break : ℕ → Bool
@@ -58,9 +59,9 @@ abbrev pub paper_in : ℕ → Record → Result (List ℕ) Flaw
 paper_in k [] = Err RecordLength
 paper_in k (paper ∷ marks) = of_number k (plain_number_in paper) marks
 
--- the file of a keying of papers with some columns: the papers of one batch at most
-abbrev pub keying : List ℕ → Format (List ℕ)
-keying columns = record { is_header = is_keying_header columns; most = MOST_PAPERS; read = paper_in }
+-- the file of a clerk's keying of a batch, whose papers have some columns: the papers of one batch at most
+abbrev pub keying : List ℕ → ℕ → ℕ → Format (List ℕ)
+keying columns batch clerk = record { header_flaw = keying_header_flaw columns batch clerk; most = MOST_PAPERS; read = paper_in }
 
 -- the marks text of a paper with some columns is read as its mark fields say: as doubtful, or as the mark of each field
 -- beside its column

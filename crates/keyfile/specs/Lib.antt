@@ -3,6 +3,8 @@ pub mod Faults
 pub mod Records
 pub mod Files
 pub mod Candidates
+pub mod Headers
 pub mod Keying
 pub mod Reading
+pub mod Digests
 pub mod Inside

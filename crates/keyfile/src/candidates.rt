@@ -1,12 +1,14 @@
 //! The file of candidates, of one ward or several: `ward,candidate,name`.
 
 ghost use Rattle.std.specs.Prelude.{◌≡◌, ◌⊎◌, map, IfOk, IfErr, Ok, Err};
-ghost use Rattle.keyfile.specs.Candidates.{CandidateEntry, candidate_entry, candidates, numbered};
-ghost use Rattle.keyfile.specs.Files.{IsFaultOf, file_rows};
+ghost use Rattle.keyfile.specs.Candidates.{CandidateEntry, candidate_entry, candidates, is_candidate_header, numbered};
+ghost use Rattle.keyfile.specs.Digests.{IsFaultBy, IsReadAs, asked_digest};
+ghost use Rattle.keyfile.specs.Files.{file_rows};
 ghost use Rattle.paper.specs.Digits.{plain_number_in};
 ghost use Rattle.keyfile.specs.Reading.{Known};
 ghost use Rattle.keyfile.specs.Records.{file_records};
 
+use crate::digest::FileDigest;
 use crate::fault::{FileFault, Flaw};
 use crate::format::{FileFormat, read_file};
 use paper::plain_number_in;
@@ -30,11 +32,18 @@ pub struct CandidateRow {
 /// The header is `ward,candidate,name`; at most 2970 records follow it. The rows are those of the
 /// file's records as `csv` has them, or the fault is that of the first faulty record, and of that
 /// its first flaw. `ReadFailed` and `Memory` may come at any record that no fault stands before.
-pub fn read_candidates<R: Read + Drop>(alloc: Global, r: R) -> Result<Vec<CandidateRow>, FileFault>
-    ensures rows { Known (R.remaining r) (λ bytes. IfOk result (λ rows. file_rows candidates (file_records bytes) ≡ Ok (map candidate_entry rows.items))) }
-    ensures fault { Known (R.remaining r) (λ bytes. IfErr result (IsFaultOf candidates (file_records bytes))) }
+///
+/// Where a digest is asked for, the rows are those of bytes that have it, and a file of others is
+/// told as `OtherFile`, whatever else is wrong with it.
+pub fn read_candidates<R: Read + Drop>(
+    alloc: Global,
+    r: R,
+    digest: Option<FileDigest>,
+) -> Result<Vec<CandidateRow>, FileFault>
+    ensures rows { IfOk result (λ rows. IsReadAs (asked_digest digest) (R.remaining r) (λ bytes. file_rows candidates (file_records bytes) ≡ Ok (map candidate_entry rows.items))) }
+    ensures fault { IfErr result (λ fault. Known (R.remaining r) (λ bytes. IsFaultBy (asked_digest digest) candidates bytes fault)) }
 {
-    read_file(alloc, r, &CandidateFormat)
+    read_file(alloc, r, digest, &CandidateFormat)
 }
 
 /// The format of the file of candidates.
@@ -54,12 +63,11 @@ impl FileFormat for CandidateFormat {
         MOST_CANDIDATE_ROWS
     }
 
-    fn is_header(&self, fields: &[&str]) -> bool {
-        match fields {
-            [ward, candidate, name] => {
-                *ward == "ward" && *candidate == "candidate" && *name == "name"
-            }
-            _ => false,
+    fn header_flaw(&self, fields: &[&str]) -> Option<Flaw> {
+        if is_candidate_header(fields) {
+            None
+        } else {
+            Some(Flaw::Header)
         }
     }
 
@@ -68,6 +76,16 @@ impl FileFormat for CandidateFormat {
             [ward, candidate, name] => candidate_row(alloc, ward, candidate, name),
             _ => Err(Flaw::RecordLength),
         }
+    }
+}
+
+/// Whether fields are the header.
+fn is_candidate_header(fields: &[&str]) -> bool
+    ensures { result ≡ is_candidate_header (map (λ f. f.now) fields.now) }
+{
+    match fields {
+        [ward, candidate, name] => *ward == "ward" && *candidate == "candidate" && *name == "name",
+        _ => false,
     }
 }
 

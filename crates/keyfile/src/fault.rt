@@ -2,15 +2,15 @@
 
 ghost use Rattle.std.specs.Prelude.{◌≡◌, IfOk, IfErr, Ok, Err};
 ghost use Rattle.keyfile.specs.declared.fault.Flaw.TheVariants.{Memory};
-ghost use Rattle.keyfile.specs.Faults.{flaw_number, flaw_text};
+ghost use Rattle.keyfile.specs.Faults.{flaw_number, flaw_words};
 
 use std::alloc::AllocError;
 use thiserror::Error;
 
-/// Why a record of an import file can't be taken. Of several the first in this order is told: header,
-/// record length, too many records, not UTF-8, number, paper order, marks.
+/// Why a record of an import file can't be taken. Of several the first in this order is told: other file,
+/// header, other keying, record length, too many records, not UTF-8, number, paper order, marks.
 #[derive(Clone, Copy, Debug, PartialEq, Eq, Error)]
-#[error("{}", self.text())]
+#[error("{}", self.words())]
 pub enum Flaw {
     /// There is no record, or the first isn't the header.
     Header,
@@ -30,6 +30,11 @@ pub enum Flaw {
     ReadFailed,
     /// Memory was wanting.
     Memory,
+    /// The header names this batch and this clerk, and the keying is to be of another batch or by another clerk.
+    #[error("{}{batch}, clerk {clerk}", self.words())]
+    OtherKeying { batch: u32, clerk: u32 },
+    /// The file's bytes have another digest than the one that was asked for.
+    OtherFile,
 }
 
 /// The fault for which an import file is refused.
@@ -42,7 +47,7 @@ pub struct FileFault {
 }
 
 impl Flaw {
-    /// The number by which a flaw is told, 1 to 9.
+    /// The number by which a flaw is told, 1 to 11.
     pub fn number(&self) -> u32
         ensures { result ≡ flaw_number self.now }
     {
@@ -56,12 +61,14 @@ impl Flaw {
             Flaw::TooManyRecords => 7,
             Flaw::ReadFailed => 8,
             Flaw::Memory => 9,
+            Flaw::OtherKeying { .. } => 10,
+            Flaw::OtherFile => 11,
         }
     }
 
-    /// The flaw in words.
-    pub fn text(&self) -> &'static str
-        ensures { result.now ≡ flaw_text self.now }
+    /// The flaw in words, before the batch and the clerk that it names, if it names any.
+    pub fn words(&self) -> &'static str
+        ensures { result.now ≡ flaw_words self.now }
     {
         match self {
             Flaw::Header => "header",
@@ -73,12 +80,14 @@ impl Flaw {
             Flaw::TooManyRecords => "too many records",
             Flaw::ReadFailed => "read failed",
             Flaw::Memory => "memory",
+            Flaw::OtherKeying { .. } => "the file is of batch ",
+            Flaw::OtherFile => "not the file of this digest",
         }
     }
 }
 
 impl FileFault {
-    /// The number of the fault, 1 to 9.
+    /// The number of the fault, 1 to 11.
     pub fn number(&self) -> u32
         ensures { result ≡ flaw_number self.now.flaw }
     {

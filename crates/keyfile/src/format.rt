@@ -1,12 +1,14 @@
 //! What an import file holds, and how it is read whole.
 
-ghost use Rattle.std.specs.Prelude.{◌≡◌, ◌∷◌, ◌++◌, ◌+◌, ◌-◌, ◌^◌, ◌<◌, ◌≤◌, ◌⊎◌, [], List, Option, ℕ, true, false, map, IfOk, IfErr, IfSome, IfNone, Ok, Err, OnOk};
+ghost use Rattle.std.specs.Prelude.{◌≡◌, ◌∷◌, ◌++◌, ◌+◌, ◌-◌, ◌^◌, ◌<◌, ◌≤◌, ◌⊎◌, [], List, Option, Some, None, ℕ, map, IfOk, IfErr, IfSome, IfNone, Ok, Err, OnOk};
 ghost use Rattle.csv.specs.Records.{fields_of};
-ghost use Rattle.keyfile.specs.Files.{Format, IsFaultOf, file_rows, is_text_header, read_as_text};
+ghost use Rattle.keyfile.specs.Digests.{IsFaultBy, IsReadAs, asked_digest};
+ghost use Rattle.keyfile.specs.Files.{Format, IsFaultOf, file_rows, read_as_text, text_header_flaw};
 ghost use Rattle.keyfile.specs.Inside.{IsAfter, StandsAt};
 ghost use Rattle.keyfile.specs.Reading.{Known};
 ghost use Rattle.keyfile.specs.Records.{file_records};
 
+use crate::digest::{FileDigest, read_whole};
 use crate::fault::{FileFault, Flaw, at_record};
 use crate::fields::texts;
 use crate::records::{next_record, open};
@@ -30,9 +32,9 @@ pub(crate) trait FileFormat {
         ensures is { result ≡ (format self.now).most }
         ensures few { result < 2 ^ 32 - 1 };
 
-    /// Whether the fields of the first record are the header.
-    fn is_header(&self, fields: &[&str]) -> bool
-        ensures { result ≡ (format self.now).is_header (map (λ f. f.now) fields.now) };
+    /// What is wrong with the fields of the first record as a header, if anything is.
+    fn header_flaw(&self, fields: &[&str]) -> Option<Flaw>
+        ensures { result ≡ (format self.now).header_flaw (map (λ f. f.now) fields.now) };
 
     /// The row of a record of some number, or the first of its flaws; `Memory` where it is wanting.
     fn read(&self, alloc: Global, number: u32, fields: &[&str]) -> Result<Self::Row, Flaw>
@@ -40,14 +42,33 @@ pub(crate) trait FileFormat {
         ensures err { IfErr result (λ flaw. (flaw ≡ Flaw.Memory) ⊎ ((format self.now).read number (map (λ f. f.now) fields.now) ≡ Err flaw)) };
 }
 
-/// The rows of a file, or its fault.
+/// The rows of a file, or its fault. Where a digest is asked for, its bytes are read first, and have it.
 pub(crate) fn read_file<R: Read + Drop, F: FileFormat>(
+    alloc: Global,
+    r: R,
+    digest: Option<FileDigest>,
+    format: &F,
+) -> Result<Vec<F::Row>, FileFault>
+    ensures rows { IfOk result (λ rows. IsReadAs (asked_digest digest) (R.remaining r) (λ bytes. file_rows (F.format format.now) (file_records bytes) ≡ Ok (map F.entry rows.items))) }
+    ensures fault { IfErr result (λ fault. Known (R.remaining r) (λ bytes. IsFaultBy (asked_digest digest) (F.format format.now) bytes fault)) }
+{
+    match digest {
+        Some(digest) => {
+            let bytes = read_whole(alloc, r, digest)?;
+            read_rows(alloc, bytes.as_slice(), format)
+        }
+        None => read_rows(alloc, r, format),
+    }
+}
+
+/// The rows of a file, or its fault.
+fn read_rows<R: Read + Drop, F: FileFormat>(
     alloc: Global,
     r: R,
     format: &F,
 ) -> Result<Vec<F::Row>, FileFault>
-    ensures rows { Known (R.remaining r) (λ bytes. IfOk result (λ rows. file_rows (F.format format.now) (file_records bytes) ≡ Ok (map F.entry rows.items))) }
-    ensures fault { Known (R.remaining r) (λ bytes. IfErr result (IsFaultOf (F.format format.now) (file_records bytes))) }
+    ensures rows { IfOk result (λ rows. Known (R.remaining r) (λ bytes. file_rows (F.format format.now) (file_records bytes) ≡ Ok (map F.entry rows.items))) }
+    ensures fault { IfErr result (λ fault. Known (R.remaining r) (λ bytes. IsFaultOf (F.format format.now) (file_records bytes) fault)) }
 {
     let mut file = open(alloc, r);
     read_header(alloc, &mut file, format)?;
@@ -88,15 +109,19 @@ fn read_header<R: Read + Drop, F: FileFormat>(
     }
 }
 
-/// Whether a record is the header; `Header` says that it isn't.
+/// Makes sure that a record is the header.
 fn check_header<F: FileFormat>(alloc: Global, raw: &ByteRecord, format: &F) -> Result<(), Flaw>
-    ensures ok { OnOk result (is_text_header (F.format format.now) (fields_of raw.now) ≡ true) }
-    ensures err { IfErr result (λ flaw. (flaw ≡ Flaw.Memory) ⊎ ((flaw ≡ Flaw.Header) × (is_text_header (F.format format.now) (fields_of raw.now) ≡ false))) }
+    ensures ok { OnOk result (text_header_flaw (F.format format.now) (fields_of raw.now) ≡ None) }
+    ensures err { IfErr result (λ flaw. (flaw ≡ Flaw.Memory) ⊎ (text_header_flaw (F.format format.now) (fields_of raw.now) ≡ Some flaw)) }
 {
-    match texts(alloc, raw) {
-        Ok(fields) if format.is_header(&fields) => Ok(()),
-        Err(Flaw::Memory) => Err(Flaw::Memory),
-        _ => Err(Flaw::Header),
+    let fields = match texts(alloc, raw) {
+        Ok(fields) => fields,
+        Err(Flaw::Memory) => return Err(Flaw::Memory),
+        Err(_) => return Err(Flaw::Header),
+    };
+    match format.header_flaw(&fields) {
+        Some(flaw) => Err(flaw),
+        None => Ok(()),
     }
 }
 

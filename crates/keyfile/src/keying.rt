@@ -2,14 +2,17 @@
 
 ghost use Rattle.std.specs.Prelude.{◌≡◌, ◌++◌, ◌==◌, List, ℕ, length, map, IfOk, IfErr, OnOk, Ok, Err, string_bytes};
 ghost use Rattle.std.specs.List.{join_with_byte, list_all, list_any};
-ghost use Rattle.keyfile.specs.Files.{IsFaultOf, file_rows};
+ghost use Rattle.keyfile.specs.Digests.{IsFaultBy, IsReadAs, asked_digest};
+ghost use Rattle.keyfile.specs.Files.{file_rows};
 ghost use Rattle.keyfile.specs.Keying.{AreReadAsKeyed, are_columns, breaks_marks, field_text, is_doubtful, keying, marks_text, of_number};
 ghost use Rattle.paper.specs.Digits.{plain_number_in};
 ghost use Rattle.keyfile.specs.Reading.{Known};
 ghost use Rattle.keyfile.specs.Records.{file_records};
 
+use crate::digest::FileDigest;
 use crate::fault::{FileFault, Flaw};
 use crate::format::{FileFormat, read_file};
+use crate::header::first_field_flaw;
 use paper::{Columns, plain_number_in};
 use std::alloc::{AllocError, Global};
 use std::io::Read;
@@ -17,30 +20,44 @@ use std::io::Read;
 /// The most papers of a file, those of one batch.
 const MOST_PAPERS: u32 = 500;
 
-/// The marks texts of a keying of papers with some columns, in the order of the papers.
+/// The marks texts of a clerk's keying of a batch, whose papers have some columns, in the order of the papers.
 ///
 /// The header is `paper` and the columns in ascending order; at most 500 records follow it, each a
 /// paper's number, which runs 1, 2, 3, .., and one field for each column. A marks text is `D` where
 /// the first field is `D` and the others are empty, else the fields parted by commas; whether it is
 /// right isn't judged here. The fault is that of the first faulty record, and of that its first flaw.
 /// `ReadFailed` and `Memory` may come at any record that no fault stands before.
+///
+/// In place of `paper` the header may have `paper 12/4`: the file is then of batch 12 by clerk 4. One
+/// of another batch or by another clerk is told as `OtherKeying`. Where a digest is asked for, the
+/// papers are those of bytes that have it, and a file of others is told as `OtherFile`.
 pub fn read_keying<R: Read + Drop>(
     alloc: Global,
     r: R,
     columns: Columns,
+    batch: u32,
+    clerk: u32,
+    digest: Option<FileDigest>,
 ) -> Result<Vec<String>, FileFault>
-    ensures rows { Known (R.remaining r) (λ bytes. IfOk result (λ papers. file_rows (keying columns) (file_records bytes) ≡ Ok (map string_bytes papers.items))) }
-    ensures fault { Known (R.remaining r) (λ bytes. IfErr result (IsFaultOf (keying columns) (file_records bytes))) }
+    ensures rows { IfOk result (λ papers. IsReadAs (asked_digest digest) (R.remaining r) (λ bytes. file_rows (keying columns batch clerk) (file_records bytes) ≡ Ok (map string_bytes papers.items))) }
+    ensures fault { IfErr result (λ fault. Known (R.remaining r) (λ bytes. IsFaultBy (asked_digest digest) (keying columns batch clerk) bytes fault)) }
     // a marks text says what the fields say
     ensures spelled { AreReadAsKeyed columns }
 {
-    read_file(alloc, r, &KeyingFormat { columns })
+    let format = KeyingFormat {
+        columns,
+        batch,
+        clerk,
+    };
+    read_file(alloc, r, digest, &format)
 }
 
-/// The format of the file of a keying.
+/// The format of the file of a clerk's keying of a batch.
 #[derive(Drop)]
 struct KeyingFormat {
     columns: Columns,
+    batch: u32,
+    clerk: u32,
 }
 
 impl FileFormat for KeyingFormat {
@@ -48,7 +65,7 @@ impl FileFormat for KeyingFormat {
 
     ghost Entry = { List ℕ };
 
-    ghost format = { λ f. keying f.columns };
+    ghost format = { λ f. keying f.columns f.batch f.clerk };
 
     ghost entry = { string_bytes };
 
@@ -56,11 +73,15 @@ impl FileFormat for KeyingFormat {
         MOST_PAPERS
     }
 
-    fn is_header(&self, fields: &[&str]) -> bool {
+    fn header_flaw(&self, fields: &[&str]) -> Option<Flaw> {
         match fields {
-            [] => false,
+            [] => Some(Flaw::Header),
             [first, numbers @ ..] => {
-                *first == "paper" && are_columns(numbers, self.columns.as_slice())
+                if are_columns(numbers, self.columns.as_slice()) {
+                    first_field_flaw(first, self.batch, self.clerk)
+                } else {
+                    Some(Flaw::Header)
+                }
             }
         }
     }

@@ -2,10 +2,11 @@
 //!
 //! [`read_candidates`] gives the [`CandidateRow`]s of a file, [`read_keying`] the marks text of each
 //! paper, as `paper` reads it. A [`FileFault`] names the first faulty record, counted from the header,
-//! which is record 0, and its first [`Flaw`]. No row is given before the whole file was read.
+//! which is record 0, and its first [`Flaw`]. No row is given before the whole file was read. Either
+//! may be asked for the file of a [`FileDigest`], and gives no row of any other.
 //!
 //! ```text
-//! match read_keying(alloc, file, columns) {
+//! match read_keying(alloc, file, columns, 12, 4, None) {
 //!     Ok(papers) => ..,                  // "1,2,", "D", ..
 //!     Err(fault) => ..,                  // file fault 2 at record 2: record length
 //! }
@@ -13,12 +14,15 @@
 #![tactic(auto)]
 
 mod candidates;
+mod digest;
 mod fault;
 mod fields;
 mod format;
+mod header;
 mod keying;
 mod records;
 
 pub use candidates::{CandidateRow, read_candidates};
+pub use digest::FileDigest;
 pub use fault::{FileFault, Flaw};
 pub use keying::read_keying;

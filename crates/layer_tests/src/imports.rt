@@ -1,6 +1,6 @@
 //! Import files, read whole or refused, and the texts of their faults.
 
-use keyfile::{FileFault, Flaw, read_candidates, read_keying};
+use keyfile::{FileDigest, FileFault, Flaw, read_candidates, read_keying};
 use paper::Columns;
 use std::alloc::{AllocError, Global};
 use std::fmt::Write;
@@ -35,9 +35,13 @@ fn three() -> Columns {
     Columns::empty().with(1).with(2).with(3)
 }
 
-/// The papers of a keying, each behind a bar, or the fault. Want of memory is the error.
-fn keying_text<R: Read + Drop>(alloc: Global, file: R) -> Result<String, AllocError> {
-    match read_keying(alloc, file, three()) {
+/// The papers of clerk 4's keying of batch 12, each behind a bar, or the fault. Want of memory is the error.
+fn keying_text<R: Read + Drop>(
+    alloc: Global,
+    file: R,
+    digest: Option<FileDigest>,
+) -> Result<String, AllocError> {
+    match read_keying(alloc, file, three(), 12, 4, digest) {
         Ok(papers) => {
             let mut text = String::new(alloc);
             for paper in &papers {
@@ -52,7 +56,7 @@ fn keying_text<R: Read + Drop>(alloc: Global, file: R) -> Result<String, AllocEr
 
 /// The candidates of a file, each behind a bar, or the fault.
 fn candidates_text<R: Read + Drop>(alloc: Global, file: R) -> Result<String, AllocError> {
-    match read_candidates(alloc, file) {
+    match read_candidates(alloc, file, None) {
         Ok(rows) => {
             let mut text = String::new(alloc);
             for row in &rows {
@@ -80,7 +84,7 @@ fn fault_text(alloc: Global, fault: FileFault) -> Result<String, AllocError> {
 
 /// Files of a keying of the candidates 1, 2 and 3, and what each gives: its papers, or its fault. `~` and `^` stand
 /// for the bytes FF and FE, which no UTF-8 has.
-const KEYINGS: [(&str, &str); 19] = [
+const KEYINGS: [(&str, &str); 22] = [
     ("paper,1,2,3\n1,1,2,\n2,D,,\n", "|1,2,|D"),
     (
         "paper,1,2,3\n1,1,2,\n2,D",
@@ -101,6 +105,16 @@ const KEYINGS: [(&str, &str); 19] = [
     (
         "paper,1,2,3\n1,~,,\n",
         "file fault 6 at record 1: not UTF-8",
+    ),
+    // The header may name the batch and the clerk.
+    ("paper 12/4,1,2,3\n1,1,2,\n", "|1,2,"),
+    (
+        "paper 13/9,1,2,3\n1,1,2,\n",
+        "file fault 10 at record 0: the file is of batch 13, clerk 9",
+    ),
+    (
+        "paper 12/04,1,2,3\n1,1,2,\n",
+        "file fault 1 at record 0: header",
     ),
     // As people's programs save them: a byte order mark, other line ends, quotes, lines at the end that are empty
     // or blank or of commas alone, other separators, UTF-16.
@@ -131,6 +145,22 @@ const KEYINGS: [(&str, &str); 19] = [
     ),
 ];
 
+/// A file by its digest: `paper,1,2,3` and `1,1,2,`.
+const DIGEST: &str = "A07A0DF7acf3e17b2096413e8f3ac12de041078e12e444496ea6ad4fca589c35";
+
+/// Files that are to be the one of [`DIGEST`], and what each gives.
+const DIGESTED: [(&str, &str); 3] = [
+    ("paper,1,2,3\n1,1,2,\n", "|1,2,"),
+    (
+        "paper,1,2,3\n1,2,1,\n",
+        "file fault 11 at record 0: not the file of this digest",
+    ),
+    (
+        "names",
+        "file fault 11 at record 0: not the file of this digest",
+    ),
+];
+
 /// The bytes of a text in which `~` and `^` stand for two that are no UTF-8.
 fn bytes_of(alloc: Global, text: &str) -> Result<Vec<u8>, AllocError> {
     let mut bytes = Vec::new(alloc);
@@ -148,7 +178,13 @@ fn bytes_of(alloc: Global, text: &str) -> Result<Vec<u8>, AllocError> {
 fn files_are_read_whole_or_refused(rt: HostRuntime) -> Result<(), Fail> {
     for (file, wanted) in KEYINGS {
         let bytes = bytes_of(rt.alloc(), file)?;
-        let text = keying_text(rt.alloc(), bytes.as_slice())?;
+        let text = keying_text(rt.alloc(), bytes.as_slice(), None)?;
+        assert_eq!(&rt; text.as_str(), wanted);
+    }
+    let digest = FileDigest::parse(DIGEST);
+    assert!(&rt; digest.is_some() && FileDigest::parse("a07a0df7").is_none());
+    for (file, wanted) in DIGESTED {
+        let text = keying_text(rt.alloc(), file.as_bytes(), digest)?;
         assert_eq!(&rt; text.as_str(), wanted);
     }
     let candidates = "ward,candidate,name\n7,1,Ann\n7,2,\"Bob, jr\"\n";
@@ -159,15 +195,17 @@ fn files_are_read_whole_or_refused(rt: HostRuntime) -> Result<(), Fail> {
     for number in 1..502 {
         write!(file, "{number},1,2,\n")?;
     }
-    let text = keying_text(rt.alloc(), file.as_bytes())?;
+    let text = keying_text(rt.alloc(), file.as_bytes(), None)?;
     assert_eq!(&rt;
         text.as_str(),
         "file fault 7 at record 501: too many records"
     );
     // a read that fails is told at its record
     let left = "paper,1,2,3\n1,,,\n2,,".as_bytes();
-    let text = keying_text(rt.alloc(), Torn { left })?;
+    let text = keying_text(rt.alloc(), Torn { left }, None)?;
     assert_eq!(&rt; text.as_str(), "file fault 8 at record 2: read failed");
+    let text = keying_text(rt.alloc(), Torn { left }, digest)?;
+    assert_eq!(&rt; text.as_str(), "file fault 8 at record 0: read failed");
     let fault = FileFault {
         flaw: Flaw::ReadFailed,
         record_number: 2,

@@ -1,8 +1,11 @@
-//! Pages, byte for byte but for their style, which its definition has.
+//! Pages, and the page of all wards, byte for byte but for their style, which its definition has.
 
 use count::{Action, Stage};
 use paper::Columns;
-use sheet::{Poll, Ward, can_be_printed, page_text, write_page};
+use sheet::{
+    ListedWard, Poll, Standing, Ward, can_be_printed, index_text, page_text, write_index,
+    write_page,
+};
 use std::alloc::Global;
 use std::process::Abort;
 use std::test::Fail;
@@ -21,7 +24,19 @@ const HEAD: &str = r##"<!DOCTYPE html>
 const DECLARED: &str = r##"
 </head>
 <body>
+<p class="running" aria-hidden="true">Ward 7 <bdi>&lt;Harbour&gt;</bdi></p>
+<p class="title" dir="auto">Vote &amp; &lt;Council&gt;</p>
 <h1>Ward 7 <bdi>&lt;Harbour&gt;</bdi></h1>
+<p class="declared"><strong>Declared</strong></p>
+<div class="top">
+<div>
+<h2>Elected</h2>
+<ul class="names">
+<li><b>1 <bdi>Ann &lt;b&gt;</bdi></b> <span>6.00000 votes, elected at stage 1</span></li>
+<li><b>3 <bdi>רות</bdi></b> <span>2.66666 votes, elected at stage 3</span></li>
+</ul>
+</div>
+<div>
 <h2>Papers</h2>
 <table class="papers">
 <tr><th scope="row">Seats</th><td>2</td></tr>
@@ -35,25 +50,28 @@ const DECLARED: &str = r##"
 <tr><th scope="row">Rejected papers in all</th><td>54321</td></tr>
 <tr><th scope="row">Papers in all</th><td>54330</td></tr>
 </table>
-<h2>Elected</h2>
-<ul>
-<li>1 <bdi>Ann &lt;b&gt;</bdi>, stage 1</li>
-<li>3 <bdi>רות</bdi>, stage 3</li>
-</ul>
+</div>
+</div>
 <h2>Lots drawn</h2>
 <ul>
-<li>Stage 3: 2 <bdi>&quot;Bob&quot; &amp; &#39;Co&#39;</bdi></li>
+<li>Lot at stage 3 between 2 <bdi>&quot;Bob&quot; &amp; &#39;Co&#39;</bdi>: excluded 2 <bdi>&quot;Bob&quot; &amp; &#39;Co&#39;</bdi></li>
+</ul>
+<h2>Votes of each candidate</h2>
+<svg class="patterns" width="0" height="0" aria-hidden="true"><defs><pattern id="later" width="4" height="4" patternUnits="userSpaceOnUse" patternTransform="rotate(45)"><rect width="4" height="4" fill="#fff"/><rect width="1.6" height="4" fill="#000"/></pattern></defs></svg><p class="key"><svg class="bar" aria-hidden="true"><rect class="first" width="100%" height="100%"/></svg> votes at stage 1, <span class="elected"><svg class="bar" aria-hidden="true"><rect class="first" width="100%" height="100%"/></svg> of the elected</span>, <span class="excluded"><svg class="bar" aria-hidden="true"><rect class="first" width="100%" height="100%"/></svg> of the excluded</span>; <svg class="bar" aria-hidden="true"><rect class="later" width="100%" height="100%"/></svg> votes gained later; <svg class="bar" aria-hidden="true"><rect class="quota" x="45%" width="3" height="100%"/></svg> the quota, 4.00000</p>
+<ul class="chart">
+<li class="elected"><span class="who">1 <bdi>Ann &lt;b&gt;</bdi></span><svg class="bar" aria-hidden="true"><rect class="first" width="100%" height="100%"/><rect class="later" x="100%" width="0%" height="100%"/><rect class="quota" x="66%" width="3" height="100%"/></svg><span class="had">6.00000 at stage 1</span><span class="end"><b>elected</b> at stage 1, with 6.00000</span></li>
+<li class="excluded"><span class="who">2 <bdi>&quot;Bob&quot; &amp; &#39;Co&#39;</bdi></span><svg class="bar" aria-hidden="true"><rect class="first" width="16%" height="100%"/><rect class="later" x="16%" width="22%" height="100%"/><rect class="quota" x="66%" width="3" height="100%"/></svg><span class="had">1.00000 at stage 1</span><span class="end">excluded at stage 3, with 2.33332</span></li>
+<li class="elected"><span class="who">3 <bdi>רות</bdi></span><svg class="bar" aria-hidden="true"><rect class="first" width="33%" height="100%"/><rect class="later" x="33%" width="11%" height="100%"/><rect class="quota" x="66%" width="3" height="100%"/></svg><span class="had">2.00000 at stage 1</span><span class="end"><b>elected</b> at stage 3, with 2.66666</span></li>
 </ul>
 <h2>Stages</h2>
-<svg class="patterns" width="0" height="0" aria-hidden="true"><defs><pattern id="gained" width="4" height="4" patternUnits="userSpaceOnUse" patternTransform="rotate(45)"><rect width="4" height="4" fill="#fff"/><rect width="1.6" height="4" fill="#000"/></pattern><clipPath id="room"><rect y="-2" width="898" height="17"/></clipPath></defs></svg>
-<div class="wide" role="region" tabindex="0" aria-label="Stages 1 to 3, as a table">
+<div class="wide" role="region" tabindex="0" aria-label="Stages 1 to 3">
 <table class="stages">
 <caption>Stages 1 to 3</caption>
 <thead>
 <tr><th scope="col">Candidate</th>
 <th scope="col">Stage 1<br>first preferences</th>
-<th scope="col">Stage 2<br>surplus of 1</th>
-<th scope="col">Stage 3<br>exclusion of 2, last vacancies</th>
+<th scope="col">Stage 2<br>surplus of 1 <bdi>Ann &lt;b&gt;</bdi></th>
+<th scope="col">Stage 3<br>exclusion of 2 <bdi>&quot;Bob&quot; &amp; &#39;Co&#39;</bdi>, last vacancies</th>
 </tr>
 </thead>
 <tbody>
@@ -85,33 +103,12 @@ const DECLARED: &str = r##"
 </tbody>
 </table>
 </div>
-<div class="wide" role="region" tabindex="0" aria-label="Stages 1 to 3, as a picture">
-<svg class="moves" role="img" viewBox="-2 0 900 140">
-<title>Stages 1 to 3: how votes moved</title>
-<rect class="paper" x="-2" width="900" height="100%"/><rect class="kept" y="6" width="24" height="12"/><text x="28" y="16">votes kept</text><rect class="gained" x="132" y="6" width="24" height="12"/><text x="160" y="16">gained at the stage</text><rect class="lost" x="324" y="6" width="24" height="12"/><text x="352" y="16">lost at the stage</text><path class="quota" d="M494.6 4h2.8v16h-2.8z"/><text x="504" y="16">quota</text>
-<text x="0" y="40">Stage 1</text>
-<text x="112" y="40">Stage 2</text>
-<text x="224" y="40">Stage 3</text>
-<g transform="translate(0 15)">
-<g transform="translate(0 30)"><text y="11">1 <tspan>Ann &lt;b&gt;</tspan></text>
-<g transform="translate(0 17)"><path d="M0 -1v12"/><rect class="kept" width="100" height="10"/><rect class="gained" x="100" width="0" height="10"/><path class="quota" d="M66 -1m-1.4 0h2.8v12h-2.8z"/></g>
-<g transform="translate(112 17)"><path d="M0 -1v12"/><rect class="kept" width="66" height="10"/><rect class="lost" x="66" width="34" height="10"/><path class="quota" d="M66 -1m-1.4 0h2.8v12h-2.8z"/></g>
-<g transform="translate(224 17)"><path d="M0 -1v12"/><rect class="kept" width="66" height="10"/><rect class="gained" x="66" width="0" height="10"/><path class="quota" d="M66 -1m-1.4 0h2.8v12h-2.8z"/></g>
-
-<g transform="translate(0 30)"><text y="11">2 <tspan>&quot;Bob&quot; &amp; &#39;Co&#39;</tspan></text>
-<g transform="translate(0 17)"><path d="M0 -1v12"/><rect class="kept" width="16" height="10"/><rect class="gained" x="16" width="0" height="10"/><path class="quota" d="M66 -1m-1.4 0h2.8v12h-2.8z"/></g>
-<g transform="translate(112 17)"><path d="M0 -1v12"/><rect class="kept" width="16" height="10"/><rect class="gained" x="16" width="22" height="10"/><path class="quota" d="M66 -1m-1.4 0h2.8v12h-2.8z"/></g>
-<g transform="translate(224 17)"><path d="M0 -1v12"/><rect class="kept" width="38" height="10"/><rect class="gained" x="38" width="0" height="10"/><path class="quota" d="M66 -1m-1.4 0h2.8v12h-2.8z"/></g>
-
-<g transform="translate(0 30)"><text y="11">3 <tspan>רות</tspan></text>
-<g transform="translate(0 17)"><path d="M0 -1v12"/><rect class="kept" width="33" height="10"/><rect class="gained" x="33" width="0" height="10"/><path class="quota" d="M66 -1m-1.4 0h2.8v12h-2.8z"/></g>
-<g transform="translate(112 17)"><path d="M0 -1v12"/><rect class="kept" width="33" height="10"/><rect class="gained" x="33" width="11" height="10"/><path class="quota" d="M66 -1m-1.4 0h2.8v12h-2.8z"/></g>
-<g transform="translate(224 17)"><path d="M0 -1v12"/><rect class="kept" width="44" height="10"/><rect class="gained" x="44" width="0" height="10"/><path class="quota" d="M66 -1m-1.4 0h2.8v12h-2.8z"/></g>
-
-</g></g></g></g>
-</svg>
-</div>
 <div class="sign">
+<h2>Ward 7 <bdi>&lt;Harbour&gt;</bdi>: elected</h2>
+<ul>
+<li><b>1 <bdi>Ann &lt;b&gt;</bdi></b> <span>6.00000 votes, elected at stage 1</span></li>
+<li><b>3 <bdi>רות</bdi></b> <span>2.66666 votes, elected at stage 3</span></li>
+</ul>
 <h2>Signed</h2>
 <p>Date</p>
 <p>Returning officer</p>
@@ -126,8 +123,17 @@ const DECLARED: &str = r##"
 const NO_STAGE: &str = r##"
 </head>
 <body>
+<p class="running" aria-hidden="true">Ward 7 <bdi>&lt;Harbour&gt;</bdi></p>
 <h1>Ward 7 <bdi>&lt;Harbour&gt;</bdi></h1>
 <p class="open"><strong>This is not a declared result.</strong> The ward is not declared yet, and what stands here may change.</p>
+<div class="top">
+<div>
+<h2>Elected</h2>
+<ul class="names">
+</ul>
+<p>Seats not yet filled: 2</p>
+</div>
+<div>
 <h2>Papers</h2>
 <table class="papers">
 <tr><th scope="row">Seats</th><td>2</td></tr>
@@ -141,10 +147,8 @@ const NO_STAGE: &str = r##"
 <tr><th scope="row">Rejected papers in all</th><td>0</td></tr>
 <tr><th scope="row">Papers in all</th><td>9</td></tr>
 </table>
-<h2>Elected</h2>
-<ul>
-</ul>
-<p>Seats not yet filled: 2</p>
+</div>
+</div>
 <h2>Lots drawn</h2>
 <p>No lot was drawn.</p>
 <h2>Stages</h2>
@@ -157,16 +161,28 @@ const NO_STAGE: &str = r##"
 const UNCONTESTED: &str = r##"
 </head>
 <body>
+<p class="running" aria-hidden="true">Ward 7 <bdi>&lt;Harbour&gt;</bdi></p>
 <h1>Ward 7 <bdi>&lt;Harbour&gt;</bdi></h1>
+<p class="declared"><strong>Declared</strong></p>
+<div class="top">
+<div>
 <h2>Elected</h2>
-<p>Seats: 4. The ward is uncontested: there is no poll, and all its candidates are elected.</p>
-<ul>
-<li>1 <bdi>Ann &lt;b&gt;</bdi></li>
-<li>2 <bdi>&quot;Bob&quot; &amp; &#39;Co&#39;</bdi></li>
-<li>3 <bdi>רות</bdi></li>
+<ul class="names">
+<li><b>1 <bdi>Ann &lt;b&gt;</bdi></b></li>
+<li><b>2 <bdi>&quot;Bob&quot; &amp; &#39;Co&#39;</bdi></b></li>
+<li><b>3 <bdi>רות</bdi></b></li>
 </ul>
 <p>Seats that stay empty: 1</p>
+<p>Seats: 4. The ward is uncontested: there is no poll, and all its candidates are elected.</p>
+</div>
+</div>
 <div class="sign">
+<h2>Ward 7 <bdi>&lt;Harbour&gt;</bdi>: elected</h2>
+<ul>
+<li><b>1 <bdi>Ann &lt;b&gt;</bdi></b></li>
+<li><b>2 <bdi>&quot;Bob&quot; &amp; &#39;Co&#39;</bdi></b></li>
+<li><b>3 <bdi>רות</bdi></b></li>
+</ul>
 <h2>Signed</h2>
 <p>Date</p>
 <p>Returning officer</p>
@@ -181,19 +197,71 @@ const UNCONTESTED: &str = r##"
 const NOT_DECLARED: &str = r##"
 </head>
 <body>
+<p class="running" aria-hidden="true">Ward 7 <bdi>&lt;Harbour&gt;</bdi></p>
 <h1>Ward 7 <bdi>&lt;Harbour&gt;</bdi></h1>
 <p class="open"><strong>This is not a declared result.</strong> The ward is not declared yet, and what stands here may change.</p>
+<div class="top">
+<div>
 <h2>Elected</h2>
-<p>Seats: 4. The ward is uncontested: there is no poll, and all its candidates are elected.</p>
-<ul>
-<li>1 <bdi>Ann &lt;b&gt;</bdi></li>
-<li>2 <bdi>&quot;Bob&quot; &amp; &#39;Co&#39;</bdi></li>
-<li>3 <bdi>רות</bdi></li>
+<ul class="names">
+<li><b>1 <bdi>Ann &lt;b&gt;</bdi></b></li>
+<li><b>2 <bdi>&quot;Bob&quot; &amp; &#39;Co&#39;</bdi></b></li>
+<li><b>3 <bdi>רות</bdi></b></li>
 </ul>
 <p>Seats that stay empty: 1</p>
+<p>Seats: 4. The ward is uncontested: there is no poll, and all its candidates are elected.</p>
+</div>
+</div>
 </body>
 </html>
 "##;
+
+/// What stands above the style of the page of all wards.
+const INDEX_HEAD: &str = r##"<!DOCTYPE html>
+<html lang="en">
+<head>
+<meta charset="utf-8">
+<meta name="viewport" content="width=device-width, initial-scale=1">
+<title>Wards</title>
+"##;
+
+/// What stands below it.
+const INDEX: &str = r##"
+</head>
+<body>
+<p class="title" dir="auto">Vote &amp; &lt;Council&gt;</p>
+<h1>Wards</h1>
+<table class="index">
+<thead>
+<tr><th scope="col">Ward</th><th scope="col">Seats</th><th scope="col">How it stands</th><th scope="col">Elected</th></tr>
+</thead>
+<tbody>
+<tr><th scope="row">7 <bdi>&lt;Harbour&gt;</bdi></th><td>2</td><td><b>declared</b></td><td>
+<ul>
+<li>1 <bdi>Ann &lt;b&gt;</bdi></li>
+<li>3 <bdi>רות</bdi></li>
+</ul>
+</td></tr>
+<tr><th scope="row">8 <bdi>Quay</bdi></th><td>4</td><td>sealed, not declared yet</td><td>
+<ul>
+</ul>
+</td></tr>
+<tr><th scope="row">9 <bdi>Mill</bdi></th><td>1</td><td>its papers are being keyed</td><td>
+<ul>
+</ul>
+</td></tr>
+<tr><th scope="row">10 <bdi>Hill</bdi></th><td>1</td><td>nominations are open</td><td>
+<ul>
+</ul>
+</td></tr>
+</tbody>
+</table>
+</body>
+</html>
+"##;
+
+/// A title that looks like markup.
+const TITLE: &str = "Vote & <Council>";
 
 /// What brings something in from elsewhere.
 const FOREIGN: [&str; 5] = ["//", "@import", "<script", "<link", "<img"];
@@ -214,9 +282,9 @@ fn stage_of(action: Action, units: [u64; 3], elected: Columns, lost: u64) -> Sta
 }
 
 /// Compares a page with what stands above and below its style, and sees that nothing comes from elsewhere.
-fn compare(rt: &impl Abort, text: &str, body: &str) -> Result<(), Fail> {
+fn compare(rt: &impl Abort, text: &str, above: &str, body: &str) -> Result<(), Fail> {
     let (head, behind) = text.split_once("<style>").ok_or("no style")?;
-    assert_eq!(rt; head, HEAD);
+    assert_eq!(rt; head, above);
     let (_, below) = behind.split_once("</style>").ok_or("no end of the style")?;
     assert_eq!(rt; below, body);
     for word in &FOREIGN {
@@ -229,18 +297,20 @@ fn compare(rt: &impl Abort, text: &str, body: &str) -> Result<(), Fail> {
 fn prints(
     rt: &(impl Abort + AllocGlobal),
     ward: &Ward,
+    title: &str,
     is_declared: bool,
     stages: &[Stage],
     lots: &[(u8, u8)],
     body: &str,
 ) -> Result<(), Fail> {
     assert!(rt; can_be_printed(ward));
-    let text = page_text(rt.alloc(), ward, is_declared, stages, lots)?;
-    compare(rt, text.as_str(), body)?;
+    let text = page_text(rt.alloc(), ward, title, is_declared, stages, lots)?;
+    compare(rt, text.as_str(), HEAD, body)?;
     let mut page = Vec::new(rt.alloc());
     write_page(
         &mut Counted::new(&mut page),
         ward,
+        title,
         is_declared,
         stages,
         lots,
@@ -248,32 +318,94 @@ fn prints(
     assert!(rt; page.as_slice() == text.as_bytes());
     let mut room = [0; 20];
     let mut sink = Counted::new(room.as_mut_slice());
-    assert!(rt; write_page(&mut sink, ward, is_declared, stages, lots).is_err());
+    assert!(rt; write_page(&mut sink, ward, title, is_declared, stages, lots).is_err());
     assert_eq!(rt; sink.failures(), 1);
     assert!(rt; text.as_bytes().starts_with(&room));
     Ok(())
 }
 
-/// Nine stages stand in two blocks, of eight and of one.
-fn prints_blocks(
+/// Sees that words stand on the page of a ward that isn't declared.
+fn has_words(
     rt: &(impl Abort + AllocGlobal),
     ward: &Ward,
-    stages: &[Stage; 9],
+    stages: &[Stage],
+    lots: &[(u8, u8)],
+    words: &[&str],
 ) -> Result<(), Fail> {
     assert!(rt; can_be_printed(ward));
-    let text = page_text(rt.alloc(), ward, false, stages, &[])?;
-    for words in [
-        " aria-label=\"Stages 1 to 8, as a table\">",
-        "<caption>Stages 1 to 8</caption>",
-        " aria-label=\"Stages 1 to 8, as a picture\">",
-        "<title>Stages 1 to 8: how votes moved</title>",
-        " aria-label=\"Stage 9, as a table\">",
-        "<caption>Stage 9</caption>",
-        " aria-label=\"Stage 9, as a picture\">",
-        "<title>Stage 9: how votes moved</title>",
-    ] {
-        assert!(rt; text.as_str().find(words).is_some());
+    let text = page_text(rt.alloc(), ward, "", false, stages, lots)?;
+    for some in words {
+        assert!(rt; text.as_str().find(*some).is_some());
     }
+    Ok(())
+}
+
+/// Nine stages stand in two tables, of eight and of one. A lot among three, and one whose stage isn't done yet.
+fn prints_tables_and_lots(rt: &(impl Abort + AllocGlobal), ward: &Ward) -> Result<(), Fail> {
+    let nobody = Columns::empty();
+    let equal = stage_of(Action::First, [300000; 3], nobody, 0);
+    let excluded = stage_of(Action::Exclude(3), [300000, 300000, 0], nobody, 0);
+    has_words(
+        rt,
+        ward,
+        &[excluded; 9],
+        &[],
+        &[
+            " aria-label=\"Stages 1 to 8\">",
+            "<caption>Stages 1 to 8</caption>",
+            " aria-label=\"Stage 9\">",
+            "<caption>Stage 9</caption>",
+        ],
+    )?;
+    has_words(
+        rt,
+        ward,
+        &[equal, excluded],
+        &[(2, 3), (3, 1)],
+        &[
+            "<li>Lot at stage 2 between 1 <bdi>Ann &lt;b&gt;</bdi>, 2 <bdi>&quot;Bob&quot; &amp; &#39;Co&#39;</bdi> and 3 <bdi>רות</bdi>: excluded 3 <bdi>רות</bdi></li>",
+            "<li>Lot at stage 3 between 1 <bdi>Ann &lt;b&gt;</bdi> and 2 <bdi>&quot;Bob&quot; &amp; &#39;Co&#39;</bdi>: drawn 1 <bdi>Ann &lt;b&gt;</bdi></li>",
+        ],
+    )
+}
+
+/// A ward of the page of all wards.
+fn listed(
+    alloc: Global,
+    number: u32,
+    name: &str,
+    seats: u32,
+    standing: Standing,
+) -> Result<ListedWard, Fail> {
+    Ok(ListedWard {
+        number,
+        name: String::from_str(alloc, name)?,
+        seats,
+        standing,
+        elected: Vec::new(alloc),
+    })
+}
+
+/// Prints the page of all wards: as a text, and to a sink of 20 bytes.
+fn prints_index(rt: &(impl Abort + AllocGlobal)) -> Result<(), Fail> {
+    let alloc = rt.alloc();
+    let mut declared = listed(alloc, 7, "<Harbour>", 2, Standing::Declared)?;
+    declared
+        .elected
+        .push((1, String::from_str(alloc, "Ann <b>")?))?;
+    declared.elected.push((3, String::from_str(alloc, "רות")?))?;
+    let mut wards = Vec::new(alloc);
+    wards.push(declared)?;
+    wards.push(listed(alloc, 8, "Quay", 4, Standing::Sealed)?)?;
+    wards.push(listed(alloc, 9, "Mill", 1, Standing::Keying)?)?;
+    wards.push(listed(alloc, 10, "Hill", 1, Standing::Nominations)?)?;
+    let text = index_text(alloc, TITLE, &wards)?;
+    compare(rt, text.as_str(), INDEX_HEAD, INDEX)?;
+    let mut room = [0; 20];
+    let mut sink = Counted::new(room.as_mut_slice());
+    assert!(rt; write_index(&mut sink, TITLE, &wards).is_err());
+    assert_eq!(rt; sink.failures(), 1);
+    assert!(rt; text.as_bytes().starts_with(&room));
     Ok(())
 }
 
@@ -310,16 +442,17 @@ fn pages(rt: HostRuntime) -> Result<(), Fail> {
             rejected: [1, 20, 300, 4000, 50000],
         }),
     };
-    prints(&rt, &ward, true, &stages, &[(3, 2)], DECLARED)?;
-    prints_blocks(&rt, &ward, &[stages[1]; 9])?;
+    prints(&rt, &ward, TITLE, true, &stages, &[(3, 2)], DECLARED)?;
+    prints_tables_and_lots(&rt, &ward)?;
+    prints_index(&rt)?;
     ward.poll = Some(Poll {
         valid: 9,
         rejected: [0; 5],
     });
-    prints(&rt, &ward, false, &[], &[], NO_STAGE)?;
+    prints(&rt, &ward, "", false, &[], &[], NO_STAGE)?;
     ward.seats = 4;
     ward.poll = None;
-    prints(&rt, &ward, true, &stages, &[], UNCONTESTED)?;
-    prints(&rt, &ward, false, &[], &[], NOT_DECLARED)?;
+    prints(&rt, &ward, "", true, &stages, &[], UNCONTESTED)?;
+    prints(&rt, &ward, "", false, &[], &[], NOT_DECLARED)?;
     Ok(())
 }

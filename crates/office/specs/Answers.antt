@@ -30,6 +30,12 @@ told_of (accepted next reply) = done reply
 told_of (kept reply) = again reply
 told_of (refused why) = no why
 
+-- it tells that a request was accepted now
+abbrev pub is_done : Told → Bool
+is_done (done reply) = true
+is_done (again reply) = false
+is_done (no why) = false
+
 -- the reply of an accepted or a kept request
 abbrev pub reply_of : Outcome → List ℕ
 reply_of (accepted next reply) = reply

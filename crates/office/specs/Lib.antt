@@ -4,4 +4,5 @@ pub mod Runs
 pub mod Clerks
 pub mod Reads
 pub mod Sheets
+pub mod Index
 pub mod Overviews

@@ -1,10 +1,10 @@
 -- What the office is told of how all stands.
 use Rattle.std.specs.Prelude.{ℕ, Bool, true, ◌||◌, if◌then◌else◌, List, Option, Some, None, Result, Ok, Err}
 use Rattle.register.specs.declared.refusal.Reason.{Reason}
-use Rattle.register.specs.declared.refusal.Reason.TheVariants.{NumberOutOfRange, NoSuchWard, NoSuchBatch, NoDifference}
+use Rattle.register.specs.declared.refusal.Reason.TheVariants.{NumberOutOfRange, NoSuchWard, NoSuchBatch, NoDifference, NotTaken}
 use Rattle.register.specs.Ranges.{is_batch_number, is_clerk, is_office, is_ward_number}
 use Rattle.register.specs.Offices.{OfficeState, ReceiptEntry}
-use Rattle.store.specs.Overviews.{BatchView, DifferencesView, DoubtfulView, WardView, batch_views_at, differences_at, doubtful_at, receipts_of, ward_views}
+use Rattle.store.specs.Overviews.{BatchView, DifferencesView, DoubtfulPapersView, PapersView, WardView, batch_views_at, differences_at, doubtful_at, papers_at, receipts_of, ward_views}
 use Rattle.office.specs.Reads.{found_or}
 
 -- what is told of all wards
@@ -16,7 +16,7 @@ abbrev pub batches_told : OfficeState → ℕ → Result (List BatchView) Reason
 batches_told s ward = if is_ward_number ward then found_or NoSuchWard (batch_views_at s ward) else Err NumberOutOfRange
 
 -- what is told of their doubtful papers
-abbrev pub doubtful_told : OfficeState → ℕ → Result (List DoubtfulView) Reason
+abbrev pub doubtful_told : OfficeState → ℕ → Result DoubtfulPapersView Reason
 doubtful_told s ward = if is_ward_number ward then found_or NoSuchWard (doubtful_at s ward) else Err NumberOutOfRange
 
 -- the papers of a batch on which its keyings differ, where it differs
@@ -27,6 +27,15 @@ differing_or why (Some d) = if d.differs then Ok d else Err NoDifference
 -- what is told of them
 abbrev pub differences_told : OfficeState → ℕ → Result DifferencesView Reason
 differences_told s batch = if is_batch_number batch then differing_or NoSuchBatch (differences_at s batch) else Err NumberOutOfRange
+
+-- the papers of a batch as they count, where it is taken
+abbrev pub taken_or : Reason → Option PapersView → Result PapersView Reason
+taken_or why None = Err why
+taken_or why (Some p) = if p.taken then Ok p else Err NotTaken
+
+-- what is told of them
+abbrev pub papers_told : OfficeState → ℕ → Result PapersView Reason
+papers_told s batch = if is_batch_number batch then taken_or NoSuchBatch (papers_at s batch) else Err NumberOutOfRange
 
 -- an actor who may have receipts, the office or a clerk, or all of them
 abbrev pub may_have_receipts : Option ℕ → Bool

@@ -7,6 +7,7 @@ use Rattle.register.specs.declared.refusal.Reason.TheVariants.{NumberOutOfRange,
 use Rattle.register.specs.Ranges.{is_clerk, is_ward_number, is_batch_number}
 use Rattle.register.specs.Offices.{OfficeState}
 use Rattle.register.specs.Standings.{StatusEntry, WorkEntry, status_at, columns_at, work_of}
+use Rattle.register.specs.Steps.{StepEntry, next_at}
 use Rattle.tables.specs.declared.fault.Fault.{Fault}
 use Rattle.tables.specs.declared.fault.Fault.TheVariants.{Memory, Store}
 use Rattle.tables.specs.Reading.{FailsBy}
@@ -24,6 +25,10 @@ found_or why None = Err why
 -- what is told of how a ward stands
 abbrev pub status_told : OfficeState → ℕ → Result StatusEntry Reason
 status_told s ward = if is_ward_number ward then found_or NoSuchWard (status_at s ward) else Err NumberOutOfRange
+
+-- what is told of what comes next in a ward
+abbrev pub next_told : OfficeState → ℕ → Result StepEntry Reason
+next_told s ward = if is_ward_number ward then found_or NoSuchWard (next_at s ward) else Err NumberOutOfRange
 
 -- what is told of the columns of a batch's papers
 abbrev pub columns_told : OfficeState → ℕ → Result (List ℕ) Reason

@@ -1,9 +1,10 @@
 -- A list of requests, answered one after the other.
-use Rattle.std.specs.Prelude.{◌≡◌, ◌⊎◌, ◌≤◌, ◌+◌, ℕ, Bool, List, [], ◌∷◌, ◌++◌, length, map, take, Err}
+use Rattle.std.specs.Prelude.{◌≡◌, ◌⊎◌, ◌≤◌, ◌+◌, ℕ, Bool, true, List, [], ◌∷◌, ◌++◌, length, map, take, Err}
+use Rattle.std.specs.List.{list_all}
 use Rattle.sqlite.specs.State.{State}
 use Rattle.register.specs.declared.command.Request.{Request}
 use Rattle.register.specs.Offices.{OfficeState, empty_office}
-use Rattle.register.specs.Machine.{Outcome, step_of, after_one, after, accepted_of}
+use Rattle.register.specs.Machine.{Outcome, step_of, after_one, after, accepted_of, is_accepted}
 use Rattle.tables.specs.declared.fault.Fault.{Fault}
 use Rattle.tables.specs.declared.fault.Fault.TheVariants.{Memory}
 use Rattle.store.specs.Offices.{LeavesState}
@@ -14,6 +15,15 @@ use Rattle.office.specs.Answers.{told, told_of, IsOpenAt, Handled}
 abbrev pub outcomes : OfficeState → List Request → List Outcome
 outcomes s [] = []
 outcomes s (r ∷ rs) = step_of s r ∷ outcomes (after_one s r) rs
+
+-- each of some requests is accepted, where its turn comes
+abbrev pub are_accepted : OfficeState → List Request → Bool
+are_accepted s requests = list_all is_accepted (outcomes s requests)
+
+-- Requests lead to a state: played over an empty office each of them is accepted, and the last one leaves that state.
+pub record LeadTo (requests : List Request) (s : OfficeState) : Type 0 where
+  pub accepted : are_accepted empty_office requests ≡ true
+  pub leads : after empty_office requests ≡ s
 
 -- the answers are those of the machine to the first requests, as many as there are answers
 pub record AnswersFirst (s : OfficeState) (requests : List Request) (answers : List Answer) : Type 0 where

@@ -84,9 +84,9 @@ lots_shown e = if has_count e then e.lots else []
 abbrev pub ballots_of : ElectionEntry → List ℕ
 ballots_of e = ballots (election_shown e) (bundles_shown e) (lots_shown e)
 
--- the result as a page to print and sign, where declared; before, how far the count is
-abbrev pub result_page_of : ElectionEntry → List ℕ
-result_page_of e = page (election_shown e) (is_declared e.ward.phase) (stages_shown e) (lots_shown e)
+-- the result as a page to print and sign, under a title, where declared; before, how far the count is
+abbrev pub result_page_of : List ℕ → ElectionEntry → List ℕ
+result_page_of title e = page (election_shown e) title (is_declared e.ward.phase) (stages_shown e) (lots_shown e)
 
 -- the stages as a table for a spreadsheet
 abbrev pub table_of : ElectionEntry → List ℕ
@@ -97,7 +97,7 @@ abbrev pub is_told_in : Text → Phase → Bool
 is_told_in Sheet phase = is_counted phase
 is_told_in Declaration phase = is_declared phase
 is_told_in Ballots phase = is_counted phase
-is_told_in Page phase = is_counted phase
+is_told_in (Page title) phase = is_counted phase
 is_told_in Table phase = is_counted phase
 
 -- the text of an election
@@ -105,7 +105,7 @@ abbrev pub text_shown : Text → ElectionEntry → List ℕ
 text_shown Sheet e = sheet_of e
 text_shown Declaration e = declaration_of e
 text_shown Ballots e = ballots_of e
-text_shown Page e = result_page_of e
+text_shown (Page title) e = result_page_of title.now e
 text_shown Table e = table_of e
 
 -- the text of the ward that was found

@@ -210,6 +210,7 @@ impl<S: Alter> Office<S> {
         ensures closes { IfSome result.fault (λ f. (f ≡ Fault.Memory) ⊎ (self.new.closed ≡ true)) }
         ensures wears { Wears (state S.Store self.old.held) (state S.Store self.new.held) }
         ensures closed { self.old.closed ≡ true → (result.fault ≡ Some Fault.Closed) × (vec_len result.answers ≡ 0) × (self.new ≡ self.old) }
+        ensures clean { HasCleanDisk (state S.Store self.new.held) → HasCleanDisk (state S.Store self.old.held) }
     {
         if self.closed {
             return Run::stopped(Vec::new(self.alloc), Fault::Closed);

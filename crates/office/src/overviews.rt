@@ -1,15 +1,15 @@
 //! What the office alone is told of how all stands: its wards, the batches of a ward, their doubtful papers, where
-//! a batch differs, and what was kept. No read changes the state.
+//! a batch differs, the papers of a batch as they count, and what was kept. No read changes the state.
 #![tactic(auto, using(crate::proofs::StopLemmas::stops_of_memory))]
 
 ghost use Rattle.std.specs.Prelude.{◌≡◌, true, map, IfErr, Err};
 ghost use Rattle.sqlite.specs.Held.{state};
 ghost use Rattle.register.specs.Offices.{receipt_entry};
 ghost use Rattle.tables.specs.Reading.{OnlyReads};
-ghost use Rattle.store.specs.Overviews.{ward_view, batch_view, doubtful_view, differences_view};
+ghost use Rattle.store.specs.Overviews.{ward_view, batch_view, doubtful_papers_view, differences_view, papers_view};
 ghost use Rattle.office.specs.Answers.{WhenOpenAt};
 ghost use Rattle.office.specs.Reads.{ReadWhenOpen, StopsBy, ClosesAt};
-ghost use Rattle.office.specs.Overviews.{wards_told, batches_told, doubtful_told, differences_told, receipts_told, may_have_receipts};
+ghost use Rattle.office.specs.Overviews.{wards_told, batches_told, doubtful_told, differences_told, papers_told, receipts_told, may_have_receipts};
 
 use crate::answers::Stop;
 use crate::offices::Office;
@@ -17,7 +17,7 @@ use crate::reads::{read, refused};
 use register::ranges::{is_batch_number, is_clerk, is_ward_number};
 use register::{Reason, Receipt};
 use sqlite::Alter;
-use store::{BatchOverview, Differences, DoubtfulPaper, Fault, WardOverview};
+use store::{BatchOverview, CountedPapers, Differences, DoubtfulPapers, Fault, WardOverview};
 
 /// The office itself, as an actor.
 const OFFICE: u32 = 0;
@@ -61,13 +61,13 @@ impl<S: Alter> Office<S> {
         read!(self, is_ward_number(ward) => load_batches(ward), Reason::NoSuchWard)
     }
 
-    /// The doubtful papers of the batches of a ward that are taken, by batch and paper, each with its verdict,
-    /// if there is one.
+    /// The doubtful papers of the batches of a ward that are taken, by batch and paper, each as it counts, with its
+    /// verdict, if there is one; and the candidates of the ward.
     ///
     /// Refused where the number is outside 1 to 99, or no ward has it. Nothing is changed. `Memory` leaves
     /// the office open; any other fault closes it. A closed office tells `Closed`.
-    pub fn doubtful(&mut self, ward: u32) -> Result<Vec<DoubtfulPaper>, Stop>
-        ensures reads { ReadWhenOpen (state S.Store) self.old self.new (λ papers. map doubtful_view papers.items) (λ s. doubtful_told s ward) result }
+    pub fn doubtful(&mut self, ward: u32) -> Result<DoubtfulPapers, Stop>
+        ensures reads { ReadWhenOpen (state S.Store) self.old self.new doubtful_papers_view (λ s. doubtful_told s ward) result }
         ensures same { OnlyReads (state S.Store self.old.held) (state S.Store self.new.held) }
         ensures closes { IfErr result (ClosesAt self.new.closed) }
         ensures cause { WhenOpenAt (state S.Store) self.old self.new (λ s. IfErr result (StopsBy (state S.Store self.old.held) (state S.Store self.new.held))) }
@@ -93,6 +93,29 @@ impl<S: Alter> Office<S> {
         match self.store.load_differences(batch) {
             Ok(Some(found)) if found.differs => Ok(found),
             Ok(Some(_)) => Err(refused(self.alloc, Reason::NoDifference)),
+            Ok(None) => Err(refused(self.alloc, Reason::NoSuchBatch)),
+            Err(fault) => Err(self.stopped_by(fault)),
+        }
+    }
+
+    /// The papers of a batch that is taken, in the order of their numbers, each as it counts; and the candidates of
+    /// its ward.
+    ///
+    /// Refused where the number is outside 1 to 9999, no batch has it, or the batch isn't taken. Nothing is
+    /// changed. `Memory` leaves the office open; any other fault closes it. A closed office tells `Closed`.
+    pub fn papers(&mut self, batch: u32) -> Result<CountedPapers, Stop>
+        ensures reads { ReadWhenOpen (state S.Store) self.old self.new papers_view (λ s. papers_told s batch) result }
+        ensures same { OnlyReads (state S.Store self.old.held) (state S.Store self.new.held) }
+        ensures closes { IfErr result (ClosesAt self.new.closed) }
+        ensures cause { WhenOpenAt (state S.Store) self.old self.new (λ s. IfErr result (StopsBy (state S.Store self.old.held) (state S.Store self.new.held))) }
+        ensures closed { self.old.closed ≡ true → (result ≡ Err (Stop.Fault Fault.Closed)) × (self.new ≡ self.old) }
+    {
+        if let Some(stop) = self.stop_before(is_batch_number(batch)) {
+            return Err(stop);
+        }
+        match self.store.load_batch_papers(batch) {
+            Ok(Some(found)) if found.taken => Ok(found),
+            Ok(Some(_)) => Err(refused(self.alloc, Reason::NotTaken)),
             Ok(None) => Err(refused(self.alloc, Reason::NoSuchBatch)),
             Err(fault) => Err(self.stopped_by(fault)),
         }

@@ -4,13 +4,14 @@
 ghost use Rattle.std.specs.Prelude.{◌≡◌, ◌⊎◌, Bool, true, false, map, IfOk, IfErr, IfSome, IfNone, IsSome, OnOk, Some, None, Ok, Err, string_bytes};
 ghost use Rattle.sqlite.specs.Held.{state};
 ghost use Rattle.register.specs.Standings.{status_entry, work_entry, work_of};
+ghost use Rattle.register.specs.Steps.{step_entry};
 ghost use Rattle.register.specs.Seen.{seen_by};
 ghost use Rattle.register.specs.declared.refusal.Reason.{Reason};
 ghost use Rattle.tables.specs.Reading.{OnlyReads};
 ghost use Rattle.register.specs.Elections.{ElectionEntry};
 ghost use Rattle.register.specs.Tabulated.{IsCountedWard, IsSheetOf};
 ghost use Rattle.office.specs.Answers.{WhenOpenAt};
-ghost use Rattle.office.specs.Reads.{ReadWhenOpen, status_told, columns_told, work_told, StopsFor, StopsBy, ClosesAt};
+ghost use Rattle.office.specs.Reads.{ReadWhenOpen, status_told, next_told, columns_told, work_told, StopsFor, StopsBy, ClosesAt};
 ghost use Rattle.office.specs.Sheets.{is_told_in, text_shown, text_told, StopsText, StopsWriting, IsTextual, IsOfMemory};
 
 use crate::answers::Stop;
@@ -18,7 +19,7 @@ use crate::offices::Office;
 use crate::sheets::{Text, declaration, text_of, texts_are_there};
 use paper::Columns;
 use register::ranges::{is_batch_number, is_clerk, is_ward_number};
-use register::{CountedWard, Reason, Refusal, Status, WardSheet, Work};
+use register::{CountedWard, NextStep, Reason, Refusal, Status, WardSheet, Work};
 use sqlite::Alter;
 use std::alloc::{AllocError, Global};
 use store::Fault;
@@ -107,6 +108,20 @@ impl<S: Alter> Office<S> {
         read!(self, is_ward_number(ward) => load_status(ward), Reason::NoSuchWard)
     }
 
+    /// What comes next in the election of a ward, with its candidates once it is counted.
+    ///
+    /// Refused where the number is outside 1 to 99, or no ward has it. Nothing is changed. `Memory` leaves
+    /// the office open; any other fault closes it. A closed office tells `Closed`.
+    pub fn next_step(&mut self, ward: u32) -> Result<NextStep, Stop>
+        ensures reads { ReadWhenOpen (state S.Store) self.old self.new step_entry (λ s. next_told s ward) result }
+        ensures same { OnlyReads (state S.Store self.old.held) (state S.Store self.new.held) }
+        ensures closes { IfErr result (ClosesAt self.new.closed) }
+        ensures cause { WhenOpenAt (state S.Store) self.old self.new (λ s. IfErr result (StopsBy (state S.Store self.old.held) (state S.Store self.new.held))) }
+        ensures closed { self.old.closed ≡ true → (result ≡ Err (Stop.Fault Fault.Closed)) × (self.new ≡ self.old) }
+    {
+        read!(self, is_ward_number(ward) => load_next(ward), Reason::NoSuchWard)
+    }
+
     /// The columns of the papers of a batch: the numbers of its ward's candidates, in ascending order.
     ///
     /// Refused where the number is outside 1 to 9999, or no batch has it. Nothing is changed. `Memory` leaves
@@ -160,7 +175,7 @@ impl<S: Alter> Office<S> {
     /// the ward is declared, any other before it is sealed. Nothing is changed. `Memory` leaves the office open; any
     /// other fault closes it. A closed office tells `Closed`.
     pub fn text(&mut self, ward: u32, text: Text) -> Result<String, Stop>
-        ensures reads { ReadWhenOpen (state S.Store) self.old self.new string_bytes (λ s. text_told text s ward) result }
+        ensures reads { ReadWhenOpen (state S.Store) self.old self.new string_bytes (λ s. text_told text.entry s ward) result }
         ensures same { OnlyReads (state S.Store self.old.held) (state S.Store self.new.held) }
         ensures closes { IfErr result (ClosesAt self.new.closed) }
         ensures cause { WhenOpenAt (state S.Store) self.old self.new (λ s. IfErr result (StopsBy (state S.Store self.old.held) (state S.Store self.new.held))) }
@@ -205,8 +220,8 @@ impl<S: Alter> Office<S> {
     /// A text of a ward that was read. Only want of memory fails it where the ward's texts can be written, as
     /// those of each ward of an office can.
     fn read_text(&mut self, sheet: &WardSheet, text: Text) -> Result<String, Stop>
-        ensures told { IfOk result (λ told. (is_told_in text sheet.now.counted.ward.phase ≡ true) × ((e : ElectionEntry) → IsSheetOf e sheet.now → string_bytes told ≡ text_shown text e)) }
-        ensures stopped { self.old.closed ≡ false → IfErr result (λ stop. StopsText text sheet.now.counted.ward.phase self.new.closed stop) }
+        ensures told { IfOk result (λ told. (is_told_in text.entry sheet.now.counted.ward.phase ≡ true) × ((e : ElectionEntry) → IsSheetOf e sheet.now → string_bytes told ≡ text_shown text.entry e)) }
+        ensures stopped { self.old.closed ≡ false → IfErr result (λ stop. StopsText text.entry sheet.now.counted.ward.phase self.new.closed stop) }
         ensures closes { IfErr result (ClosesAt self.new.closed) }
         ensures cause { (e : ElectionEntry) → IsSheetOf e sheet.now → IsTextual e → IfErr result IsOfMemory }
         ensures held { self.new.held ≡ self.old.held }

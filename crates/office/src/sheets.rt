@@ -31,28 +31,28 @@ pub fn texts_are_there()
 
 /// Which text of a ward is told.
 #[derive(Clone, Copy, Debug)]
-pub enum Text {
+pub enum Text<'a> {
     /// The stage sheet, once the ward is sealed.
     Sheet,
     /// The declaration, once it is declared.
     Declaration,
     /// The ballots as a file that counting programs share, once the ward is sealed.
     Ballots,
-    /// The result as a page to print and sign, once the ward is sealed.
-    Page,
+    /// The result as a page to print and sign, once the ward is sealed, under this title; an empty one is left out.
+    Page(&'a str),
     /// The stages as a table for a spreadsheet, once the ward is sealed.
     Table,
 }
 
-impl Text {
+impl<'a> Text<'a> {
     /// Whether the text is told in a phase.
     pub(crate) fn is_told_in(self, phase: Phase) -> bool
-        ensures is { result ≡ is_told_in self phase }
+        ensures is { result ≡ is_told_in self.entry phase }
         ensures counted { result ≡ true → is_counted phase ≡ true }
     {
         match self {
             Text::Declaration => matches!(phase, Phase::Declared),
-            Text::Sheet | Text::Ballots | Text::Page | Text::Table => {
+            Text::Sheet | Text::Ballots | Text::Page(_) | Text::Table => {
                 matches!(phase, Phase::Sealed | Phase::Declared)
             }
         }
@@ -172,7 +172,7 @@ fn written(
     text: Text,
 ) -> Result<String, AllocError>
     requires { CanBePrinted ward.now }
-    ensures { IfOk result (λ told. (e : ElectionEntry) → IsCountedWard e counted.now → is_counted e.ward.phase ≡ true → shown ward.now ≡ election_shown e → string_bytes told ≡ text_shown text e) }
+    ensures { IfOk result (λ told. (e : ElectionEntry) → IsCountedWard e counted.now → is_counted e.ward.phase ≡ true → shown ward.now ≡ election_shown e → string_bytes told ≡ text_shown text.entry e) }
 {
     match text {
         Text::Sheet => sheet_text(alloc, ward, stages_of(counted)),
@@ -181,11 +181,12 @@ fn written(
             let none = Bundles::new(alloc);
             ballots_text(alloc, ward, bundles_of(counted, &none), lots_of(counted))
         }
-        Text::Page => {
+        Text::Page(title) => {
             let is_declared = Text::Declaration.is_told_in(counted.ward.phase);
             page_text(
                 alloc,
                 ward,
+                title,
                 is_declared,
                 stages_of(counted),
                 lots_of(counted),
@@ -202,7 +203,7 @@ pub(crate) fn text_of(
     sheet: &WardSheet,
     text: Text,
 ) -> Result<Option<String>, AllocError>
-    ensures is { IfOk result (λ found. IfSome found (λ told. (e : ElectionEntry) → IsSheetOf e sheet.now → is_counted e.ward.phase ≡ true → string_bytes told ≡ text_shown text e)) }
+    ensures is { IfOk result (λ found. IfSome found (λ told. (e : ElectionEntry) → IsSheetOf e sheet.now → is_counted e.ward.phase ≡ true → string_bytes told ≡ text_shown text.entry e)) }
     ensures some { IfOk result (λ found. (e : ElectionEntry) → IsSheetOf e sheet.now → is_counted e.ward.phase ≡ true → IsTextual e → IsSome found) }
 {
     let counted = &sheet.counted;

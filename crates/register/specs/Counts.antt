@@ -98,10 +98,14 @@ subject_of (Advance ward) = codes "advance " ++ decimal ward
 subject_of (Lot ward stage candidate) = codes "lot " ++ (decimal ward ++ (codes " " ++ decimal stage))
 subject_of (Declare ward) = codes "declare " ++ decimal ward
 
--- the stage after those done, at most the last that a count may have
+-- the stage after so many that are done, at most the last that a count may have
+abbrev pub stage_after : ℕ → ℕ
+stage_after done = if nat_le last_lot_stage done then done else done + 1
+
+-- the stage after those done in a ward
 abbrev pub next_stage : Option WardEntry → ℕ
 next_stage None = 1
-next_stage (Some w) = if nat_le last_lot_stage w.done then w.done else w.done + 1
+next_stage (Some w) = stage_after w.done
 
 -- what is told of a poll: its valid papers, its rejected ones, and the quota
 abbrev pub poll_told : Option PollEntry → List ℕ

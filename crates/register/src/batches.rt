@@ -21,7 +21,7 @@ use std::alloc::{AllocError, Global};
 
 /// A batch of ballot papers: its number (1 to 9999, over all wards), its ward (1 to 99), how many papers
 /// it has (1 to 500), the two clerks who first key it (1 to 999), and its current round (1 to 99).
-#[derive(Drop)]
+#[derive(PartialEq, Drop)]
 pub struct Batch {
     pub number: u32,
     pub ward: u32,
@@ -32,7 +32,7 @@ pub struct Batch {
 }
 
 /// A third clerk (1 to 999) who keys a batch (1 to 9999) in its current and its later rounds.
-#[derive(Drop)]
+#[derive(PartialEq, Drop)]
 pub struct ThirdClerk {
     pub batch: u32,
     pub clerk: u32,

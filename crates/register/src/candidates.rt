@@ -16,7 +16,7 @@ use crate::wards::phase_objection;
 use std::alloc::{AllocError, Global};
 
 /// A candidate: the ward (1 to 99), the number there (1 to 30) and the name.
-#[derive(Drop)]
+#[derive(PartialEq, Drop)]
 pub struct Candidate {
     pub ward: u32,
     pub number: u32,

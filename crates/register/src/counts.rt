@@ -9,7 +9,7 @@ ghost use Rattle.register.specs.Parts.{part_entries};
 ghost use Rattle.register.specs.Effects.{effect_entry};
 ghost use Rattle.register.specs.Elections.{has_finished, is_among};
 ghost use Rattle.register.specs.Additions.{IsAddedBy};
-ghost use Rattle.register.specs.Counts.{is_in_range, is_ready, lot_objection, waits_at, phase_for, own_objections, objections, subject_of, next_stage, poll_told, action_told, reply_to, effect_of};
+ghost use Rattle.register.specs.Counts.{is_in_range, is_ready, lot_objection, waits_at, phase_for, own_objections, objections, subject_of, stage_after, next_stage, poll_told, action_told, reply_to, effect_of};
 
 use crate::additions;
 use crate::decision::Effect;
@@ -27,7 +27,7 @@ use std::alloc::{AllocError, Global};
 
 /// A lot that was drawn: of which ward (1 to 99), for which stage of its count (2 to 31), and the
 /// candidate (1 to 30) whose surplus is transferred or who is excluded.
-#[derive(Drop)]
+#[derive(PartialEq, Drop)]
 pub struct DrawnLot {
     pub ward: u32,
     pub stage: u32,
@@ -222,13 +222,23 @@ pub(crate) fn subject_of(alloc: Global, command: &CountCommand) -> Result<String
     }
 }
 
-/// The stage after those done, at most the last that a count may have.
+/// The stage after so many that are done, at most the last that a count may have.
+pub fn stage_after(done: u32) -> u32
+    ensures { result ≡ stage_after done }
+{
+    if LAST_LOT_STAGE <= done {
+        done
+    } else {
+        done + 1
+    }
+}
+
+/// The stage after those done in a ward.
 fn next_stage(ward: &Option<Ward>) -> u32
     ensures { result ≡ next_stage (option_map ward_entry ward.now) }
 {
     match ward {
-        Some(ward) if LAST_LOT_STAGE <= ward.done => ward.done,
-        Some(ward) => ward.done + 1,
+        Some(ward) => stage_after(ward.done),
         None => 1,
     }
 }

@@ -21,7 +21,7 @@ use std::alloc::{AllocError, Global};
 
 /// A ballot paper as a clerk (1 to 999) keyed it: of which batch (1 to 9999), in which round (1 to 99),
 /// its number there (1 to 500), and its marks text.
-#[derive(Drop)]
+#[derive(PartialEq, Drop)]
 pub struct KeyedPaper {
     pub batch: u32,
     pub round: u32,

@@ -32,6 +32,7 @@ pub mod papers;
 pub mod elections;
 pub mod polls;
 pub mod status;
+pub mod steps;
 // What is kept of the counts, and what a stage adds to it.
 mod additions;
 pub mod tabulated;
@@ -60,6 +61,7 @@ pub use polls::{Ballots, Judgement, KeepsPapers, NoPapers, PollTally};
 pub use receipt::Receipt;
 pub use refusal::{Reason, Refusal};
 pub use status::{Status, Work};
+pub use steps::NextStep;
 pub use tabulated::{Addition, PlacedBundle, StageFigure, Tabulation};
 pub use verdicts::{JudgedPaper, Verdict, VerdictCommand};
 pub use view::{Part, View};

@@ -166,7 +166,7 @@ fn by_keyed_or_verdicts(
 }
 
 /// The judgement on a keyed paper: by its marks, or if it is doubtful by its verdict.
-fn judgement_on(columns: Columns, verdicts: &[JudgedPaper], keyed: &KeyedPaper) -> Judgement
+pub fn judgement_on(columns: Columns, verdicts: &[JudgedPaper], keyed: &KeyedPaper) -> Judgement
     ensures { result ≡ judgement_on columns (map judged_entry verdicts.now) (keyed_entry keyed.now) }
 {
     match Marks::read(keyed.marks.as_str().as_bytes(), columns) {

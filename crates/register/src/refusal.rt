@@ -162,6 +162,13 @@ impl Refusal {
         Ok(Refusal { reason, text })
     }
 
+    /// The reason.
+    pub fn reason(&self) -> Reason
+        ensures { result ≡ self.now }
+    {
+        self.reason
+    }
+
     /// The number that stands for this reason wherever refusals are told.
     pub fn number(&self) -> u32
         ensures { result ≡ reason_number self.now }

@@ -20,7 +20,7 @@ use std::alloc::{AllocError, Global};
 /// A doubtful ballot paper as the returning officer judged it: of which batch (1 to 9999), its number
 /// there (1 to 500), and code 0 with the marks that it was accepted with, or 3 to 5, for which it was
 /// rejected, without marks.
-#[derive(Drop)]
+#[derive(PartialEq, Drop)]
 pub struct JudgedPaper {
     pub batch: u32,
     pub paper: u32,

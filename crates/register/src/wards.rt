@@ -18,7 +18,7 @@ use std::alloc::{AllocError, Global};
 
 /// A ward: its number (1 to 99), its seats (1 to 15), its phase, how many stages of its count are done
 /// (0 to 31) and its name.
-#[derive(Drop)]
+#[derive(PartialEq, Drop)]
 pub struct Ward {
     pub number: u32,
     pub seats: u32,

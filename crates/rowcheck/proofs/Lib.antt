@@ -9,3 +9,4 @@ pub mod WardBatchesLemmas
 pub mod StagesDoneLemmas
 pub mod CountedBookLemmas
 pub mod FairLemmas
+pub mod SamenessLemmas

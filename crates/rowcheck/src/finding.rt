@@ -97,7 +97,7 @@ impl Row<u32> for DrawnLot {
 }
 
 /// The ward with this number.
-pub(crate) fn ward_at(rows: &Rows, number: u32) -> Option<&Ward>
+pub fn ward_at(rows: &Rows, number: u32) -> Option<&Ward>
     requires { MapsRise (state_of rows.now) }
     ensures { option_map ward_entry (option_copied result) ≡ ward_at (state_of rows.now) number }
 {
@@ -113,7 +113,7 @@ pub(crate) fn has_ward(rows: &Rows, number: u32) -> bool
 }
 
 /// The candidates of a ward, in the order of their numbers.
-pub(crate) fn candidates_of(rows: &Rows, ward: u32) -> &[Candidate]
+pub fn candidates_of(rows: &Rows, ward: u32) -> &[Candidate]
     requires { MapsRise (state_of rows.now) }
     ensures { map candidate_entry result.now ≡ candidates_of (state_of rows.now) ward }
 {
@@ -145,7 +145,7 @@ fn third_row(rows: &Rows, batch: u32) -> Option<&ThirdClerk>
 }
 
 /// The third clerk of a batch, if one is set.
-pub(crate) fn third_at(rows: &Rows, batch: u32) -> Option<ThirdClerk>
+pub fn third_at(rows: &Rows, batch: u32) -> Option<ThirdClerk>
     requires { MapsRise (state_of rows.now) }
     ensures { option_map third_entry result ≡ third_at (state_of rows.now) batch }
 {
@@ -167,7 +167,7 @@ pub(crate) fn papers_of(rows: &Rows, batch: u32) -> &[KeyedPaper]
 }
 
 /// What a clerk keyed of a batch in a round, in the order of the papers.
-pub(crate) fn keying_of(rows: &Rows, batch: u32, round: u32, clerk: u32) -> &[KeyedPaper]
+pub fn keying_of(rows: &Rows, batch: u32, round: u32, clerk: u32) -> &[KeyedPaper]
     requires { MapsRise (state_of rows.now) }
     ensures { map keyed_entry result.now ≡ keying_of (state_of rows.now) batch round clerk }
 {
@@ -205,7 +205,7 @@ pub(crate) fn keyings_in<'a>(rows: &'a Rows, batch: &Batch, round: u32) -> Round
 }
 
 /// The verdicts on papers of a batch, in the order of the papers.
-pub(crate) fn verdicts_of(rows: &Rows, batch: u32) -> &[JudgedPaper]
+pub fn verdicts_of(rows: &Rows, batch: u32) -> &[JudgedPaper]
     requires { MapsRise (state_of rows.now) }
     ensures { map judged_entry result.now ≡ verdicts_of (state_of rows.now) batch }
 {
@@ -213,7 +213,7 @@ pub(crate) fn verdicts_of(rows: &Rows, batch: u32) -> &[JudgedPaper]
 }
 
 /// The lots of a ward, in the order of the stages.
-pub(crate) fn lots_of(rows: &Rows, ward: u32) -> &[DrawnLot]
+pub fn lots_of(rows: &Rows, ward: u32) -> &[DrawnLot]
     requires { MapsRise (state_of rows.now) }
     ensures { map lot_entry result.now ≡ lots_of (state_of rows.now) ward }
 {

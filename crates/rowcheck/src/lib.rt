@@ -12,6 +12,8 @@
 //! stand side by side, are found by bisection (`runs`, `finding`). The batches alone are gone through for each
 //! ward in count, of which there are 99 at most, and the papers of one batch, 500 at most, for each verdict on
 //! one of them.
+//!
+//! `are_same` compares the rows of two offices, and `finding` has the rows of a key for whoever goes through an office.
 #![tactic(auto)]
 
 // The rows,
@@ -19,7 +21,9 @@ pub mod rows;
 // runs of them that bisection finds,
 mod runs;
 // and the entries that are found so.
-mod finding;
+pub mod finding;
+// Two offices, compared.
+mod sameness;
 // The conditions, and what they read: subjects of receipts, and numbers in them.
 mod batches;
 mod counts;
@@ -39,5 +43,6 @@ pub use nominations::all_nominated;
 pub use polls::all_agreed;
 pub use ranges::all_in_range;
 pub use rows::Rows;
+pub use sameness::are_same;
 pub use tabulated::is_tabulated;
 pub use verdicts::all_judged;

@@ -1,15 +1,20 @@
 -- The texts of the elements of a list, one after the other.
-use Rattle.std.proofs.Common.{◌≡◌, ℕ, ◌+◌, ◌-◌, ◌<◌, List, [], ◌∷◌, ◌++◌, length, take, drop, get_or, map, sym, ◌∙◌, ap, codes, replicate, arith}
+use Rattle.std.proofs.Common.{◌≡◌, ℕ, ◌+◌, ◌-◌, ◌<◌, List, [], ◌∷◌, ◌++◌, length, take, drop, get_or, map, refl, sym, ◌∙◌, ap, codes, replicate, arith}
 use Rattle.std.specs.List.{flat_map}
 use Rattle.std.proofs.lemmas.Grind.{flat_map-append}
 use Rattle.std.proofs.lemmas.List.{append-nil, take_more, take-append-drop}
 use Rattle.std.proofs.lemmas.List.Folds.{flat_map-map}
-use Rattle.sheet.specs.Lines.{line, right_in}
+use Rattle.sheet.specs.Lines.{joined, line, right_in}
 
--- a line of pieces is their texts and one newline
-pub line-map : {X : Type 0} (f : X → List ℕ) (xs : List X) → line (map f xs) ≡ flat_map f xs ++ codes "\n"
-unfolding line
-line-map f xs = ap (λ text. text ++ codes "\n") (flat_map-map (λ part. part) f xs)
+-- pieces are their texts, one after the other
+pub joined-map : {X : Type 0} (f : X → List ℕ) (xs : List X) → joined (map f xs) ≡ flat_map f xs
+unfolding joined
+joined-map f xs = flat_map-map (λ part. part) f xs
+
+-- a line is its parts and one newline
+pub line_joined : (parts : List (List ℕ)) → line parts ≡ joined parts ++ codes "\n"
+unfolding line joined
+line_joined parts = refl
 
 -- the texts of one element more
 pub flat_map-take_more : {X : Type 0} (f : X → List ℕ) (xs : List X) (i : ℕ) (d : X) → i < length xs →

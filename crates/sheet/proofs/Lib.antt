@@ -10,3 +10,6 @@ pub mod Withdrawn
 pub mod Bundles
 pub mod EachAfter
 pub mod Places
+pub mod Ties
+mod WorkedLots
+pub mod TieLaw

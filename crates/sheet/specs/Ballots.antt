@@ -1,9 +1,10 @@
 -- The ballots of a ward, as a file that counting programs share (BLT): the highest number of a candidate and the seats; the numbers at
 -- which no candidate stands, each behind a minus; a line a bundle of equal valid papers; the names; and as comments what such a file has no place for.
-use Rattle.std.specs.Prelude.{ℕ, ◌-◌, Bool, true, false, ◌==◌, List, [], ◌∷◌, ◌++◌, length, slice_get, codes, decimal, Option, Some, None, is_none, option_map}
-use Rattle.std.specs.List.{flat_map, filter, find, range_with_len}
+use Rattle.std.specs.Prelude.{ℕ, ◌-◌, Bool, true, false, List, [], ◌∷◌, ◌++◌, length, slice_get, codes, decimal, Option, Some, None, is_none}
+use Rattle.std.specs.List.{flat_map, filter, range_with_len}
 use Rattle.count.specs.Bundles.{Bundle}
 use Rattle.sheet.specs.Lines.{line, preferences, quoted}
+pub use Rattle.sheet.specs.Names.{name_at, name_or_withdrawn}
 use Rattle.sheet.specs.Sheet.{rejected_line}
 use Rattle.sheet.specs.Entries.{SheetEntry}
 use Rattle.sheet.specs.declared.ward.Poll.{Poll}
@@ -20,10 +21,6 @@ highest_number candidates = number_or_none (slice_get candidates (length candida
 -- the numbers from 1 up to the highest one
 abbrev pub numbers_of : SheetEntry → List ℕ
 numbers_of ward = range_with_len 1 (highest_number ward.candidates)
-
--- the name of the candidate of a number, where there is one
-abbrev pub name_at : List (ℕ × List ℕ) → ℕ → Option (List ℕ)
-name_at candidates c = option_map (λ candidate. candidate.1) (find (λ candidate. candidate.0 == c) candidates)
 
 -- `4 2`: the highest number and the seats
 abbrev pub size_line : SheetEntry → List ℕ
@@ -54,11 +51,6 @@ bundle_line bundle = line (decimal bundle.1 ∷ preferences bundle.0 ∷ codes "
 -- `0`, behind the bundles
 abbrev pub end_line : List ℕ
 end_line = line (codes "0" ∷ [])
-
--- a candidate's name, or that no candidate stands
-abbrev pub name_or_withdrawn : Option (List ℕ) → List ℕ
-name_or_withdrawn None = codes "withdrawn"
-name_or_withdrawn (Some name) = name
 
 -- `"Ann"`: the name of a number
 abbrev pub name_line : List (ℕ × List ℕ) → ℕ → List ℕ

@@ -1,21 +1,34 @@
--- What a table or a picture on a page tells of a stage.
+-- What a table on a page tells of a stage.
 use Rattle.std.specs.Prelude.{ℕ, ◌+◌, ◌-◌, ◌==◌, nat_lt, if◌then◌else◌, List, [], ◌∷◌, ◌++◌, length, take, drop, slice_get, codes, decimal, Option, Some, None}
 use Rattle.votes.specs.Text.{votes_text}
-use Rattle.count.specs.Actions.{action_text}
 use Rattle.count.specs.Law.Contest.{votes_at}
 use Rattle.count.specs.declared.stages.Stage.{Stage}
 use Rattle.count.specs.declared.stages.Action.{Action}
-use Rattle.sheet.specs.Lines.{line}
+use Rattle.count.specs.declared.stages.Action.TheVariants.{First, Surplus, Exclude, ExcludeLast}
+use Rattle.sheet.specs.Names.{name_at, name_or_withdrawn}
+use Rattle.sheet.specs.Entries.{shown}
+use Rattle.sheet.specs.Lines.{line, action_named}
 use Rattle.sheet.specs.Stages.{fate_at}
-use Rattle.sheet.specs.Picture.{bar, stage_name}
 use Rattle.sheet.specs.declared.stage.Fate.{Fate}
 use Rattle.sheet.specs.declared.stage.Fate.TheVariants.{NewlyElected, Elected, NewlyExcluded, Excluded, Continuing}
 use Rattle.sheet.specs.declared.cells.Cell.{Cell}
-use Rattle.sheet.specs.declared.cells.Cell.TheVariants.{Head, Candidate, NonTransferable, Lost, Above, Bar}
+use Rattle.sheet.specs.declared.cells.Cell.TheVariants.{Head, Candidate, NonTransferable, Lost}
 
--- the head of a column: the stage, and what is done at it
-abbrev pub column_head : ℕ → Action → List ℕ
-column_head k action = line (codes "<th scope=\"col\">Stage " ∷ decimal k ∷ codes "<br>" ∷ action_text action ∷ codes "</th>" ∷ [])
+-- the name of the candidate with whom an action is done; none at the first stage
+abbrev pub name_in : List (ℕ × List ℕ) → Action → List ℕ
+name_in candidates First = []
+name_in candidates (Surplus c) = name_or_withdrawn (name_at candidates c)
+name_in candidates (Exclude c) = name_or_withdrawn (name_at candidates c)
+name_in candidates (ExcludeLast c) = name_or_withdrawn (name_at candidates c)
+
+-- the head of a column: the stage, and what is done at it, with whom
+abbrev pub column_head : List (ℕ × List ℕ) → ℕ → Action → List ℕ
+column_head candidates k action =
+    line (codes "<th scope=\"col\">Stage " ∷ decimal k ∷ codes "<br>" ∷ action_named action (name_in candidates action) ∷ codes "</th>" ∷ [])
+
+-- that of a stage after earlier ones
+abbrev pub head_cell : List (ℕ × List ℕ) → List Stage → Stage → List ℕ
+head_cell candidates earlier stage = column_head candidates (length earlier + 1) stage.action
 
 -- a candidate's votes at a stage or, where there is none, others
 abbrev pub votes_or : ℕ → Option Stage → ℕ → ℕ
@@ -54,12 +67,10 @@ sum_cell units = line (codes "<td>" ∷ votes_text units ∷ codes "</td>" ∷ [
 
 -- what a cell tells of a stage after earlier ones
 abbrev pub cell_text : Cell → List Stage → Stage → List ℕ
-cell_text Head earlier stage = column_head (length earlier + 1) stage.action
+cell_text (Head ward) earlier stage = head_cell (shown ward.now).candidates earlier stage
 cell_text (Candidate c) earlier stage = votes_cell (votes_before earlier stage c) (votes_at stage c) (standing (fate_at earlier stage c))
 cell_text NonTransferable earlier stage = sum_cell stage.non_transferable
 cell_text Lost earlier stage = sum_cell stage.lost
-cell_text Above earlier stage = stage_name (length earlier)
-cell_text (Bar c scale) earlier stage = bar scale (length earlier) (votes_before earlier stage c) (votes_at stage c)
 
 -- what there is of some stages, each after those before it
 abbrev pub each_after : {X : Type 0} → (List Stage → Stage → List X) → List Stage → List Stage → List X
@@ -71,5 +82,5 @@ abbrev pub from_place : (List Stage → Stage → List ℕ) → ℕ → List Sta
 from_place text place stages = each_after text (take place stages) (drop place stages)
 
 -- a row: what stands at its beginning, a cell a stage from a place on, and its end
-abbrev pub row : List (List ℕ) → Cell → List ℕ → ℕ → List Stage → List ℕ
-row opening cell end place stages = line opening ++ from_place (cell_text cell) place stages ++ line (end ∷ [])
+abbrev pub row : List (List ℕ) → (List Stage → Stage → List ℕ) → List ℕ → ℕ → List Stage → List ℕ
+row opening cell end place stages = line opening ++ from_place cell place stages ++ line (end ∷ [])

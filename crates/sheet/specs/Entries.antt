@@ -1,5 +1,6 @@
 -- What its texts tell of a ward.
-use Rattle.std.specs.Prelude.{ℕ, List, map, string_bytes, Option}
+use Rattle.std.specs.Prelude.{ℕ, List, map, string_bytes, String, Option}
+use Rattle.std.specs.declared.alloc.Global.{Global}
 use Rattle.sheet.specs.declared.ward.Ward.{Ward}
 use Rattle.sheet.specs.declared.ward.Poll.{Poll}
 
@@ -11,12 +12,16 @@ pub record SheetEntry : Type 0 where
   pub candidates : List (ℕ × List ℕ)
   pub poll : Option Poll
 
+-- candidates by their numbers, with plain names
+abbrev pub candidates_shown : List (ℕ × String Global) → List (ℕ × List ℕ)
+candidates_shown candidates = map (λ candidate. (candidate.0, string_bytes candidate.1)) candidates
+
 -- what a ward shows
 abbrev pub shown : Ward → SheetEntry
 shown ward = record {
   number = ward.number;
   name = ward.name.now;
   seats = ward.seats;
-  candidates = map (λ candidate. (candidate.0, string_bytes candidate.1)) ward.candidates.now;
+  candidates = candidates_shown ward.candidates.now;
   poll = ward.poll;
 }

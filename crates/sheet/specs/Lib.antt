@@ -1,4 +1,4 @@
--- What stage sheets, declarations, ballots, pages and tables are.
+-- What stage sheets, declarations, ballots, pages, tables and the index of wards are.
 pub mod Lines
 pub mod Pieces
 pub mod Writing
@@ -6,10 +6,13 @@ pub mod Wards
 pub mod Entries
 pub mod Stages
 pub mod Sheet
+pub mod Names
 pub mod Ballots
 pub mod Cells
-pub mod Picture
 pub mod Look
+pub mod Chart
 pub mod Table
+pub mod Lots
 pub mod Page
+pub mod Index
 pub mod Spreadsheet

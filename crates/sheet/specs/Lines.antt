@@ -2,6 +2,12 @@
 use Rattle.std.specs.Prelude.{ℕ, ◌-◌, ◌||◌, ◌==◌, if◌then◌else◌, List, [], ◌∷◌, ◌++◌, length, replicate, codes, decimal}
 use Rattle.std.specs.List.{flat_map}
 use Rattle.votes.specs.Text.{votes_text}
+use Rattle.count.specs.declared.stages.Action.{Action}
+use Rattle.count.specs.declared.stages.Action.TheVariants.{First, Surplus, Exclude, ExcludeLast}
+
+-- parts, one after the other
+unfoldable pub joined : List (List ℕ) → List ℕ
+joined parts = flat_map (λ part. part) parts
 
 -- a line is its parts, one after the other, and one newline
 unfoldable pub line : List (List ℕ) → List ℕ
@@ -55,3 +61,10 @@ plain text = flat_map plain_byte text
 -- `7 <bdi>Ann</bdi>`: a number and a name on a page; the name's own direction of writing doesn't touch what stands around it
 abbrev pub named : ℕ → List ℕ → List ℕ
 named number name = decimal number ++ codes " <bdi>" ++ plain name ++ codes "</bdi>"
+
+-- `exclusion of 3 <bdi>Cy</bdi>`: what is done at a stage, on a page, with the number and the name of whom it is done with
+abbrev pub action_named : Action → List ℕ → List ℕ
+action_named First name = codes "first preferences"
+action_named (Surplus c) name = codes "surplus of " ++ named c name
+action_named (Exclude c) name = codes "exclusion of " ++ named c name
+action_named (ExcludeLast c) name = codes "exclusion of " ++ named c name ++ codes ", last vacancies"

@@ -5,59 +5,96 @@ use Rattle.std.specs.Prelude.{ℕ, List, ◌++◌, codes}
 unfoldable pub style : List ℕ
 style =
     codes "body { color: #000; background: #fff; font: 1rem/1.4 sans-serif; max-width: 68rem; margin: 1rem auto; padding: 0 1rem; }\n" ++ (
-    codes "h1, h2, caption, .sign { break-after: avoid; }\n" ++ (
-    codes "h1 { font-size: 1.6rem; margin: 0 0 .5rem; }\n" ++ (
-    codes "h2 { font-size: 1.2rem; margin: 1.2rem 0 .4rem; }\n" ++ (
-    codes "h1, p, li, th[scope=row] { overflow: hidden; overflow-wrap: anywhere; }\n" ++ (
-    codes ".open { border: 2px solid #000; padding: .4rem .6rem; }\n" ++ (
+    codes "h1 { font-size: 2.2rem; line-height: 1.2; margin: .2rem 0 .4rem; }\n" ++ (
+    codes "h2 { font-size: 1.2rem; margin: 1.4rem 0 .4rem; }\n" ++ (
+    codes "h1, h2, caption, .key { break-after: avoid; }\n" ++ (
+    codes "h1, p, li, th[scope=row], .stages th { overflow: hidden; overflow-wrap: anywhere; }\n" ++ (
     codes "ul { list-style: none; margin: 0; padding: 0; }\n" ++ (
-    codes "table { border-collapse: collapse; }\n" ++ (
+    codes "table { border-collapse: separate; border-spacing: 0; border: solid #888; border-width: 0 1px 1px 0; }\n" ++ (
     codes "caption { text-align: left; font-weight: bold; padding: .6rem 0 .2rem; }\n" ++ (
-    codes "th, td { border: 1px solid #888; padding: .15rem .35rem; vertical-align: top; text-align: right; font-variant-numeric: tabular-nums; }\n" ++ (
-    codes "th[scope=row], th[scope=col]:first-child { text-align: left; font-weight: normal; }\n" ++ (
-    codes ".stages { font-size: .8rem; width: 100%; }\n" ++ (
+    codes "th, td { border: solid #888; border-width: 1px 0 0 1px; padding: .15rem .35rem; vertical-align: top; text-align: right; font-variant-numeric: tabular-nums; }\n" ++ (
+    codes "th { font-weight: normal; background: #fff; }\n" ++ (
+    codes "th[scope=row], th:first-child { text-align: left; }\n" ++ (
+    codes ".title { font-size: 1.2rem; margin: 0; }\n" ++ (
+    codes ".running { display: none; }\n" ++ (
+    codes ".declared strong { display: inline-block; border: 3px solid #000; padding: .1rem .8rem; font-size: 1.5rem; }\n" ++ (
+    codes ".open { border: 2px dashed #000; padding: .4rem .6rem; }\n" ++ (
+    codes ".names li { margin: .3rem 0; }\n" ++ (
+    codes ".names b { font-size: 1.7rem; line-height: 1.2; }\n" ++ (
+    codes ".names span { margin-left: .5rem; }\n" ++ (
+    codes ".top { display: grid; grid-template-columns: 3fr 2fr; gap: 0 2rem; }\n" ++ (
+    codes ".top table { width: 100%; }\n" ++ (
+    codes ".patterns { position: absolute; }\n" ++ (
+    codes ".bar { display: block; width: 100%; height: 1rem; overflow: visible; forced-color-adjust: none; }\n" ++ (
+    codes ".key .bar { display: inline-block; width: 1.6rem; height: .8rem; }\n" ++ (
+    codes ".bar .first { fill: #757575; }\n" ++ (
+    codes ".elected .first { fill: #000; }\n" ++ (
+    codes ".excluded .first { fill: #fff; stroke: #000; }\n" ++ (
+    codes ".bar .later { fill: url(#later); stroke: #000; }\n" ++ (
+    codes ".bar .quota { fill: #000; stroke: #fff; }\n" ++ (
+    codes ".chart li { display: grid; grid-template-columns: 13rem 1fr 9rem 17rem; gap: 0 .8rem; align-items: center; }\n" ++ (
+    codes ".chart li { border-bottom: 1px solid #bbb; padding: .2rem 0; font-size: .9rem; break-inside: avoid; }\n" ++ (
+    codes ".who { display: flex; gap: .3em; min-width: 0; }\n" ++ (
+    codes ".who bdi { min-width: 0; overflow: hidden; text-overflow: ellipsis; white-space: nowrap; }\n" ++ (
+    codes ".had { text-align: right; font-variant-numeric: tabular-nums; }\n" ++ (
+    codes ".end { font-variant-numeric: tabular-nums; }\n" ++ (
+    codes ".stages { font-size: .8rem; }\n" ++ (
     codes ".stages th[scope=row] { min-width: 7rem; }\n" ++ (
+    codes ".stages th[scope=col] { min-width: 6.2rem; }\n" ++ (
+    codes ".stages th:first-child { position: sticky; left: 0; border-right-width: 1px; }\n" ++ (
     codes ".sum th, .sum td { border-top-style: dashed; }\n" ++ (
     codes "td i, td b, td small { display: block; font-size: inherit; white-space: nowrap; }\n" ++ (
     codes "td small { color: #444; }\n" ++ (
-    codes ".wide { overflow-x: auto; }\n" ++ (
-    codes ".moves { display: block; width: 100%; min-width: 56rem; margin: .6rem 0; forced-color-adjust: none; }\n" ++ (
-    codes ".moves text { font: 14px sans-serif; fill: #000; }\n" ++ (
-    codes ".moves g text { clip-path: url(#room); }\n" ++ (
-    codes ".moves tspan { unicode-bidi: plaintext; }\n" ++ (
-    codes ".moves path { fill: none; stroke: #000; }\n" ++ (
-    codes ".moves .paper { fill: #fff; }\n" ++ (
-    codes ".moves .kept { fill: #757575; }\n" ++ (
-    codes ".moves .gained { fill: url(#gained); stroke: #000; }\n" ++ (
-    codes ".moves .lost { fill: none; stroke: #000; stroke-width: 1.2; stroke-dasharray: 3 2; }\n" ++ (
-    codes ".moves .quota { fill: #000; stroke: #fff; stroke-width: 1.2; }\n" ++ (
-    codes ".patterns { position: absolute; }\n" ++ (
+    codes ".wide { overflow-x: auto; background: linear-gradient(270deg, #fff 40%, #fff0) local, linear-gradient(270deg, #000a, #0000) scroll; }\n" ++ (
+    codes ".wide { background-repeat: no-repeat; background-position: 100% 0; background-size: 3rem 100%, 1rem 100%; }\n" ++ (
+    codes ".index { width: 100%; font-size: 1.2rem; }\n" ++ (
+    codes ".index th, .index td { text-align: left; padding: .4rem .6rem; }\n" ++ (
     codes ".sign p { border-bottom: 1px solid #000; max-width: 34rem; margin: 0; padding: 2.2rem 0 .1rem; }\n" ++ (
-    codes "@page { size: A4 landscape; margin: 12mm; }\n" ++ (
+    codes "@media screen and (max-width: 50rem) {\n" ++ (
+    codes ".top { display: block; }\n" ++ (
+    codes ".chart li { grid-template-columns: 1fr auto; }\n" ++ (
+    codes ".chart .bar { order: 1; grid-column: 1 / -1; }\n" ++ (
+    codes ".chart .end { order: 2; grid-column: 1 / -1; }\n" ++ (
+    codes ".stages th:first-child { max-width: 38vw; }\n" ++ (
+    codes ".index { font-size: 1rem; }\n" ++ (
+    codes "}\n" ++ (
+    codes "@page { size: A4 landscape; margin: 10mm 12mm; }\n" ++ (
     codes "@media print {\n" ++ (
-    codes "body { font-size: 10pt; max-width: none; margin: 0; padding: 0; }\n" ++ (
-    codes ".wide { overflow: visible; }\n" ++ (
-    codes ".stages { font-size: 8pt; line-height: 1.2; table-layout: fixed; }\n" ++ (
-    codes ".stages th[scope=row] { min-width: 0; }\n" ++ (
+    codes "html { font-size: 10pt; }\n" ++ (
+    codes "body { display: table; table-layout: fixed; width: 100%; max-width: none; margin: 0; padding: 0; }\n" ++ (
+    codes ".running { display: table-header-group; break-inside: avoid; }\n" ++ (
+    codes ".wide { overflow: visible; background: none; break-inside: avoid; }\n" ++ (
+    codes ".stages { width: 100%; line-height: 1.2; table-layout: fixed; }\n" ++ (
+    codes ".stages th[scope] { min-width: 0; position: static; padding: 1pt 2pt; }\n" ++ (
+    codes ".stages td { padding: 1pt 2pt; overflow-wrap: anywhere; }\n" ++ (
     codes ".stages th:first-child { width: 20%; }\n" ++ (
-    codes ".stages th, .stages td { padding: 1pt 2pt; overflow-wrap: anywhere; }\n" ++ (
-    codes ".moves { min-width: 0; max-height: 182mm; }\n" ++ (
-    codes "tr, .moves, .sign { break-inside: avoid; }\n" ++ (
+    codes "tr, .sign { break-inside: avoid; }\n" ++ (
+    codes ".chart li { padding: 0; line-height: 1.25; }\n" ++ (
+    codes ".bar { height: .8rem; }\n" ++ (
     codes "* { -webkit-print-color-adjust: exact; print-color-adjust: exact; }\n" ++ (
-    codes "}\n"))))))))))))))))))))))))))))))))))))))))
+    codes "}\n"))))))))))))))))))))))))))))))))))))))))))))))))))))))))))))))))))))
 
--- once for all pictures of a page: the pattern of what was gained, and the room of a name, above its bars and up to the edge
+-- once for all bars of a page: the pattern of what was gained after the first stage
 unfoldable pub patterns : List ℕ
 patterns =
     codes "<svg class=\"patterns\" width=\"0\" height=\"0\" aria-hidden=\"true\"><defs>" ++ (
-    codes "<pattern id=\"gained\" width=\"4\" height=\"4\" patternUnits=\"userSpaceOnUse\" patternTransform=\"rotate(45)\">" ++ (
-    codes "<rect width=\"4\" height=\"4\" fill=\"#fff\"/><rect width=\"1.6\" height=\"4\" fill=\"#000\"/></pattern>" ++ (
-    codes "<clipPath id=\"room\"><rect y=\"-2\" width=\"898\" height=\"17\"/></clipPath></defs></svg>")))
+    codes "<pattern id=\"later\" width=\"4\" height=\"4\" patternUnits=\"userSpaceOnUse\" patternTransform=\"rotate(45)\">" ++ (
+    codes "<rect width=\"4\" height=\"4\" fill=\"#fff\"/>" ++ (
+    codes "<rect width=\"1.6\" height=\"4\" fill=\"#000\"/></pattern></defs></svg>")))
 
--- what the bars of a picture mean
+-- what the bars of a chart mean, up to the quota
 unfoldable pub legend : List ℕ
 legend =
-    codes "<rect class=\"kept\" y=\"6\" width=\"24\" height=\"12\"/><text x=\"28\" y=\"16\">votes kept</text>" ++ (
-    codes "<rect class=\"gained\" x=\"132\" y=\"6\" width=\"24\" height=\"12\"/><text x=\"160\" y=\"16\">gained at the stage</text>" ++ (
-    codes "<rect class=\"lost\" x=\"324\" y=\"6\" width=\"24\" height=\"12\"/><text x=\"352\" y=\"16\">lost at the stage</text>" ++ (
-    codes "<path class=\"quota\" d=\"M494.6 4h2.8v16h-2.8z\"/><text x=\"504\" y=\"16\">quota</text>")))
+    codes "<p class=\"key\">" ++ (
+    codes "<svg class=\"bar\" aria-hidden=\"true\">" ++ (
+    codes "<rect class=\"first\" width=\"100%\" height=\"100%\"/></svg> votes at stage 1, " ++ (
+    codes "<span class=\"elected\">" ++ (
+    codes "<svg class=\"bar\" aria-hidden=\"true\">" ++ (
+    codes "<rect class=\"first\" width=\"100%\" height=\"100%\"/></svg> of the elected</span>, " ++ (
+    codes "<span class=\"excluded\">" ++ (
+    codes "<svg class=\"bar\" aria-hidden=\"true\">" ++ (
+    codes "<rect class=\"first\" width=\"100%\" height=\"100%\"/></svg> of the excluded</span>; " ++ (
+    codes "<svg class=\"bar\" aria-hidden=\"true\">" ++ (
+    codes "<rect class=\"later\" width=\"100%\" height=\"100%\"/></svg> votes gained later; " ++ (
+    codes "<svg class=\"bar\" aria-hidden=\"true\">" ++ (
+    codes "<rect class=\"quota\" x=\"45%\" width=\"3\" height=\"100%\"/></svg> the quota, "))))))))))))

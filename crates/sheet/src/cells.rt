@@ -1,31 +1,29 @@
-//! What a table or a picture on a page tells of a stage.
+//! What a table on a page tells of a stage.
 
 ghost use Rattle.std.specs.Prelude.{◌≡◌, ◌-◌, ◌^◌, ◌<◌, map};
-ghost use Rattle.sheet.specs.Cells.{apart as apart_of, cell_text, column_head, from_place, row, sign as sign_of, standing as standing_of, sum_cell, votes_before as before_of, votes_cell};
+ghost use Rattle.sheet.specs.Cells.{apart as apart_of, cell_text, column_head, from_place, name_in as name_with, row, sign as sign_of, standing as standing_of, sum_cell, votes_before as before_of, votes_cell};
+ghost use Rattle.sheet.specs.Entries.{shown};
 ghost use Rattle.sheet.specs.Pieces.{piece_text};
 ghost use Rattle.sheet.specs.Writing.{Writes};
 
+use crate::ballots::name_or_withdrawn;
 use crate::line::{Piece, write_line};
-use crate::picture::{Scale, write_bar, write_stage_name};
 use crate::stage::{Fate, fate_at, votes_of};
+use crate::ward::Ward;
 use count::{Action, Stage};
 use votes::{Broken, Sink, Votes};
 
 /// A cell of a row, which tells something of a stage.
 #[derive(Clone, Copy)]
-pub enum Cell {
-    /// The head of a table's column: the stage, and what is done at it.
-    Head,
+pub enum Cell<'a> {
+    /// The head of a column: the stage, and what is done at it, with which candidate of the ward.
+    Head(&'a Ward<'a>),
     /// A candidate's votes, what he gained or lost, and where he stands.
     Candidate(u8),
     /// The running sum of what isn't transferable.
     NonTransferable,
     /// The running sum of what fractions lost.
     Lost,
-    /// The name of the stage, above its column in a picture.
-    Above,
-    /// A candidate's bar in a picture.
-    Bar(u8, Scale),
 }
 
 /// The votes of a candidate before a stage; at the first one, those that he has at it.
@@ -97,16 +95,33 @@ fn write_votes_cell<W: Sink>(
     write_line(sink, &[opening, votes, sign, apart, end, stands, closing])
 }
 
+/// The name of the candidate with whom an action is done; none at the first stage.
+fn name_in<'a>(ward: &Ward<'a>, action: Action) -> &'a str
+    ensures { result.now ≡ name_with (shown ward.now).candidates action }
+{
+    match action {
+        Action::First => "",
+        Action::Surplus(c) => name_or_withdrawn(ward, c),
+        Action::Exclude(c) => name_or_withdrawn(ward, c),
+        Action::ExcludeLast(c) => name_or_withdrawn(ward, c),
+    }
+}
+
 /// Writes the head of a column.
-fn write_column_head<W: Sink>(sink: &mut W, k: u64, action: Action) -> Result<(), Broken>
+fn write_column_head<W: Sink>(
+    sink: &mut W,
+    ward: &Ward,
+    k: u64,
+    action: Action,
+) -> Result<(), Broken>
     requires { W.failed sink.old < 2 ^ 64 - 1 }
-    ensures { Writes W.taken W.failed sink.old sink.new (column_head k action) result }
+    ensures { Writes W.taken W.failed sink.old sink.new (column_head (shown ward.now).candidates k action) result }
 {
     let pieces = [
         Piece::Text("<th scope=\"col\">Stage "),
         Piece::Number(k),
         Piece::Text("<br>"),
-        Piece::Done(action),
+        Piece::DoneWith(action, name_in(ward, action)),
         Piece::Text("</th>"),
     ];
     write_line(sink, &pieces)
@@ -124,39 +139,34 @@ fn write_sum_cell<W: Sink>(sink: &mut W, sum: Votes) -> Result<(), Broken>
 /// Writes what a cell tells of a stage after earlier ones.
 fn write_cell<W: Sink>(
     sink: &mut W,
-    cell: Cell,
+    cell: &Cell,
     earlier: &[Stage],
     stage: &Stage,
 ) -> Result<(), Broken>
     requires { W.failed sink.old < 2 ^ 64 - 1 }
-    ensures { Writes W.taken W.failed sink.old sink.new (cell_text cell earlier.now stage.now) result }
+    ensures { Writes W.taken W.failed sink.old sink.new (cell_text cell.now earlier.now stage.now) result }
 {
     match cell {
-        Cell::Head => write_column_head(sink, earlier.len() as u64 + 1, stage.action),
+        Cell::Head(ward) => write_column_head(sink, ward, earlier.len() as u64 + 1, stage.action),
         Cell::Candidate(c) => {
-            let before = votes_before(earlier, stage, c);
-            let stands = standing(fate_at(earlier, stage, c));
-            write_votes_cell(sink, before, votes_of(stage, c), stands)
+            let before = votes_before(earlier, stage, *c);
+            let stands = standing(fate_at(earlier, stage, *c));
+            write_votes_cell(sink, before, votes_of(stage, *c), stands)
         }
         Cell::NonTransferable => write_sum_cell(sink, stage.non_transferable),
         Cell::Lost => write_sum_cell(sink, stage.lost),
-        Cell::Above => write_stage_name(sink, earlier.len()),
-        Cell::Bar(c, scale) => {
-            let before = votes_before(earlier, stage, c);
-            write_bar(sink, scale, earlier.len(), before, votes_of(stage, c))
-        }
     }
 }
 
 /// Writes a cell for each stage from a place on.
 fn write_cells<W: Sink>(
     sink: &mut W,
-    cell: Cell,
+    cell: &Cell,
     place: usize,
     stages: &[Stage],
 ) -> Result<(), Broken>
     requires { W.failed sink.old < 2 ^ 64 - 1 }
-    ensures { Writes W.taken W.failed sink.old sink.new (from_place (cell_text cell) place stages.now) result }
+    ensures { Writes W.taken W.failed sink.old sink.new (from_place (cell_text cell.now) place stages.now) result }
 {
     for k in place..stages.len() {
         write_cell(sink, cell, &stages[..k], &stages[k])?;
@@ -168,13 +178,13 @@ fn write_cells<W: Sink>(
 pub fn write_row<W: Sink>(
     sink: &mut W,
     opening: &[Piece],
-    cell: Cell,
+    cell: &Cell,
     end: &str,
     place: usize,
     stages: &[Stage],
 ) -> Result<(), Broken>
     requires { W.failed sink.old < 2 ^ 64 - 1 }
-    ensures { Writes W.taken W.failed sink.old sink.new (row (map piece_text opening.now) cell end.now place stages.now) result }
+    ensures { Writes W.taken W.failed sink.old sink.new (row (map piece_text opening.now) (cell_text cell.now) end.now place stages.now) result }
 {
     write_line(sink, opening)?;
     write_cells(sink, cell, place, stages)?;

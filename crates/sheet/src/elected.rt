@@ -3,37 +3,39 @@
 ghost use Rattle.std.specs.Prelude.{◌≡◌, ◌-◌, ◌^◌, ◌<◌};
 ghost use Rattle.sheet.specs.Cells.{from_place};
 ghost use Rattle.sheet.specs.Entries.{shown};
-ghost use Rattle.sheet.specs.Page.{elected_at, elected_end, elected_text, item_at, left_words as words_of, seats_left as left_of, unopposed_item, unopposed_text};
+ghost use Rattle.sheet.specs.Page.{elected_at, elected_end, elected_items, elected_text, item_at, left_in as left_of_ward, left_words as words_of, seats_left as left_of, stay_empty as are_empty, unopposed_item};
 ghost use Rattle.sheet.specs.Writing.{Writes};
 
 use crate::line::{Piece, write_line};
+use crate::stage::votes_of;
 use crate::told::{OfCandidate, write_each};
-use crate::ward::Ward;
+use crate::ward::{Poll, Ward};
 use count::Stage;
-use paper::Columns;
 use votes::{Broken, Sink};
 
 /// A candidate who is among those elected at a stage, and the stage's number.
 #[derive(Clone, Copy)]
 struct ItemAt<'a> {
     k: u64,
-    elected: &'a Columns,
+    stage: &'a Stage,
 }
 
 impl<'a> OfCandidate for ItemAt<'a> {
-    ghost text = { λ i. item_at i.k i.elected.now };
+    ghost text = { λ i. item_at i.k i.stage.now };
 
     fn write<W: Sink>(&self, sink: &mut W, candidate: &(u8, String)) -> Result<(), Broken> {
         let (c, name) = candidate;
-        if !self.elected.has(*c) {
+        if !self.stage.elected.has(*c) {
             return Ok(());
         }
         let pieces = [
-            Piece::Text("<li>"),
+            Piece::Text("<li><b>"),
             Piece::Named(*c, name.as_str()),
-            Piece::Text(", stage "),
+            Piece::Text("</b> <span>"),
+            Piece::Value(votes_of(self.stage, *c)),
+            Piece::Text(" votes, elected at stage "),
             Piece::Number(self.k),
-            Piece::Text("</li>"),
+            Piece::Text("</span></li>"),
         ];
         write_line(sink, &pieces)
     }
@@ -50,12 +52,11 @@ fn write_elected_at<W: Sink>(
     ensures { Writes W.taken W.failed sink.old sink.new (elected_at (shown ward.now) earlier.now stage.now) result }
 {
     let k = earlier.len() as u64 + 1;
-    let elected = &stage.elected;
-    write_each(sink, ward, &ItemAt { k, elected })
+    write_each(sink, ward, &ItemAt { k, stage })
 }
 
 /// Writes those elected, stage by stage.
-fn write_elected_items<W: Sink>(sink: &mut W, ward: &Ward, stages: &[Stage]) -> Result<(), Broken>
+fn write_elected_stages<W: Sink>(sink: &mut W, ward: &Ward, stages: &[Stage]) -> Result<(), Broken>
     requires { W.failed sink.old < 2 ^ 64 - 1 }
     ensures { Writes W.taken W.failed sink.old sink.new (from_place (elected_at (shown ward.now)) 0 stages.now) result }
 {
@@ -63,6 +64,39 @@ fn write_elected_items<W: Sink>(sink: &mut W, ward: &Ward, stages: &[Stage]) -> 
         write_elected_at(sink, ward, &stages[..k], &stages[k])?;
     }
     Ok(())
+}
+
+/// A candidate of an uncontested ward.
+#[derive(Clone, Copy)]
+struct Unopposed;
+
+impl OfCandidate for Unopposed {
+    ghost text = { λ u. unopposed_item };
+
+    fn write<W: Sink>(&self, sink: &mut W, candidate: &(u8, String)) -> Result<(), Broken> {
+        let (c, name) = candidate;
+        let pieces = [
+            Piece::Text("<li><b>"),
+            Piece::Named(*c, name.as_str()),
+            Piece::Text("</b></li>"),
+        ];
+        write_line(sink, &pieces)
+    }
+}
+
+/// Writes who is elected, in the order of their election; of an uncontested ward all its candidates.
+pub fn write_elected_items<W: Sink>(
+    sink: &mut W,
+    ward: &Ward,
+    stages: &[Stage],
+) -> Result<(), Broken>
+    requires { W.failed sink.old < 2 ^ 64 - 1 }
+    ensures { Writes W.taken W.failed sink.old sink.new (elected_items (shown ward.now) ward.now.poll stages.now) result }
+{
+    match ward.poll {
+        None => write_each(sink, ward, &Unopposed),
+        Some(_) => write_elected_stages(sink, ward, stages),
+    }
 }
 
 /// The seats that are left after those elected at some stages.
@@ -76,11 +110,31 @@ fn seats_left(seats: u8, stages: &[Stage]) -> usize
     left
 }
 
-/// What is said of seats that are left.
-fn left_words(is_declared: bool) -> &'static str
-    ensures { result.now ≡ words_of is_declared }
+/// The seats that are left in a ward. Those of an uncontested ward are known without a count.
+fn left_in(ward: &Ward, stages: &[Stage]) -> usize
+    ensures { result ≡ left_of_ward (shown ward.now) ward.now.poll stages.now }
 {
-    if is_declared {
+    match ward.poll {
+        None => usize::from(ward.seats).saturating_sub(ward.candidates.len()),
+        Some(_) => seats_left(ward.seats, stages),
+    }
+}
+
+/// Whether seats that are left stay empty.
+fn stay_empty(poll: Option<Poll>, is_declared: bool) -> bool
+    ensures { result ≡ are_empty poll is_declared }
+{
+    match poll {
+        None => true,
+        Some(_) => is_declared,
+    }
+}
+
+/// What is said of seats that are left.
+fn left_words(is_final: bool) -> &'static str
+    ensures { result.now ≡ words_of is_final }
+{
+    if is_final {
         "</ul>\n<p>Seats that stay empty: "
     } else {
         "</ul>\n<p>Seats not yet filled: "
@@ -88,19 +142,19 @@ fn left_words(is_declared: bool) -> &'static str
 }
 
 /// Writes the end of the list of those elected, with the seats that are left, if any.
-fn write_elected_end<W: Sink>(sink: &mut W, is_declared: bool, left: usize) -> Result<(), Broken>
+fn write_elected_end<W: Sink>(sink: &mut W, is_final: bool, left: usize) -> Result<(), Broken>
     requires { W.failed sink.old < 2 ^ 64 - 1 }
-    ensures { Writes W.taken W.failed sink.old sink.new (elected_end is_declared left) result }
+    ensures { Writes W.taken W.failed sink.old sink.new (elected_end is_final left) result }
 {
     if left == 0 {
         return write_line(sink, &[Piece::Text("</ul>")]);
     }
-    let words = Piece::Text(left_words(is_declared));
+    let words = Piece::Text(left_words(is_final));
     let end = Piece::Text("</p>");
     write_line(sink, &[words, Piece::Number(left as u64), end])
 }
 
-/// Writes who is elected, in the order of their election.
+/// Writes who is elected, and how many seats are left.
 pub fn write_elected<W: Sink>(
     sink: &mut W,
     ward: &Ward,
@@ -110,39 +164,9 @@ pub fn write_elected<W: Sink>(
     requires { W.failed sink.old < 2 ^ 64 - 1 }
     ensures { Writes W.taken W.failed sink.old sink.new (elected_text (shown ward.now) is_declared stages.now) result }
 {
-    write_line(sink, &[Piece::Text("<h2>Elected</h2>\n<ul>")])?;
+    let opening = Piece::Text("<div class=\"top\">\n<div>\n<h2>Elected</h2>\n<ul class=\"names\">");
+    write_line(sink, &[opening])?;
     write_elected_items(sink, ward, stages)?;
-    write_elected_end(sink, is_declared, seats_left(ward.seats, stages))
-}
-
-/// A candidate of an uncontested ward.
-#[derive(Clone, Copy)]
-struct Unopposed;
-
-impl OfCandidate for Unopposed {
-    ghost text = { λ u. unopposed_item };
-
-    fn write<W: Sink>(&self, sink: &mut W, candidate: &(u8, String)) -> Result<(), Broken> {
-        let (c, name) = candidate;
-        let named = Piece::Named(*c, name.as_str());
-        write_line(sink, &[Piece::Text("<li>"), named, Piece::Text("</li>")])
-    }
-}
-
-/// Writes that a ward is uncontested, and all its candidates. What seats are left is known without a count.
-pub fn write_unopposed<W: Sink>(sink: &mut W, ward: &Ward) -> Result<(), Broken>
-    requires { W.failed sink.old < 2 ^ 64 - 1 }
-    ensures { Writes W.taken W.failed sink.old sink.new (unopposed_text (shown ward.now)) result }
-{
-    let opening = [
-        Piece::Text("<h2>Elected</h2>\n<p>Seats: "),
-        Piece::Number(u64::from(ward.seats)),
-        Piece::Text(
-            ". The ward is uncontested: there is no poll, and all its candidates are elected.</p>\n<ul>",
-        ),
-    ];
-    write_line(sink, &opening)?;
-    write_each(sink, ward, &Unopposed)?;
-    let left = usize::from(ward.seats).saturating_sub(ward.candidates.len());
-    write_elected_end(sink, true, left)
+    let is_final = stay_empty(ward.poll, is_declared);
+    write_elected_end(sink, is_final, left_in(ward, stages))
 }

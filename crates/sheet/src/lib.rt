@@ -1,9 +1,10 @@
-//! The texts of a ward that people hold in their hands: stage sheets, declarations, ballots, pages and tables.
+//! The texts of a ward that people hold in their hands: stage sheets, declarations, ballots, pages and tables; and one
+//! page of all wards.
 //!
 //! A [`Ward`] has what they tell of it, with its [`Poll`] if it is contested. [`write_sheet`],
 //! [`write_declaration`], [`write_ballots`] and [`write_page`] write them to a sink, and take no memory;
 //! [`sheet_text`] and the like give them as texts, [`spreadsheet_text`] the table. [`can_be_printed`] is the
-//! test of what all ask of a ward.
+//! test of what all ask of a ward. [`write_index`] writes the page of all wards, each a [`ListedWard`].
 //!
 //! ```text
 //! let ward = Ward { number: 7, name: "Harbour", seats: 2, candidates: &candidates, poll: Some(poll) };
@@ -15,15 +16,17 @@
 
 mod ballots;
 mod cells;
+mod chart;
 mod declaration;
 mod elected;
 mod escaping;
 mod fitness;
+mod index;
 mod line;
 mod look;
+mod lots;
 mod opening;
 mod page;
-mod picture;
 mod sheets;
 mod spreadsheet;
 mod stage;
@@ -35,8 +38,10 @@ mod ward;
 pub use ballots::write_ballots;
 pub use declaration::write_declaration;
 pub use fitness::can_be_printed;
+pub use index::{ListedWard, Standing, write_index};
+pub use lots::ties_are_of_the_count;
 pub use page::write_page;
 pub use sheets::write_sheet;
 pub use spreadsheet::spreadsheet_text;
-pub use texts::{ballots_text, declaration_text, page_text, sheet_text};
+pub use texts::{ballots_text, declaration_text, index_text, page_text, sheet_text};
 pub use ward::{Poll, Ward};

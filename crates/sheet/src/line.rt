@@ -5,7 +5,7 @@ ghost use Rattle.std.specs.Str.{IsUtf8};
 ghost use Rattle.votes.specs.Text.{votes_text};
 ghost use Rattle.std.specs.List.{flat_map};
 ghost use Rattle.count.specs.Actions.{action_text};
-ghost use Rattle.sheet.specs.Lines.{line, number_column, right_in, span, preference, preferences, escaped, quoted, named};
+ghost use Rattle.sheet.specs.Lines.{joined, line, number_column, right_in, span, preference, preferences, escaped, quoted, named, action_named};
 ghost use Rattle.sheet.specs.Pieces.{piece_text};
 ghost use Rattle.sheet.specs.Writing.{Puts, Writes};
 
@@ -29,14 +29,18 @@ pub enum Piece<'a> {
     Span(u64, u64),
     /// What is done at a stage.
     Done(Action),
+    /// The same on a page, with the name of the candidate with whom it is done.
+    DoneWith(Action, &'a str),
     /// The numbers of some candidates, each behind a space.
     Preferences(&'a [u8]),
     /// A text in quotation marks.
     Quoted(&'a str),
     /// A text on a page, never markup.
     Escaped(&'a str),
-    /// A number and a name on a page.
+    /// A candidate's or a ward's number and name, on a page.
     Named(u8, &'a str),
+    /// The same, whatever number it is.
+    Listed(u32, &'a str),
 }
 
 /// Writes a text.
@@ -186,15 +190,48 @@ fn write_quoted<W: Sink>(sink: &mut W, text: &str) -> Result<(), Broken>
     write_text(sink, "\"")
 }
 
+/// Writes a number, whatever it is of.
+fn write_any_number<W: Sink>(sink: &mut W, number: u64) -> Result<(), Broken>
+    requires { W.failed sink.old < 2 ^ 64 - 1 }
+    ensures { Writes W.taken W.failed sink.old sink.new (decimal number) result }
+{
+    write_text(sink, Buffer::new().format(number))
+}
+
 /// Writes a number and a name on a page.
-fn write_named<W: Sink>(sink: &mut W, number: u8, name: &str) -> Result<(), Broken>
+fn write_named<W: Sink>(sink: &mut W, number: u64, name: &str) -> Result<(), Broken>
     requires { W.failed sink.old < 2 ^ 64 - 1 }
     ensures { Writes W.taken W.failed sink.old sink.new (named number name.now) result }
 {
-    write_number(sink, number)?;
+    write_any_number(sink, number)?;
     write_text(sink, " <bdi>")?;
     write_plain(sink, name)?;
     write_text(sink, "</bdi>")
+}
+
+/// Writes what is done with a candidate, with his number and name, on a page.
+fn write_acted_on_named<W: Sink>(sink: &mut W, what: &str, c: u8, name: &str) -> Result<(), Broken>
+    requires { W.failed sink.old < 2 ^ 64 - 1 }
+    ensures { Writes W.taken W.failed sink.old sink.new (what.now ++ named c name.now) result }
+{
+    write_text(sink, what)?;
+    write_named(sink, u64::from(c), name)
+}
+
+/// Writes what is done at a stage, on a page, with the name of the candidate with whom it is done.
+fn write_action_named<W: Sink>(sink: &mut W, action: Action, name: &str) -> Result<(), Broken>
+    requires { W.failed sink.old < 2 ^ 64 - 1 }
+    ensures { Writes W.taken W.failed sink.old sink.new (action_named action name.now) result }
+{
+    match action {
+        Action::First => write_text(sink, "first preferences"),
+        Action::Surplus(c) => write_acted_on_named(sink, "surplus of ", c, name),
+        Action::Exclude(c) => write_acted_on_named(sink, "exclusion of ", c, name),
+        Action::ExcludeLast(c) => {
+            write_acted_on_named(sink, "exclusion of ", c, name)?;
+            write_text(sink, ", last vacancies")
+        }
+    }
 }
 
 /// Writes a piece of a line.
@@ -210,11 +247,24 @@ fn write_piece<W: Sink>(sink: &mut W, piece: &Piece) -> Result<(), Broken>
         Piece::ValueColumn(value) => write_value(sink, 13, *value),
         Piece::Span(first, last) => write_span(sink, *first, *last),
         Piece::Done(action) => write_action(sink, *action),
+        Piece::DoneWith(action, name) => write_action_named(sink, *action, name),
         Piece::Preferences(list) => write_preferences(sink, list),
         Piece::Quoted(text) => write_quoted(sink, text),
         Piece::Escaped(text) => write_plain(sink, text),
-        Piece::Named(number, name) => write_named(sink, *number, name),
+        Piece::Named(number, name) => write_named(sink, u64::from(*number), name),
+        Piece::Listed(number, name) => write_named(sink, u64::from(*number), name),
     }
+}
+
+/// Writes these pieces, one after the other.
+pub fn write_pieces<W: Sink>(sink: &mut W, pieces: &[Piece]) -> Result<(), Broken>
+    requires { W.failed sink.old < 2 ^ 64 - 1 }
+    ensures { Writes W.taken W.failed sink.old sink.new (joined (map piece_text pieces.now)) result }
+{
+    for piece in pieces {
+        write_piece(sink, piece)?;
+    }
+    Ok(())
 }
 
 /// Writes a line of these pieces.
@@ -222,8 +272,6 @@ pub fn write_line<W: Sink>(sink: &mut W, pieces: &[Piece]) -> Result<(), Broken>
     requires { W.failed sink.old < 2 ^ 64 - 1 }
     ensures { Writes W.taken W.failed sink.old sink.new (line (map piece_text pieces.now)) result }
 {
-    for piece in pieces {
-        write_piece(sink, piece)?;
-    }
+    write_pieces(sink, pieces)?;
     write_text(sink, "\n")
 }

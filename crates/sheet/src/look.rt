@@ -1,4 +1,4 @@
-//! How a page looks, on screen and in print. All of it can be told in grey, and nothing comes from elsewhere.
+//! How a page looks, on screen and in print: texts of its own, with nothing from elsewhere.
 
 ghost use Rattle.std.specs.Prelude.{◌≡◌};
 ghost use Rattle.sheet.specs.Look.{legend as legend_text, patterns as patterns_text, style as style_text};
@@ -9,67 +9,104 @@ pub fn style() -> &'static str
 {
     "\
 body { color: #000; background: #fff; font: 1rem/1.4 sans-serif; max-width: 68rem; margin: 1rem auto; padding: 0 1rem; }
-h1, h2, caption, .sign { break-after: avoid; }
-h1 { font-size: 1.6rem; margin: 0 0 .5rem; }
-h2 { font-size: 1.2rem; margin: 1.2rem 0 .4rem; }
-h1, p, li, th[scope=row] { overflow: hidden; overflow-wrap: anywhere; }
-.open { border: 2px solid #000; padding: .4rem .6rem; }
+h1 { font-size: 2.2rem; line-height: 1.2; margin: .2rem 0 .4rem; }
+h2 { font-size: 1.2rem; margin: 1.4rem 0 .4rem; }
+h1, h2, caption, .key { break-after: avoid; }
+h1, p, li, th[scope=row], .stages th { overflow: hidden; overflow-wrap: anywhere; }
 ul { list-style: none; margin: 0; padding: 0; }
-table { border-collapse: collapse; }
+table { border-collapse: separate; border-spacing: 0; border: solid #888; border-width: 0 1px 1px 0; }
 caption { text-align: left; font-weight: bold; padding: .6rem 0 .2rem; }
-th, td { border: 1px solid #888; padding: .15rem .35rem; vertical-align: top; text-align: right; font-variant-numeric: tabular-nums; }
-th[scope=row], th[scope=col]:first-child { text-align: left; font-weight: normal; }
-.stages { font-size: .8rem; width: 100%; }
+th, td { border: solid #888; border-width: 1px 0 0 1px; padding: .15rem .35rem; vertical-align: top; text-align: right; font-variant-numeric: tabular-nums; }
+th { font-weight: normal; background: #fff; }
+th[scope=row], th:first-child { text-align: left; }
+.title { font-size: 1.2rem; margin: 0; }
+.running { display: none; }
+.declared strong { display: inline-block; border: 3px solid #000; padding: .1rem .8rem; font-size: 1.5rem; }
+.open { border: 2px dashed #000; padding: .4rem .6rem; }
+.names li { margin: .3rem 0; }
+.names b { font-size: 1.7rem; line-height: 1.2; }
+.names span { margin-left: .5rem; }
+.top { display: grid; grid-template-columns: 3fr 2fr; gap: 0 2rem; }
+.top table { width: 100%; }
+.patterns { position: absolute; }
+.bar { display: block; width: 100%; height: 1rem; overflow: visible; forced-color-adjust: none; }
+.key .bar { display: inline-block; width: 1.6rem; height: .8rem; }
+.bar .first { fill: #757575; }
+.elected .first { fill: #000; }
+.excluded .first { fill: #fff; stroke: #000; }
+.bar .later { fill: url(#later); stroke: #000; }
+.bar .quota { fill: #000; stroke: #fff; }
+.chart li { display: grid; grid-template-columns: 13rem 1fr 9rem 17rem; gap: 0 .8rem; align-items: center; }
+.chart li { border-bottom: 1px solid #bbb; padding: .2rem 0; font-size: .9rem; break-inside: avoid; }
+.who { display: flex; gap: .3em; min-width: 0; }
+.who bdi { min-width: 0; overflow: hidden; text-overflow: ellipsis; white-space: nowrap; }
+.had { text-align: right; font-variant-numeric: tabular-nums; }
+.end { font-variant-numeric: tabular-nums; }
+.stages { font-size: .8rem; }
 .stages th[scope=row] { min-width: 7rem; }
+.stages th[scope=col] { min-width: 6.2rem; }
+.stages th:first-child { position: sticky; left: 0; border-right-width: 1px; }
 .sum th, .sum td { border-top-style: dashed; }
 td i, td b, td small { display: block; font-size: inherit; white-space: nowrap; }
 td small { color: #444; }
-.wide { overflow-x: auto; }
-.moves { display: block; width: 100%; min-width: 56rem; margin: .6rem 0; forced-color-adjust: none; }
-.moves text { font: 14px sans-serif; fill: #000; }
-.moves g text { clip-path: url(#room); }
-.moves tspan { unicode-bidi: plaintext; }
-.moves path { fill: none; stroke: #000; }
-.moves .paper { fill: #fff; }
-.moves .kept { fill: #757575; }
-.moves .gained { fill: url(#gained); stroke: #000; }
-.moves .lost { fill: none; stroke: #000; stroke-width: 1.2; stroke-dasharray: 3 2; }
-.moves .quota { fill: #000; stroke: #fff; stroke-width: 1.2; }
-.patterns { position: absolute; }
+.wide { overflow-x: auto; background: linear-gradient(270deg, #fff 40%, #fff0) local, linear-gradient(270deg, #000a, #0000) scroll; }
+.wide { background-repeat: no-repeat; background-position: 100% 0; background-size: 3rem 100%, 1rem 100%; }
+.index { width: 100%; font-size: 1.2rem; }
+.index th, .index td { text-align: left; padding: .4rem .6rem; }
 .sign p { border-bottom: 1px solid #000; max-width: 34rem; margin: 0; padding: 2.2rem 0 .1rem; }
-@page { size: A4 landscape; margin: 12mm; }
+@media screen and (max-width: 50rem) {
+.top { display: block; }
+.chart li { grid-template-columns: 1fr auto; }
+.chart .bar { order: 1; grid-column: 1 / -1; }
+.chart .end { order: 2; grid-column: 1 / -1; }
+.stages th:first-child { max-width: 38vw; }
+.index { font-size: 1rem; }
+}
+@page { size: A4 landscape; margin: 10mm 12mm; }
 @media print {
-body { font-size: 10pt; max-width: none; margin: 0; padding: 0; }
-.wide { overflow: visible; }
-.stages { font-size: 8pt; line-height: 1.2; table-layout: fixed; }
-.stages th[scope=row] { min-width: 0; }
+html { font-size: 10pt; }
+body { display: table; table-layout: fixed; width: 100%; max-width: none; margin: 0; padding: 0; }
+.running { display: table-header-group; break-inside: avoid; }
+.wide { overflow: visible; background: none; break-inside: avoid; }
+.stages { width: 100%; line-height: 1.2; table-layout: fixed; }
+.stages th[scope] { min-width: 0; position: static; padding: 1pt 2pt; }
+.stages td { padding: 1pt 2pt; overflow-wrap: anywhere; }
 .stages th:first-child { width: 20%; }
-.stages th, .stages td { padding: 1pt 2pt; overflow-wrap: anywhere; }
-.moves { min-width: 0; max-height: 182mm; }
-tr, .moves, .sign { break-inside: avoid; }
+tr, .sign { break-inside: avoid; }
+.chart li { padding: 0; line-height: 1.25; }
+.bar { height: .8rem; }
 * { -webkit-print-color-adjust: exact; print-color-adjust: exact; }
 }
 "
 }
 
-/// Once for all pictures of a page: the pattern of what was gained, and the room of a name, in which it is clipped.
+/// Once for all bars of a page: the pattern of what was gained after the first stage.
 pub fn patterns() -> &'static str
     ensures { result.now ≡ patterns_text }
 {
     "\
 <svg class=\"patterns\" width=\"0\" height=\"0\" aria-hidden=\"true\"><defs>\
-<pattern id=\"gained\" width=\"4\" height=\"4\" patternUnits=\"userSpaceOnUse\" patternTransform=\"rotate(45)\">\
-<rect width=\"4\" height=\"4\" fill=\"#fff\"/><rect width=\"1.6\" height=\"4\" fill=\"#000\"/></pattern>\
-<clipPath id=\"room\"><rect y=\"-2\" width=\"898\" height=\"17\"/></clipPath></defs></svg>"
+<pattern id=\"later\" width=\"4\" height=\"4\" patternUnits=\"userSpaceOnUse\" patternTransform=\"rotate(45)\">\
+<rect width=\"4\" height=\"4\" fill=\"#fff\"/>\
+<rect width=\"1.6\" height=\"4\" fill=\"#000\"/></pattern></defs></svg>"
 }
 
-/// What the bars of a picture mean.
+/// What the bars of a chart mean, up to the quota.
 pub fn legend() -> &'static str
     ensures { result.now ≡ legend_text }
 {
     "\
-<rect class=\"kept\" y=\"6\" width=\"24\" height=\"12\"/><text x=\"28\" y=\"16\">votes kept</text>\
-<rect class=\"gained\" x=\"132\" y=\"6\" width=\"24\" height=\"12\"/><text x=\"160\" y=\"16\">gained at the stage</text>\
-<rect class=\"lost\" x=\"324\" y=\"6\" width=\"24\" height=\"12\"/><text x=\"352\" y=\"16\">lost at the stage</text>\
-<path class=\"quota\" d=\"M494.6 4h2.8v16h-2.8z\"/><text x=\"504\" y=\"16\">quota</text>"
+<p class=\"key\">\
+<svg class=\"bar\" aria-hidden=\"true\">\
+<rect class=\"first\" width=\"100%\" height=\"100%\"/></svg> votes at stage 1, \
+<span class=\"elected\">\
+<svg class=\"bar\" aria-hidden=\"true\">\
+<rect class=\"first\" width=\"100%\" height=\"100%\"/></svg> of the elected</span>, \
+<span class=\"excluded\">\
+<svg class=\"bar\" aria-hidden=\"true\">\
+<rect class=\"first\" width=\"100%\" height=\"100%\"/></svg> of the excluded</span>; \
+<svg class=\"bar\" aria-hidden=\"true\">\
+<rect class=\"later\" width=\"100%\" height=\"100%\"/></svg> votes gained later; \
+<svg class=\"bar\" aria-hidden=\"true\">\
+<rect class=\"quota\" x=\"45%\" width=\"3\" height=\"100%\"/></svg> the quota, "
 }

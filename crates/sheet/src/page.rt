@@ -1,38 +1,55 @@
-//! The page that shows the result of a ward, to print and sign.
+//! The page that shows the result of a ward, to hang up, to print and to sign.
 
 ghost use Rattle.std.specs.Prelude.{◌≡◌, ◌-◌, ◌^◌, ◌<◌, ◌≤◌};
-ghost use Rattle.std.specs.List.{flat_map};
 ghost use Rattle.votes.specs.Units.{max_papers, max_seats};
 ghost use Rattle.sheet.specs.Entries.{shown};
-ghost use Rattle.sheet.specs.Page.{foot as foot_of, lot_item, lots_text, note as note_of, page, page_head, papers_table, rejected_in_all as in_all, result_text, stages_part};
+ghost use Rattle.sheet.specs.Page.{foot, grounds, note as note_of, opening as opening_of, page, page_head, papers_table, rejected_in_all as in_all, signatures, stages_part, title_line, uncontested_text, ward_heading};
 ghost use Rattle.sheet.specs.Wards.{CanBePrinted};
 ghost use Rattle.sheet.specs.Writing.{Writes};
 
-use crate::ballots::name_or_withdrawn;
-use crate::elected::{write_elected, write_unopposed};
+use crate::chart::{scale_of, write_chart};
+use crate::elected::{write_elected, write_elected_items};
 use crate::line::{Piece, write_line, write_text};
-use crate::look::{patterns, style};
-use crate::picture::scale_of;
-use crate::table::write_blocks;
+use crate::look::style;
+use crate::lots::write_lots;
+use crate::table::write_tables;
 use crate::ward::{Poll, Ward};
 use count::Stage;
 use votes::{Broken, Sink, quota};
 
-/// What stands below the ward's name where it is not declared.
+// ---- the head
+
+/// Writes a title, where it isn't empty.
+pub fn write_title<W: Sink>(sink: &mut W, title: &str) -> Result<(), Broken>
+    requires { W.failed sink.old < 2 ^ 64 - 1 }
+    ensures { Writes W.taken W.failed sink.old sink.new (title_line title.now) result }
+{
+    if title.is_empty() {
+        return Ok(());
+    }
+    let pieces = [
+        Piece::Text("<p class=\"title\" dir=\"auto\">"),
+        Piece::Escaped(title),
+        Piece::Text("</p>"),
+    ];
+    write_line(sink, &pieces)
+}
+
+/// Whether the result is declared, in words.
 fn note(is_declared: bool) -> &'static str
     ensures { result.now ≡ note_of is_declared }
 {
     if is_declared {
-        ""
+        "<p class=\"declared\"><strong>Declared</strong></p>"
     } else {
-        "\n<p class=\"open\"><strong>This is not a declared result.</strong> The ward is not declared yet, and what stands here may change.</p>"
+        "<p class=\"open\"><strong>This is not a declared result.</strong> The ward is not declared yet, and what stands here may change.</p>"
     }
 }
 
-/// Writes the head of the page, and the number and the name of the ward.
-fn write_page_head<W: Sink>(sink: &mut W, ward: &Ward, is_declared: bool) -> Result<(), Broken>
+/// Writes the document's head, and the line that stands on each printed sheet.
+fn write_opening<W: Sink>(sink: &mut W, ward: &Ward) -> Result<(), Broken>
     requires { W.failed sink.old < 2 ^ 64 - 1 }
-    ensures { Writes W.taken W.failed sink.old sink.new (page_head (shown ward.now) is_declared) result }
+    ensures { Writes W.taken W.failed sink.old sink.new (opening_of (shown ward.now)) result }
 {
     let pieces = [
         Piece::Text(
@@ -43,13 +60,43 @@ fn write_page_head<W: Sink>(sink: &mut W, ward: &Ward, is_declared: bool) -> Res
         Piece::Escaped(ward.name),
         Piece::Text("</title>\n<style>\n"),
         Piece::Text(style()),
-        Piece::Text("</style>\n</head>\n<body>\n<h1>Ward "),
+        Piece::Text("</style>\n</head>\n<body>\n<p class=\"running\" aria-hidden=\"true\">Ward "),
         Piece::Named(ward.number, ward.name),
-        Piece::Text("</h1>"),
+        Piece::Text("</p>"),
+    ];
+    write_line(sink, &pieces)
+}
+
+/// Writes the number and the name of the ward, and how its result stands.
+fn write_ward_heading<W: Sink>(sink: &mut W, ward: &Ward, is_declared: bool) -> Result<(), Broken>
+    requires { W.failed sink.old < 2 ^ 64 - 1 }
+    ensures { Writes W.taken W.failed sink.old sink.new (ward_heading (shown ward.now) is_declared) result }
+{
+    let pieces = [
+        Piece::Text("<h1>Ward "),
+        Piece::Named(ward.number, ward.name),
+        Piece::Text("</h1>\n"),
         Piece::Text(note(is_declared)),
     ];
     write_line(sink, &pieces)
 }
+
+/// Writes all that stands above the result.
+fn write_page_head<W: Sink>(
+    sink: &mut W,
+    ward: &Ward,
+    title: &str,
+    is_declared: bool,
+) -> Result<(), Broken>
+    requires { W.failed sink.old < 2 ^ 64 - 1 }
+    ensures { Writes W.taken W.failed sink.old sink.new (page_head (shown ward.now) title.now is_declared) result }
+{
+    write_opening(sink, ward)?;
+    write_title(sink, title)?;
+    write_ward_heading(sink, ward, is_declared)
+}
+
+// ---- what the result rests on
 
 /// The rejected papers of all codes.
 fn rejected_in_all(rejected: &[u32; 5]) -> u64
@@ -74,7 +121,7 @@ fn write_papers_table<W: Sink>(sink: &mut W, seats: u8, poll: &Poll) -> Result<(
     let rejected = rejected_in_all(&poll.rejected);
     let pieces = [
         Piece::Text(
-            "<h2>Papers</h2>\n<table class=\"papers\">\n<tr><th scope=\"row\">Seats</th><td>",
+            "</div>\n<div>\n<h2>Papers</h2>\n<table class=\"papers\">\n<tr><th scope=\"row\">Seats</th><td>",
         ),
         Piece::Number(u64::from(seats)),
         Piece::Text("</td></tr>\n<tr><th scope=\"row\">Valid papers</th><td>"),
@@ -105,53 +152,27 @@ fn write_papers_table<W: Sink>(sink: &mut W, seats: u8, poll: &Poll) -> Result<(
         Piece::Number(rejected),
         Piece::Text("</td></tr>\n<tr><th scope=\"row\">Papers in all</th><td>"),
         Piece::Number(u64::from(poll.valid) + rejected),
-        Piece::Text("</td></tr>\n</table>"),
+        Piece::Text("</td></tr>\n</table>\n</div>\n</div>"),
     ];
     write_line(sink, &pieces)
 }
 
-/// Writes the candidate whom a lot named, and at which stage.
-fn write_lot_item<W: Sink>(sink: &mut W, ward: &Ward, lot: &(u8, u8)) -> Result<(), Broken>
+/// Writes that a ward is uncontested.
+fn write_uncontested<W: Sink>(sink: &mut W, seats: u8) -> Result<(), Broken>
     requires { W.failed sink.old < 2 ^ 64 - 1 }
-    ensures { Writes W.taken W.failed sink.old sink.new (lot_item (shown ward.now).candidates lot.now) result }
+    ensures { Writes W.taken W.failed sink.old sink.new (uncontested_text seats) result }
 {
-    let (stage, candidate) = *lot;
     let pieces = [
-        Piece::Text("<li>Stage "),
-        Piece::Number(u64::from(stage)),
-        Piece::Text(": "),
-        Piece::Named(candidate, name_or_withdrawn(ward, candidate)),
-        Piece::Text("</li>"),
+        Piece::Text("<p>Seats: "),
+        Piece::Number(u64::from(seats)),
+        Piece::Text(
+            ". The ward is uncontested: there is no poll, and all its candidates are elected.</p>\n</div>\n</div>",
+        ),
     ];
     write_line(sink, &pieces)
 }
 
-/// Writes the candidates whom the lots named.
-fn write_lot_items<W: Sink>(sink: &mut W, ward: &Ward, lots: &[(u8, u8)]) -> Result<(), Broken>
-    requires { W.failed sink.old < 2 ^ 64 - 1 }
-    ensures { Writes W.taken W.failed sink.old sink.new (flat_map (lot_item (shown ward.now).candidates) lots.now) result }
-{
-    for lot in lots {
-        write_lot_item(sink, ward, lot)?;
-    }
-    Ok(())
-}
-
-/// Writes the lots that were drawn.
-fn write_lots<W: Sink>(sink: &mut W, ward: &Ward, lots: &[(u8, u8)]) -> Result<(), Broken>
-    requires { W.failed sink.old < 2 ^ 64 - 1 }
-    ensures { Writes W.taken W.failed sink.old sink.new (lots_text (shown ward.now) lots.now) result }
-{
-    if lots.is_empty() {
-        let none = Piece::Text("<h2>Lots drawn</h2>\n<p>No lot was drawn.</p>");
-        return write_line(sink, &[none]);
-    }
-    write_line(sink, &[Piece::Text("<h2>Lots drawn</h2>\n<ul>")])?;
-    write_lot_items(sink, ward, lots)?;
-    write_line(sink, &[Piece::Text("</ul>")])
-}
-
-/// Writes the stages, with the patterns of their pictures.
+/// Writes the stages, as a chart of all of them, and as tables.
 fn write_stages_part<W: Sink>(
     sink: &mut W,
     ward: &Ward,
@@ -168,61 +189,86 @@ fn write_stages_part<W: Sink>(
         let none = Piece::Text("<h2>Stages</h2>\n<p>No stage is done yet.</p>");
         return write_line(sink, &[none]);
     }
-    let opening = [Piece::Text("<h2>Stages</h2>\n"), Piece::Text(patterns())];
-    write_line(sink, &opening)?;
-    write_blocks(sink, ward, scale_of(ward.seats, poll, stages), stages)
+    write_chart(sink, ward, scale_of(ward.seats, poll, stages), stages)?;
+    write_line(sink, &[Piece::Text("<h2>Stages</h2>")])?;
+    write_tables(sink, ward, stages)
 }
 
-/// Writes the result of a ward.
-fn write_result<W: Sink>(
+/// Writes what the result of a ward rests on: its papers, the lots and the stages.
+fn write_grounds<W: Sink>(
     sink: &mut W,
     ward: &Ward,
-    is_declared: bool,
     stages: &[Stage],
     lots: &[(u8, u8)],
 ) -> Result<(), Broken>
     requires ward { CanBePrinted ward.now }
     requires failures { W.failed sink.old < 2 ^ 64 - 1 }
-    ensures { Writes W.taken W.failed sink.old sink.new (result_text (shown ward.now) ward.now.poll is_declared stages.now lots.now) result }
+    ensures { Writes W.taken W.failed sink.old sink.new (grounds (shown ward.now) ward.now.poll stages.now lots.now) result }
 {
     let Some(poll) = ward.poll else {
-        return write_unopposed(sink, ward);
+        return write_uncontested(sink, ward.seats);
     };
     write_papers_table(sink, ward.seats, &poll)?;
-    write_elected(sink, ward, is_declared, stages)?;
-    write_lots(sink, ward, lots)?;
+    write_lots(sink, ward, stages, lots)?;
     write_stages_part(sink, ward, &poll, stages)
 }
 
-/// The foot of the page.
-fn foot(is_declared: bool) -> &'static str
-    ensures { result.now ≡ foot_of is_declared }
+// ---- the foot
+
+/// Writes once more the ward and who is elected, and below them the lines for the date and three signatures.
+fn write_signatures<W: Sink>(sink: &mut W, ward: &Ward, stages: &[Stage]) -> Result<(), Broken>
+    requires { W.failed sink.old < 2 ^ 64 - 1 }
+    ensures { Writes W.taken W.failed sink.old sink.new (signatures (shown ward.now) stages.now) result }
 {
-    if is_declared {
-        "<div class=\"sign\">\n<h2>Signed</h2>\n<p>Date</p>\n<p>Returning officer</p>\n<p>First witness</p>\n<p>Second witness</p>\n</div>\n</body>\n</html>\n"
-    } else {
-        "</body>\n</html>\n"
-    }
+    let opening = [
+        Piece::Text("<div class=\"sign\">\n<h2>Ward "),
+        Piece::Named(ward.number, ward.name),
+        Piece::Text(": elected</h2>\n<ul>"),
+    ];
+    write_line(sink, &opening)?;
+    write_elected_items(sink, ward, stages)?;
+    write_text(
+        sink,
+        "</ul>\n<h2>Signed</h2>\n<p>Date</p>\n<p>Returning officer</p>\n<p>First witness</p>\n<p>Second witness</p>\n</div>\n</body>\n</html>\n",
+    )
 }
 
-/// Writes the page of a ward, one file of HTML: its papers, who is elected, the lots that were drawn (a stage and a
-/// candidate each), its stages as tables and as pictures, and, where it is declared, lines to sign on. Of an
-/// uncontested ward no stage and no lot is read.
+/// Writes the foot of the page, where it is declared with a place to sign.
+fn write_foot<W: Sink>(
+    sink: &mut W,
+    ward: &Ward,
+    is_declared: bool,
+    stages: &[Stage],
+) -> Result<(), Broken>
+    requires { W.failed sink.old < 2 ^ 64 - 1 }
+    ensures { Writes W.taken W.failed sink.old sink.new (foot (shown ward.now) is_declared stages.now) result }
+{
+    if is_declared {
+        return write_signatures(sink, ward, stages);
+    }
+    write_text(sink, "</body>\n</html>\n")
+}
+
+/// Writes the page of a ward, one file of HTML: its title, who is elected, its papers, the lots that were drawn (a stage
+/// and a candidate each), its stages as a chart and as tables, and, where it is declared, lines to sign on. An empty title
+/// is left out. Of an uncontested ward no stage and no lot is read.
 ///
 /// Takes no memory. `Broken` comes only from the sink, which has then taken a beginning of the page and
 /// counts one failure more.
 pub fn write_page<W: Sink>(
     sink: &mut W,
     ward: &Ward,
+    title: &str,
     is_declared: bool,
     stages: &[Stage],
     lots: &[(u8, u8)],
 ) -> Result<(), Broken>
     requires ward { CanBePrinted ward.now }
     requires failures { W.failed sink.old < 2 ^ 64 - 1 }
-    ensures { Writes W.taken W.failed sink.old sink.new (page (shown ward.now) is_declared stages.now lots.now) result }
+    ensures { Writes W.taken W.failed sink.old sink.new (page (shown ward.now) title.now is_declared stages.now lots.now) result }
 {
-    write_page_head(sink, ward, is_declared)?;
-    write_result(sink, ward, is_declared, stages, lots)?;
-    write_text(sink, foot(is_declared))
+    write_page_head(sink, ward, title, is_declared)?;
+    write_elected(sink, ward, is_declared, stages)?;
+    write_grounds(sink, ward, stages, lots)?;
+    write_foot(sink, ward, is_declared, stages)
 }

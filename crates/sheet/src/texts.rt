@@ -1,15 +1,17 @@
-//! The stage sheet, the declaration, the ballots and the page as texts in memory.
+//! The stage sheet, the declaration, the ballots, the page and the index of wards as texts in memory.
 
-ghost use Rattle.std.specs.Prelude.{◌≡◌, [], Some, IfOk, string_bytes};
+ghost use Rattle.std.specs.Prelude.{◌≡◌, [], map, Some, IfOk, string_bytes};
 ghost use Rattle.std.specs.Str.{IsUtf8};
 ghost use Rattle.sheet.specs.Entries.{shown};
 ghost use Rattle.sheet.specs.Ballots.{ballots};
+ghost use Rattle.sheet.specs.Index.{index, listed};
 ghost use Rattle.sheet.specs.Page.{page};
 ghost use Rattle.sheet.specs.Sheet.{sheet, declaration};
 ghost use Rattle.sheet.specs.Wards.{CanBePrinted};
 
 use crate::ballots::write_ballots;
 use crate::declaration::write_declaration;
+use crate::index::{ListedWard, write_index};
 use crate::page::write_page;
 use crate::sheets::write_sheet;
 use crate::ward::Ward;
@@ -119,15 +121,29 @@ pub fn ballots_text(
 pub fn page_text(
     alloc: Global,
     ward: &Ward,
+    title: &str,
     is_declared: bool,
     stages: &[Stage],
     lots: &[(u8, u8)],
 ) -> Result<String, AllocError>
     requires { CanBePrinted ward.now }
-    ensures { IfOk result (λ text. string_bytes text ≡ page (shown ward.now) is_declared stages.now lots.now) }
+    ensures { IfOk result (λ text. string_bytes text ≡ page (shown ward.now) title.now is_declared stages.now lots.now) }
 {
     let mut page = InMemory::new(alloc);
-    match write_page(&mut page, ward, is_declared, stages, lots) {
+    match write_page(&mut page, ward, title, is_declared, stages, lots) {
+        Ok(()) => Ok(page.into_text()),
+        Err(Broken) => Err(AllocError),
+    }
+}
+
+/// The page of all wards, as [`write_index`] writes it.
+///
+/// The only error is want of memory.
+pub fn index_text(alloc: Global, title: &str, wards: &[ListedWard]) -> Result<String, AllocError>
+    ensures { IfOk result (λ text. string_bytes text ≡ index title.now (map listed wards.now)) }
+{
+    let mut page = InMemory::new(alloc);
+    match write_index(&mut page, title, wards) {
         Ok(()) => Ok(page.into_text()),
         Err(Broken) => Err(AllocError),
     }

@@ -1,22 +1,27 @@
 -- Why what was read of how all stands is so.
-use Rattle.std.proofs.Common.{◌≡◌, ◌<◌, ℕ, true, cond, not, ◌&&◌, ◌||◌, List, [], ◌∷◌, ◌++◌, map, filter, length, get_or, Option, Some, None, option_map, refl, sym, ap, subst, ◌∙◌}
+use Rattle.std.proofs.Common.{◌≡◌, ◌<◌, ◌==◌, ℕ, Bool, true, false, cond, not, ◌&&◌, ◌||◌}
+use Rattle.std.proofs.Common.{List, [], ◌∷◌, ◌++◌, map, filter, length, get_or, drop, suc, ◌+◌, Option, Some, None, option_map, refl, sym, ap, subst, ◌∙◌, append_assoc, add-one, drop-cons}
 use Rattle.std.proofs.Math.Bool.{or-false}
-use Rattle.std.proofs.lemmas.Bool.{cond-true}
+use Rattle.std.proofs.lemmas.Bool.{cond-true, eqb-true}
 use Rattle.std.proofs.lemmas.List.{map-append}
-use Rattle.std.specs.List.{AllByRecursion}
+use Rattle.std.specs.List.{AllByRecursion, flat_map}
 use Rattle.sqlite_trees.proofs.ListLemmas.{all-get_or}
 use Rattle.register.specs.declared.elections.CountedWard.{CountedWard}
 use Rattle.register.specs.declared.phase.Phase.{Phase}
 use Rattle.register.specs.declared.phase.Phase.TheVariants.{Nominations, Keying, Sealed, Declared}
 use Rattle.register.specs.declared.wards.Ward.{Ward}
-use Rattle.register.specs.Offices.{WardEntry, BatchEntry, KeyedEntry, JudgedEntry, OfficeState, ward_entry, ward_at, verdicts_of}
-use Rattle.register.specs.Papers.{is_keyed, of_three, agreed, keyings_now}
+use Rattle.register.specs.Offices.{WardEntry, CandidateEntry, BatchEntry, KeyedEntry, JudgedEntry, OfficeState, candidate_entry, candidates_of, ward_entry, ward_at, verdicts_of}
+use Rattle.register.specs.Marks.{columns_of}
+use Rattle.register.specs.Papers.{is_keyed, of_three, agreed, keyings_now, batches_of}
+use Rattle.register.specs.Polls.{Pile, pile_of, judgements_in, judgements}
+use Rattle.register.specs.declared.polls.Judgement.{Judgement}
 use Rattle.register.specs.Elections.{ElectionEntry, election_of, elected_of, is_counted, is_declared}
 use Rattle.register.specs.Items.{IsState}
 use Rattle.register.specs.Tabulated.{IsCountedWard}
-use Rattle.tables.proofs.ListLemmas.{get_mapped, mapped_length}
+use Rattle.tables.proofs.ListLemmas.{get_mapped, mapped_length, mapped_twice}
 use Rattle.store.specs.Elections.{IsCountedIn, IsCountedInFor}
-use Rattle.store.specs.Overviews.{WardView, declared_in, DoubtfulView, doubtful_among, doubtful_in, has_alike, is_apart, apart_among, papers_apart}
+use Rattle.store.specs.Overviews.{WardView, candidates_told, declared_in, PaperView, paper_view_of, papers_by, papers_of, judgements_told}
+use Rattle.store.specs.Overviews.{DoubtfulView, DoubtfulPapersView, doubtful_among, doubtful_in, doubtful_papers, has_alike, is_apart, apart_among, papers_apart}
 use Rattle.store.proofs.DoneLemmas.{wards_there}
 
 -- ---- lists
@@ -34,8 +39,12 @@ each_there P entry xs k x all within is =
 -- ---- wards
 
 -- wards with the same fields are the same
-pub same_ward_view : (x y : WardView) → x.ward ≡ y.ward → x.status ≡ y.status → x.elected ≡ y.elected → x ≡ y
-same_ward_view x y ward status elected = ap (λ v. record x { ward = v }) ward ∙ ap (λ v. record x { ward = y.ward; status = v }) status ∙ ap (λ v. record y { elected = v }) elected
+pub same_ward_view : (x y : WardView) → x.ward ≡ y.ward → x.status ≡ y.status → x.elected ≡ y.elected → x.candidates ≡ y.candidates → x ≡ y
+same_ward_view x y ward status elected candidates =
+    ap (λ v. record x { ward = v }) ward
+    ∙ ap (λ v. record x { ward = y.ward; status = v }) status
+    ∙ ap (λ v. record x { ward = y.ward; status = y.status; elected = v }) elected
+    ∙ ap (λ v. record y { candidates = v }) candidates
 
 -- a ward of a state is the one of its number
 pub ward_there : (s : OfficeState) → IsState s → (ws : List Ward) → map ward_entry ws ≡ s.wards → (k : ℕ) (w : Ward) → k < length ws → w ≡ get_or ws k w → ward_at s w.number ≡ Some (ward_entry w)
@@ -61,13 +70,78 @@ declared_told s w found counted elected is told law declared there =
     some_same : {a b : CountedWard} → ◌≡◌ {A = Option CountedWard} (Some a) (Some b) → a ≡ b
     some_same e = cc
 
+-- the candidates that were found of a declared ward
+pub candidates_found : (s : OfficeState) (w : WardEntry) (found : Option CountedWard) (counted : CountedWard) → found ≡ Some counted → IsCountedInFor (option_map (election_of s) (ward_at s w.number)) found
+    → is_declared w.phase ≡ true → ward_at s w.number ≡ Some w → map candidate_entry counted.candidates.items ≡ candidates_told s w
+candidates_found s w found counted is told declared there =
+    let here : IsCountedIn (election_of s w) found = subst (λ (o : Option WardEntry). IsCountedInFor (option_map (election_of s) o) found) there told in
+    let same : here.0 ≡ counted = some_same (sym here.1 ∙ is) in
+    (subst (IsCountedWard (election_of s w)) same here.2).candidates_are ∙ sym (cond-true (is_declared w.phase) (candidates_of s w.number) [] declared)
+  where
+    some_same : {a b : CountedWard} → ◌≡◌ {A = Option CountedWard} (Some a) (Some b) → a ≡ b
+    some_same e = cc
+
+-- ---- papers as they count
+
+-- what is told of the items so far and of those that are left, where one more is told
+pub told_more : {A B C D : Type 0} (view : A → D) (told : B → D) (entry : C → B) (found new : List A) (one : A) (xs : List C) (k : ℕ) (x : C) → k < length xs → x ≡ get_or xs k x
+    → new ≡ found ++ one ∷ [] → view one ≡ told (entry x)
+    → map view found ++ map told (map entry (drop k xs)) ≡ map told (map entry xs) → map view new ++ map told (map entry (drop (k + 1) xs)) ≡ map told (map entry xs)
+told_more {C = C} {D = D} view told entry found new one xs k x within is put same so_far =
+    let left : List D = map told (map entry (drop (k + 1) xs)) in
+    let next : drop k xs ≡ x ∷ drop (k + 1) xs = rw add-one (drop-cons xs k x within ∙ ap (λ (y : C). y ∷ drop (suc k) xs) (sym is)) in
+    ap (λ (vs : List D). vs ++ left) (ap (map view) put ∙ map-append view found (one ∷ []))
+    ∙ append_assoc (map view found) (view one ∷ []) left
+    ∙ ap (λ (v : D). map view found ++ v ∷ left) same
+    ∙ ap (λ (ys : List C). map view found ++ map told (map entry ys)) (sym next)
+    ∙ so_far
+
+-- those of a batch, by the candidates and the pile that were read of it
+pub papers_told : (s : OfficeState) (b : BatchEntry) (candidates : List CandidateEntry) (pile : Pile) → candidates ≡ candidates_of s b.ward → pile ≡ pile_of s b
+    → papers_by candidates pile ≡ papers_of s b
+papers_told s b candidates pile here same = ap (λ (cs : List CandidateEntry). papers_by cs pile) here ∙ ap (papers_by (candidates_of s b.ward)) same
+
+-- those of a batch of a ward are told by the judgements by which they are counted there
+judged_alike : (s : OfficeState) (ward : ℕ) (b : BatchEntry) → b.ward ≡ ward → judgements_told s b ≡ judgements_in (columns_of (candidates_of s ward)) (pile_of s b)
+judged_alike s ward b is =
+    mapped_twice (paper_view_of (columns_of (candidates_of s b.ward)) (verdicts_of s b.number)) (λ (p : PaperView). p.judgement) (agreed (keyings_now s b))
+    ∙ ap (λ (w : ℕ). judgements_in (columns_of (candidates_of s w)) (pile_of s b)) is
+
+-- so are those of all its batches, one after the other
+pub told_counted : (s : OfficeState) (ward : ℕ) (bs : List BatchEntry)
+    → flat_map (judgements_told s) (filter (λ (b : BatchEntry). b.ward == ward) bs) ≡ judgements (columns_of (candidates_of s ward)) (map (pile_of s) (filter (λ (b : BatchEntry). b.ward == ward) bs))
+told_counted s ward [] = refl
+told_counted s ward (b ∷ bs) = go (b.ward == ward) refl (filter (λ (c : BatchEntry). c.ward == ward) bs) (told_counted s ward bs)
+  where
+    go : (q : Bool) → (b.ward == ward) ≡ q → (rest : List BatchEntry) → flat_map (judgements_told s) rest ≡ judgements (columns_of (candidates_of s ward)) (map (pile_of s) rest)
+        → flat_map (judgements_told s) (cond q (b ∷ rest) rest) ≡ judgements (columns_of (candidates_of s ward)) (map (pile_of s) (cond q (b ∷ rest) rest))
+    go true is rest later =
+        ap (λ (js : List Judgement). js ++ flat_map (judgements_told s) rest) (judged_alike s ward b (eqb-true b.ward ward is))
+        ∙ ap (λ (js : List Judgement). judgements_in (columns_of (candidates_of s ward)) (pile_of s b) ++ js) later
+    go false is rest later = later
+
 -- ---- doubtful papers
 
 -- those of one batch more
-pub doubtful_put : (s : OfficeState) (b : BatchEntry) (before after : List DoubtfulView) (verdicts : List JudgedEntry) (papers : List KeyedEntry) (keyings : List (List KeyedEntry)) → after ≡ before ++ doubtful_among verdicts papers
-    → verdicts ≡ verdicts_of s b.number → papers ≡ agreed keyings → keyings ≡ keyings_now s b → after ≡ before ++ doubtful_in s b
-doubtful_put s b before after verdicts papers keyings put judged taken are =
-    put ∙ ap (λ (vs : List JudgedEntry). before ++ doubtful_among vs papers) judged ∙ ap (λ (ks : List KeyedEntry). before ++ doubtful_among (verdicts_of s b.number) ks) (taken ∙ ap agreed are)
+pub doubtful_put : (s : OfficeState) (columns : List ℕ) (b : BatchEntry) (before after : List DoubtfulView) (verdicts : List JudgedEntry) (papers : List KeyedEntry) (keyings : List (List KeyedEntry))
+    → after ≡ before ++ doubtful_among columns verdicts papers → verdicts ≡ verdicts_of s b.number → papers ≡ agreed keyings → keyings ≡ keyings_now s b → after ≡ before ++ doubtful_in s columns b
+doubtful_put s columns b before after verdicts papers keyings put judged taken are =
+    put
+    ∙ ap (λ (vs : List JudgedEntry). before ++ doubtful_among columns vs papers) judged
+    ∙ ap (λ (ks : List KeyedEntry). before ++ doubtful_among columns (verdicts_of s b.number) ks) (taken ∙ ap agreed are)
+
+same_doubtful : (x y : DoubtfulPapersView) → x.candidates ≡ y.candidates → x.papers ≡ y.papers → x ≡ y
+same_doubtful x y candidates papers = ap (λ v. record x { candidates = v }) candidates ∙ ap (λ v. record y { papers = v }) papers
+
+-- those of a ward, by what was read of it
+pub doubtful_told : (s : OfficeState) (ward : ℕ) (d : DoubtfulPapersView) (columns : List ℕ) (batches : List BatchEntry) → d.candidates ≡ candidates_of s ward
+    → columns ≡ columns_of d.candidates → batches ≡ batches_of s ward → d.papers ≡ flat_map (doubtful_in s columns) batches → d ≡ doubtful_papers s ward
+doubtful_told s ward d columns batches here read there are =
+    same_doubtful
+    d
+    (doubtful_papers s ward)
+    here
+    (are ∙ ap (λ (cs : List ℕ). flat_map (doubtful_in s cs) batches) (read ∙ ap columns_of here) ∙ ap (flat_map (doubtful_in s (columns_of (candidates_of s ward)))) there)
 
 -- ---- differences
 

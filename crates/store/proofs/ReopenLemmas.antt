@@ -1,5 +1,5 @@
 -- A database that a stop left opens again, at the state whose tables it holds.
-use Rattle.std.proofs.Common.{◌≡◌, ◌⊎◌, inl, inr, true, [], ◌∷◌, refl, sym, ap₂, subst}
+use Rattle.std.proofs.Common.{◌≡◌, ◌⊎◌, inl, inr, true, [], ◌∷◌, refl, sym, ap₂, subst, IsTrue}
 use Rattle.std.specs.List.Sorted.{IsStrictlySortedBy}
 use Rattle.std.specs.declared.cmp.Ordering.{Ordering}
 use Rattle.sqlite_trees.specs.Objects.{catalog_tree}
@@ -20,7 +20,7 @@ use Rattle.tables.specs.declared.table.Table.{Table}
 use Rattle.tables.specs.declared.table.Table.TheVariants.{Office}
 use Rattle.tables.specs.Schema.{IsOfficeSchema}
 use Rattle.tables.specs.Rows.{row_cmp, tuples}
-use Rattle.tables.specs.Contents.{Contents, IsOffice}
+use Rattle.tables.specs.Contents.{Contents, IsOffice, RestsAt}
 use Rattle.tables.specs.Presence.{has_table, IsOurs}
 use Rattle.tables.specs.Reading.{SharesRowids, FailsToList, FailsBy}
 use Rattle.store.specs.EntryRows.{this_version, office_row}
@@ -28,6 +28,7 @@ use Rattle.store.specs.Offices.{tables_of, HoldsState, IsAt}
 use Rattle.store.specs.Openings.{HasNoOffice, IsNewer, IsOlder, IsLeftAt, IsToldBy}
 use Rattle.tables.proofs.ListingLemmas.{begins_to}
 use Rattle.tables.proofs.HoldLemmas.{own_rowids}
+use Rattle.tables.proofs.ReadLemmas.{rests_at}
 use Rattle.store.proofs.StateLemmas.{one_state, tables_rise}
 use Rattle.store.proofs.TellLemmas.{which_kind, office_rows, this_office, state_version}
 
@@ -99,6 +100,12 @@ left_failed s db old new f left told fails = elim (left_told s db f left told) [
   | inl memory ↦ inl memory
   | inr store ↦ inr (store, elim (fails store) [ inl failed ↦ failed | inr shared ↦ absurd (own_there s db (left_holds s db left) shared) ])
 ]
+
+-- an office that is open at a state rests at the database that a stop leaves of it
+pub at_left : (s : OfficeState) (st : State) → IsAt s st → IsTrue st.is_open → RestsAt st.now st × IsLeftAt s st.now
+at_left s st at is_open =
+    let rests = at.rests is_open in
+    (rests_at (tables_of s) st rests, record { is = at.is; sound = sound (tables_of s) st.now rests.office; stores = record { db = st.now; office = rests.office; same = refl } })
 
 -- and the state found in it is this one
 pub left_opened : (s : OfficeState) (db : Database) (st : State) → IsLeftAt s db → (x : OfficeState) × HoldsState db x × IsAt x st → IsAt s st

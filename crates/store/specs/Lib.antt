@@ -11,3 +11,4 @@ pub mod Migrations
 pub mod Overviews
 pub mod Piles
 pub mod Copies
+pub mod Whole

@@ -1,11 +1,15 @@
--- What the office is told of how all stands: its wards, the batches of a ward, their doubtful papers, where a batch differs, and what was kept.
+-- What the office is told of how all stands: its wards, the batches of a ward, their papers as they count, the doubtful ones, where a batch
+-- differs, and what was kept.
 use Rattle.std.specs.Prelude.{ℕ, Bool, not, ◌==◌, ◌&&◌, ◌++◌, if◌then◌else◌, List, [], ◌∷◌, map, find, codes, Option, Some, None, option_map}
 use Rattle.std.specs.List.{filter, flat_map, list_any}
 use Rattle.std.specs.Fmt.{decimal}
 use Rattle.std.specs.Str.{bytes_eq}
-use Rattle.register.specs.Offices.{WardEntry, BatchEntry, KeyedEntry, JudgedEntry, ReceiptEntry, OfficeState, ward_entry, batch_entry, judged_entry, ward_at, batch_at, candidates_of, keying_of, verdicts_of}
+use Rattle.register.specs.Offices.{WardEntry, CandidateEntry, BatchEntry, KeyedEntry, JudgedEntry, ReceiptEntry, OfficeState, ward_entry, candidate_entry, batch_entry, judged_entry}
+use Rattle.register.specs.Offices.{ward_at, batch_at, candidates_of, keying_of, verdicts_of}
 use Rattle.register.specs.Marks.{columns_of}
-use Rattle.register.specs.Papers.{is_keyed, is_doubtful, clerks_of, keyings_now, taken_papers, are_taken, differ, is_taken, batches_of, open_in}
+use Rattle.register.specs.Papers.{is_keyed, is_doubtful, clerks_of, keyings_now, taken_papers, agreed, are_taken, differ, is_taken, batches_of, open_in}
+use Rattle.register.specs.Polls.{Pile, pile_of, judgement_on}
+use Rattle.register.specs.declared.polls.Judgement.{Judgement}
 use Rattle.register.specs.Elections.{election_of, elected_of, is_declared}
 use Rattle.register.specs.Standings.{StatusEntry, status_of, status_entry}
 use Rattle.store.specs.declared.overviews.batches.Standing.{Standing}
@@ -13,23 +17,31 @@ use Rattle.store.specs.declared.overviews.batches.Standing.TheVariants.{Taken, D
 use Rattle.store.specs.declared.overviews.wards.WardOverview.{WardOverview}
 use Rattle.store.specs.declared.overviews.clerks.ClerkOverview.{ClerkOverview}
 use Rattle.store.specs.declared.overviews.batches.BatchOverview.{BatchOverview}
+use Rattle.store.specs.declared.overviews.papers.CountedPaper.{CountedPaper}
+use Rattle.store.specs.declared.overviews.papers.CountedPapers.{CountedPapers}
 use Rattle.store.specs.declared.overviews.doubtful.DoubtfulPaper.{DoubtfulPaper}
+use Rattle.store.specs.declared.overviews.doubtful.DoubtfulPapers.{DoubtfulPapers}
 use Rattle.store.specs.declared.overviews.differences.Differences.{Differences}
 
 -- ---- the wards
 
--- a ward, how it stands, and who is elected where that is declared
+-- a ward, how it stands, and, where it is declared, who is elected, and all its candidates
 pub record WardView : Type 0 where
   pub ward : WardEntry
   pub status : StatusEntry
   pub elected : Option (List ℕ)
+  pub candidates : List CandidateEntry
 
 -- who is elected in a ward, once it is declared
 abbrev pub declared_in : OfficeState → WardEntry → Option (List ℕ)
 declared_in s w = if is_declared w.phase then Some (elected_of (election_of s w)) else None
 
+-- the candidates of a ward, once it is declared
+abbrev pub candidates_told : OfficeState → WardEntry → List CandidateEntry
+candidates_told s w = if is_declared w.phase then candidates_of s w.number else []
+
 abbrev pub ward_view_of : OfficeState → WardEntry → WardView
-ward_view_of s w = record { ward = w; status = status_of s w; elected = declared_in s w }
+ward_view_of s w = record { ward = w; status = status_of s w; elected = declared_in s w; candidates = candidates_told s w }
 
 -- all wards, in the order of their numbers
 abbrev pub ward_views : OfficeState → List WardView
@@ -101,36 +113,78 @@ batch_views s ward = map (batch_view_of s) (batches_of s ward)
 abbrev pub batch_views_at : OfficeState → ℕ → Option (List BatchView)
 batch_views_at s ward = option_map (λ (w : WardEntry). batch_views s w.number) (ward_at s ward)
 
--- ---- doubtful papers
+-- ---- papers as they count
 
--- a doubtful paper of a batch, and the verdict on it, if there is one
-pub record DoubtfulView : Type 0 where
+-- a ballot paper of a batch, and the judgement by which it is counted
+pub record PaperView : Type 0 where
   pub batch : ℕ
   pub paper : ℕ
+  pub judgement : Judgement
+
+abbrev pub paper_view_of : List ℕ → List JudgedEntry → KeyedEntry → PaperView
+paper_view_of columns verdicts k = record { batch = k.batch; paper = k.paper; judgement = judgement_on columns verdicts k }
+
+-- the papers that a batch is taken with, each as it counts; none where it isn't taken
+abbrev pub papers_in : List ℕ → Pile → List PaperView
+papers_in columns pile = map (paper_view_of columns pile.verdicts) (agreed pile.keyings)
+
+-- whether a batch is taken, the candidates of its ward, and its papers
+pub record PapersView : Type 0 where
+  pub taken : Bool
+  pub candidates : List CandidateEntry
+  pub papers : List PaperView
+
+abbrev pub papers_by : List CandidateEntry → Pile → PapersView
+papers_by candidates pile = record { taken = are_taken pile.keyings; candidates = candidates; papers = papers_in (columns_of candidates) pile }
+
+abbrev pub papers_of : OfficeState → BatchEntry → PapersView
+papers_of s b = papers_by (candidates_of s b.ward) (pile_of s b)
+
+-- the judgements by which they are counted
+abbrev pub judgements_told : OfficeState → BatchEntry → List Judgement
+judgements_told s b = map (λ (p : PaperView). p.judgement) (papers_of s b).papers
+
+-- the same of the batch with a number, if there is one
+abbrev pub papers_at : OfficeState → ℕ → Option PapersView
+papers_at s batch = option_map (papers_of s) (batch_at s batch)
+
+-- ---- doubtful papers
+
+-- a doubtful paper of a batch as it counts, and the verdict on it, if there is one
+pub record DoubtfulView : Type 0 where
+  pub counted : PaperView
   pub verdict : Option JudgedEntry
 
 -- among the verdicts of a batch that on the paper of a number
 abbrev pub verdict_on : List JudgedEntry → ℕ → Option JudgedEntry
 verdict_on verdicts paper = find (λ (v : JudgedEntry). v.paper == paper) verdicts
 
-abbrev pub doubtful_view_of : List JudgedEntry → KeyedEntry → DoubtfulView
-doubtful_view_of verdicts k = record { batch = k.batch; paper = k.paper; verdict = verdict_on verdicts k.paper }
+abbrev pub doubtful_view_of : List ℕ → List JudgedEntry → KeyedEntry → DoubtfulView
+doubtful_view_of columns verdicts k = record { counted = paper_view_of columns verdicts k; verdict = verdict_on verdicts k.paper }
 
 -- the doubtful ones among the papers of a batch
-abbrev pub doubtful_among : List JudgedEntry → List KeyedEntry → List DoubtfulView
-doubtful_among verdicts papers = map (doubtful_view_of verdicts) (filter is_doubtful papers)
+abbrev pub doubtful_among : List ℕ → List JudgedEntry → List KeyedEntry → List DoubtfulView
+doubtful_among columns verdicts papers = map (doubtful_view_of columns verdicts) (filter is_doubtful papers)
 
--- the doubtful papers of a batch, if it is taken
-abbrev pub doubtful_in : OfficeState → BatchEntry → List DoubtfulView
-doubtful_in s b = doubtful_among (verdicts_of s b.number) (taken_papers s b)
+-- the doubtful papers of a batch, if it is taken, by the columns of its ward
+abbrev pub doubtful_in : OfficeState → List ℕ → BatchEntry → List DoubtfulView
+doubtful_in s columns b = doubtful_among columns (verdicts_of s b.number) (taken_papers s b)
 
 -- those of the batches of a ward
 abbrev pub doubtful_views : OfficeState → ℕ → List DoubtfulView
-doubtful_views s ward = flat_map (doubtful_in s) (batches_of s ward)
+doubtful_views s ward = flat_map (doubtful_in s (columns_of (candidates_of s ward))) (batches_of s ward)
+
+-- the candidates of a ward, and its doubtful papers
+pub record DoubtfulPapersView : Type 0 where
+  pub candidates : List CandidateEntry
+  pub papers : List DoubtfulView
+
+abbrev pub doubtful_papers : OfficeState → ℕ → DoubtfulPapersView
+doubtful_papers s ward = record { candidates = candidates_of s ward; papers = doubtful_views s ward }
 
 -- the same of the ward of a number, if there is one
-abbrev pub doubtful_at : OfficeState → ℕ → Option (List DoubtfulView)
-doubtful_at s ward = option_map (λ (w : WardEntry). doubtful_views s w.number) (ward_at s ward)
+abbrev pub doubtful_at : OfficeState → ℕ → Option DoubtfulPapersView
+doubtful_at s ward = option_map (λ (w : WardEntry). doubtful_papers s w.number) (ward_at s ward)
 
 -- ---- differences
 
@@ -177,7 +231,7 @@ receipts_of s (Some actor) = filter (λ (r : ReceiptEntry). r.actor == actor) s.
 -- ---- what values stand for
 
 abbrev pub ward_view : WardOverview → WardView
-ward_view o = record { ward = ward_entry o.ward; status = status_entry o.status; elected = o.elected }
+ward_view o = record { ward = ward_entry o.ward; status = status_entry o.status; elected = o.elected; candidates = map candidate_entry o.candidates.items }
 
 abbrev pub clerk_view : ClerkOverview → ℕ × Bool
 clerk_view c = (c.clerk, c.keyed)
@@ -185,8 +239,17 @@ clerk_view c = (c.clerk, c.keyed)
 abbrev pub batch_view : BatchOverview → BatchView
 batch_view o = record { batch = batch_entry o.batch; clerks = map clerk_view o.clerks.items; standing = o.standing; doubtful_open = o.doubtful_open; twin = o.twin }
 
+abbrev pub paper_view : CountedPaper → PaperView
+paper_view p = record { batch = p.batch; paper = p.paper; judgement = p.judgement }
+
+abbrev pub papers_view : CountedPapers → PapersView
+papers_view p = record { taken = p.taken; candidates = map candidate_entry p.candidates.items; papers = map paper_view p.papers.items }
+
 abbrev pub doubtful_view : DoubtfulPaper → DoubtfulView
-doubtful_view d = record { batch = d.batch; paper = d.paper; verdict = option_map judged_entry d.verdict }
+doubtful_view d = record { counted = paper_view d.counted; verdict = option_map judged_entry d.verdict }
+
+abbrev pub doubtful_papers_view : DoubtfulPapers → DoubtfulPapersView
+doubtful_papers_view d = record { candidates = map candidate_entry d.candidates.items; papers = map doubtful_view d.papers.items }
 
 abbrev pub differences_view : Differences → DifferencesView
 differences_view d = record { batch = batch_entry d.batch; differs = d.differs; papers = d.papers.items }

@@ -2,12 +2,12 @@
 //!
 //! `Store` holds a connection between two transactions. `create` makes the tables of an empty office,
 //! `open_from` finds the state that the rows of a database stand for, `load_view` reads the part of it
-//! that one request needs, `load_status` and `load_columns` how a ward stands and what a batch's papers have
-//! as columns, `load_work` what a clerk has to key, `load_sheet` and `load_counted` what the texts of a ward
-//! are written from, `load_book` its count as it was kept, `load_wards`, `load_batches`, `load_doubtful`,
-//! `load_differences` and `load_receipts` how all stands, and `commit` keeps a change in one transaction,
-//! whole or not at all. `migrate` makes of an office that an earlier program made one that opens, and `copy`
-//! makes the same office in another database. `Fault` says why a call gave up.
+//! that one request needs, `load_status`, `load_next` and `load_columns` how a ward stands, what comes next in it and
+//! what a batch's papers have as columns, `load_work` what a clerk has to key, `load_sheet` and `load_counted` what
+//! the texts of a ward are written from, `load_book` its count as it was kept, `load_wards`, `load_batches`,
+//! `load_doubtful`, `load_batch_papers`, `load_differences` and `load_receipts` how all stands, and `commit` keeps a
+//! change in one transaction, whole or not at all. `migrate` makes of an office that an earlier program made one that opens, and `copy`
+//! makes the same office in another database. `read_office` reads all of one. `Fault` says why a call gave up.
 //!
 //! ```text
 //! let mut store = Store::open_from(alloc, conn)?;
@@ -28,6 +28,7 @@ pub mod overviews;
 mod standings;
 pub mod storage;
 mod views;
+pub mod whole;
 mod working;
 mod writing;
 
@@ -36,8 +37,11 @@ pub use migration::{Migrated, migrate};
 pub use overviews::batches::{BatchOverview, Standing};
 pub use overviews::clerks::ClerkOverview;
 pub use overviews::differences::Differences;
-pub use overviews::doubtful::DoubtfulPaper;
+pub use overviews::doubtful::{DoubtfulPaper, DoubtfulPapers};
+pub use overviews::papers::{CountedPaper, CountedPapers, papers_told_are_counted};
 pub use overviews::wards::{WardOverview, elected_in};
+pub use rowcheck::Rows;
 pub use storage::Store;
 pub use tables::fault;
 pub use tables::fault::Fault;
+pub use whole::read_office;

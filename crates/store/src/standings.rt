@@ -1,25 +1,29 @@
-//! How a ward stands, its count, its papers, and the columns of a batch's papers, read from the tables.
+//! How a ward stands, what comes next in it, its papers, and the columns of a batch's papers, read from the tables.
 
-ghost use Rattle.std.specs.Prelude.{◌≡◌, ◌+◌, ◌-◌, ◌^◌, min, if◌then◌else◌, [], ◌∷◌, map, option_map, IfOk};
+ghost use Rattle.std.specs.Prelude.{◌≡◌, ◌+◌, ◌-◌, ◌^◌, true, min, if◌then◌else◌, [], ◌∷◌, map, option_map, IfOk};
 ghost use Rattle.sqlite.specs.State.{HasCleanDisk};
 ghost use Rattle.sqlite.specs.Held.{state};
-ghost use Rattle.register.specs.Offices.{OfficeState, ward_entry, batch_entry, candidates_of};
+ghost use Rattle.register.specs.Offices.{OfficeState, WardEntry, ward_entry, batch_entry, candidates_of};
 ghost use Rattle.register.specs.Marks.{columns_of};
 ghost use Rattle.std.specs.List.Sorted.{IsPermutation};
 ghost use Rattle.count.specs.Bundles.{papers_of};
 ghost use Rattle.register.specs.Polls.{piles_of, ballots_in, StandFor, are_listed, are_bundled};
 ghost use Rattle.register.specs.Standings.{status_entry, status_of, status_at, columns_at};
+ghost use Rattle.register.specs.Elections.{ElectionEntry, due_of, election_of, is_counted};
+ghost use Rattle.register.specs.Steps.{next_at, next_of, step_entry};
+ghost use Rattle.register.specs.Tabulated.{IsCountedWard};
 ghost use Rattle.store.specs.Offices.{IsAt};
 ghost use Rattle.store.specs.Tallies.{IsTally, tally_by};
 ghost use Rattle.store.specs.Loads.{Loads, IsOpen};
 
 use crate::storage::Store;
 use crate::views::papers::Keyings;
-use count::{Bundles, bundles_count_alike};
+use count::{Bundles, Due, bundles_count_alike};
 use paper::{Columns, Prefs};
+use register::counts::stage_after;
 use register::marks::columns_of;
 use register::papers::{count_open, is_keyed};
-use register::{Ballots, Batch, JudgedPaper, Status, Ward};
+use register::{Ballots, Batch, CountedWard, JudgedPaper, NextStep, Phase, Status, Ward};
 use sqlite::Alter;
 use tables::Fault;
 
@@ -62,6 +66,16 @@ fn standing(keyings: &Keyings, verdicts: &[JudgedPaper]) -> Tally
         taken: count_of(is_keyed(papers)),
         differing: count_of(keyings.differ()),
         doubtful_open: count_open(papers, verdicts),
+    }
+}
+
+/// What is due in the count of a ward that has been sealed. That of an uncontested ward is finished.
+fn due_in(counted: &CountedWard) -> Due
+    ensures { (e : ElectionEntry) → IsCountedWard e counted.now → is_counted e.ward.phase ≡ true → result ≡ due_of e }
+{
+    match &counted.count {
+        Some(count) => count.progress().due,
+        None => Due::Finished,
     }
 }
 
@@ -121,6 +135,45 @@ impl<S: Alter> Store<S> {
             Some(ward) => {
                 let status = self.ward_status(&ward)?;
                 Ok(Some(status))
+            }
+            None => Ok(None),
+        }
+    }
+
+    /// What comes next in a ward, which was found with its count. Where its papers are keyed, they are read for it.
+    fn step_in(&mut self, found: CountedWard) -> Result<NextStep, Fault>
+        requires { IsOpen S.Store self.old }
+        ensures { Loads S.Store self.old self.new result (λ s step. (w : WardEntry) → IsCountedWard (election_of s w) found → step_entry step ≡ next_of s w) }
+    {
+        match found.ward.phase {
+            Phase::Nominations => Ok(NextStep::Nominations {
+                candidates: found.candidates.len(),
+                seats: found.ward.seats,
+            }),
+            Phase::Keying => {
+                let status = self.ward_status(&found.ward)?;
+                Ok(NextStep::Papers(status))
+            }
+            Phase::Sealed => Ok(NextStep::Count {
+                stage: stage_after(found.ward.done),
+                due: due_in(&found),
+                candidates: found.candidates,
+            }),
+            Phase::Declared => Ok(NextStep::Nothing),
+        }
+    }
+
+    /// What comes next in the ward of this number, if there is one. Once it is sealed and has a stage, no paper is read
+    /// for it. It changes nothing, and adds nothing to what a stop may leave. `Memory` or `Store` where a row can't be
+    /// read.
+    pub fn load_next(&mut self, ward: u32) -> Result<Option<NextStep>, Fault>
+        ensures { Loads S.Store self.old self.new result (λ s found. option_map step_entry found ≡ next_at s ward) }
+    {
+        let found = self.load_counted(ward)?;
+        match found {
+            Some(counted) => {
+                let step = self.step_in(counted)?;
+                Ok(Some(step))
             }
             None => Ok(None),
         }

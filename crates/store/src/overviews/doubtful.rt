@@ -5,22 +5,32 @@ ghost use Rattle.std.specs.List.{flat_map};
 ghost use Rattle.register.specs.Offices.{batch_entry, keyed_entry, judged_entry};
 ghost use Rattle.register.specs.Papers.{is_doubtful};
 ghost use Rattle.tables.specs.declared.fault.Fault.{Fault};
-ghost use Rattle.store.specs.Overviews.{verdict_on, doubtful_view, doubtful_view_of, doubtful_among, doubtful_in, doubtful_views, doubtful_at};
+ghost use Rattle.store.specs.Overviews.{verdict_on, doubtful_view, doubtful_view_of, doubtful_among, doubtful_in, doubtful_papers, doubtful_papers_view, doubtful_at};
 ghost use Rattle.store.specs.Loads.{Loads, IsOpen};
 
+use crate::overviews::papers::CountedPaper;
 use crate::storage::Store;
+use paper::Columns;
+use register::marks::columns_of;
 use register::papers::is_doubtful;
-use register::{Batch, JudgedPaper, KeyedPaper};
+use register::polls::judgement_on;
+use register::{Batch, Candidate, JudgedPaper, KeyedPaper};
 use sqlite::Alter;
 use std::alloc::AllocError;
 use tables::Fault;
 
-/// A doubtful paper (1 to 500) of a batch (1 to 9999) that is taken, and the verdict on it, if there is one.
+/// A doubtful paper of a batch that is taken, as it counts, and the verdict on it, if there is one.
 #[derive(Drop)]
 pub struct DoubtfulPaper {
-    pub batch: u32,
-    pub paper: u32,
+    pub counted: CountedPaper,
     pub verdict: Option<JudgedPaper>,
+}
+
+/// The candidates of a ward, and the doubtful papers of its batches that are taken, by batch and paper.
+#[derive(Drop)]
+pub struct DoubtfulPapers {
+    pub candidates: Vec<Candidate>,
+    pub papers: Vec<DoubtfulPaper>,
 }
 
 /// The same verdict once more.
@@ -47,13 +57,21 @@ fn verdict_on(verdicts: &[JudgedPaper], paper: u32) -> Result<Option<JudgedPaper
     Ok(None)
 }
 
-/// A doubtful paper, with the verdict on it, if it is among these.
-fn doubtful_paper(keyed: &KeyedPaper, verdicts: &[JudgedPaper]) -> Result<DoubtfulPaper, AllocError>
-    ensures { IfOk result (λ found. doubtful_view found ≡ doubtful_view_of (map judged_entry verdicts.now) (keyed_entry keyed.now)) }
+/// A doubtful paper as it counts by the columns of its ward, with the verdict on it, if it is among these.
+fn doubtful_paper(
+    columns: Columns,
+    verdicts: &[JudgedPaper],
+    keyed: &KeyedPaper,
+) -> Result<DoubtfulPaper, AllocError>
+    ensures { IfOk result (λ found. doubtful_view found ≡ doubtful_view_of columns (map judged_entry verdicts.now) (keyed_entry keyed.now)) }
 {
-    Ok(DoubtfulPaper {
+    let counted = CountedPaper {
         batch: keyed.batch,
         paper: keyed.paper,
+        judgement: judgement_on(columns, verdicts, keyed),
+    };
+    Ok(DoubtfulPaper {
+        counted,
         verdict: verdict_on(verdicts, keyed.paper)?,
     })
 }
@@ -61,63 +79,79 @@ fn doubtful_paper(keyed: &KeyedPaper, verdicts: &[JudgedPaper]) -> Result<Doubtf
 /// Puts the doubtful ones of some papers behind those found before, each with the verdict on it, if it is among these.
 fn put_doubtful(
     found: &mut Vec<DoubtfulPaper>,
-    papers: &[KeyedPaper],
+    columns: Columns,
     verdicts: &[JudgedPaper],
+    papers: &[KeyedPaper],
 ) -> Result<(), AllocError>
-    ensures { IfOk result (λ _. map doubtful_view found.new.items ≡ map doubtful_view found.old.items ++ doubtful_among (map judged_entry verdicts.now) (map keyed_entry papers.now)) }
+    ensures { IfOk result (λ _. map doubtful_view found.new.items ≡ map doubtful_view found.old.items ++ doubtful_among columns (map judged_entry verdicts.now) (map keyed_entry papers.now)) }
 {
     for keyed in papers {
         if is_doubtful(keyed) {
-            found.push(doubtful_paper(keyed, verdicts)?)?;
+            found.push(doubtful_paper(columns, verdicts, keyed)?)?;
         }
     }
     Ok(())
 }
 
 impl<S: Alter> Store<S> {
-    /// The doubtful papers of a batch, if it is taken, behind others.
+    /// The doubtful papers of a batch, if it is taken, behind others, by the columns of its ward.
     fn batch_doubtful(
         &mut self,
         before: Vec<DoubtfulPaper>,
+        columns: Columns,
         batch: &Batch,
     ) -> Result<Vec<DoubtfulPaper>, Fault>
-        ensures { Loads S.Store self.old self.new result (λ s found. map doubtful_view found.items ≡ map doubtful_view before.items ++ doubtful_in s (batch_entry batch.now)) }
+        ensures { Loads S.Store self.old self.new result (λ s found. map doubtful_view found.items ≡ map doubtful_view before.items ++ doubtful_in s columns (batch_entry batch.now)) }
     {
         let mut found = before;
         let papers = self.papers_of(batch)?;
-        if put_doubtful(&mut found, papers.keyings.agreed(), &papers.verdicts).is_err() {
+        if put_doubtful(
+            &mut found,
+            columns,
+            &papers.verdicts,
+            papers.keyings.agreed(),
+        )
+        .is_err()
+        {
             return Err(Fault::Memory);
         }
         Ok(found)
     }
 
-    /// The doubtful papers of batches, read one after the other.
-    fn all_doubtful(&mut self, batches: &[Batch]) -> Result<Vec<DoubtfulPaper>, Fault>
+    /// The doubtful papers of batches, read one after the other, by the columns of their ward.
+    fn all_doubtful(
+        &mut self,
+        columns: Columns,
+        batches: &[Batch],
+    ) -> Result<Vec<DoubtfulPaper>, Fault>
         requires { IsOpen S.Store self.old }
-        ensures { Loads S.Store self.old self.new result (λ s found. map doubtful_view found.items ≡ flat_map (doubtful_in s) (map batch_entry batches.now)) }
+        ensures { Loads S.Store self.old self.new result (λ s found. map doubtful_view found.items ≡ flat_map (doubtful_in s columns) (map batch_entry batches.now)) }
     {
         let mut found = Vec::new(self.allocator());
         for batch in batches {
-            found = self.batch_doubtful(found, batch)?;
+            found = self.batch_doubtful(found, columns, batch)?;
         }
         Ok(found)
     }
 
-    /// The doubtful papers of the batches of a ward.
-    fn ward_doubtful(&mut self, ward: u32) -> Result<Vec<DoubtfulPaper>, Fault>
-        ensures { Loads S.Store self.old self.new result (λ s found. map doubtful_view found.items ≡ doubtful_views s ward) }
+    /// The candidates of a ward, and the doubtful papers of its batches.
+    fn ward_doubtful(&mut self, ward: u32) -> Result<DoubtfulPapers, Fault>
+        ensures { Loads S.Store self.old self.new result (λ s found. doubtful_papers_view found ≡ doubtful_papers s ward) }
     {
+        let candidates = self.list_candidates(ward)?;
         let batches = self.list_batches(ward)?;
-        let found = self.all_doubtful(&batches)?;
-        Ok(found)
+        let columns = columns_of(&candidates);
+        let papers = self.all_doubtful(columns, &batches)?;
+        Ok(DoubtfulPapers { candidates, papers })
     }
 
-    /// The doubtful papers of the taken batches of the ward of this number, by batch and paper, each with the
-    /// verdict on it, if there is one; none at all where there is no such ward. Its batches are read one after
-    /// the other, each with its keyings of the current round and the verdicts on its papers. It changes
-    /// nothing, and adds nothing to what a stop may leave. `Memory` or `Store` where a row can't be read.
-    pub fn load_doubtful(&mut self, ward: u32) -> Result<Option<Vec<DoubtfulPaper>>, Fault>
-        ensures { Loads S.Store self.old self.new result (λ s found. option_map (λ papers. map doubtful_view papers.items) found ≡ doubtful_at s ward) }
+    /// The doubtful papers of the taken batches of the ward of this number, by batch and paper, each as it counts,
+    /// with the verdict on it, if there is one, and the ward's candidates; none at all where there is no such ward.
+    /// Its batches are read one after the other, each with its keyings of the current round and the verdicts on
+    /// its papers. It changes nothing, and adds nothing to what a stop may leave. `Memory` or `Store` where a row
+    /// can't be read.
+    pub fn load_doubtful(&mut self, ward: u32) -> Result<Option<DoubtfulPapers>, Fault>
+        ensures { Loads S.Store self.old self.new result (λ s found. option_map doubtful_papers_view found ≡ doubtful_at s ward) }
     {
         let found = self.find_ward(ward)?;
         match found {

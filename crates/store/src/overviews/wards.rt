@@ -1,25 +1,26 @@
 //! How all wards stand, read from the tables.
 
 ghost use Rattle.std.specs.Prelude.{◌≡◌, true, map, Some};
-ghost use Rattle.register.specs.Offices.{ward_entry, ward_at};
+ghost use Rattle.register.specs.Offices.{candidate_entry, ward_entry, ward_at};
 ghost use Rattle.register.specs.Elections.{ElectionEntry, elected_of, is_counted, is_declared};
 ghost use Rattle.register.specs.Tabulated.{IsCountedWard};
-ghost use Rattle.store.specs.Overviews.{declared_in, ward_view, ward_view_of, ward_views};
+ghost use Rattle.store.specs.Overviews.{candidates_told, declared_in, ward_view, ward_view_of, ward_views};
 ghost use Rattle.store.specs.Loads.{Loads, IsOpen};
 
 use crate::storage::Store;
 use paper::Columns;
 use register::marks::columns_of;
-use register::{CountedWard, Phase, Status, Ward};
+use register::{Candidate, CountedWard, Phase, Status, Ward};
 use sqlite::Alter;
 use tables::Fault;
 
-/// A ward, how it stands, and who is elected where that is declared.
+/// A ward, how it stands, and, where it is declared, who is elected, and all its candidates.
 #[derive(Drop)]
 pub struct WardOverview {
     pub ward: Ward,
     pub status: Status,
     pub elected: Option<Columns>,
+    pub candidates: Vec<Candidate>,
 }
 
 /// Who is elected; in an uncontested ward all its candidates.
@@ -40,18 +41,22 @@ fn is_declared(phase: Phase) -> bool
 }
 
 impl<S: Alter> Store<S> {
-    /// Who is elected in a ward, where that is declared.
-    fn declared_in(&mut self, ward: &Ward) -> Result<Option<Columns>, Fault>
+    /// Who is elected in a ward, where that is declared, and its candidates.
+    fn declared_in(&mut self, ward: &Ward) -> Result<(Option<Columns>, Vec<Candidate>), Fault>
         requires { IsOpen S.Store self.old }
-        ensures { Loads S.Store self.old self.new result (λ s elected. ward_at s ward.now.number ≡ Some (ward_entry ward.now) → elected ≡ declared_in s (ward_entry ward.now)) }
+        ensures { Loads S.Store self.old self.new result (λ s found. ward_at s ward.now.number ≡ Some (ward_entry ward.now)
+            → (found.0 ≡ declared_in s (ward_entry ward.now)) × (map candidate_entry found.1.items ≡ candidates_told s (ward_entry ward.now))) }
     {
         if !is_declared(ward.phase) {
-            return Ok(None);
+            return Ok((None, Vec::new(self.allocator())));
         }
         let found = self.load_counted(ward.number)?;
         match found {
-            Some(counted) => Ok(Some(elected_in(&counted))),
-            None => Ok(None),
+            Some(counted) => {
+                let elected = elected_in(&counted);
+                Ok((Some(elected), counted.candidates))
+            }
+            None => Ok((None, Vec::new(self.allocator()))),
         }
     }
 
@@ -60,11 +65,12 @@ impl<S: Alter> Store<S> {
         ensures { Loads S.Store self.old self.new result (λ s found. ward_at s ward.number ≡ Some (ward_entry ward) → ward_view found ≡ ward_view_of s (ward_entry ward)) }
     {
         let status = self.ward_status(&ward)?;
-        let elected = self.declared_in(&ward)?;
+        let declared = self.declared_in(&ward)?;
         Ok(WardOverview {
             ward,
             status,
-            elected,
+            elected: declared.0,
+            candidates: declared.1,
         })
     }
 
@@ -83,8 +89,8 @@ impl<S: Alter> Store<S> {
         Ok(found)
     }
 
-    /// How all wards stand, in the order of their numbers: each with its status, and with who is elected once
-    /// that is declared, by its count as it was kept. It changes nothing, and adds nothing to what a stop may
+    /// How all wards stand, in the order of their numbers: each with its status, and, once it is declared, with who is
+    /// elected, by its count as it was kept, and with its candidates. It changes nothing, and adds nothing to what a stop may
     /// leave. `Memory` or `Store` where a row can't be read.
     pub fn load_wards(&mut self) -> Result<Vec<WardOverview>, Fault>
         ensures { Loads S.Store self.old self.new result (λ s found. map ward_view found.items ≡ ward_views s) }

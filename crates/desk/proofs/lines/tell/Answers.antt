@@ -1,6 +1,6 @@
 -- Why `tell` keeps its promise.
 use Rattle.std.proofs.Common.{refl}
-use Rattle.desk.specs.Pages.{failed, refused, unread}
+use Rattle.desk.specs.Pages.{failed, refused, unjournalled, unread}
 use Rattle.desk.specs.declared.lines.Failure.TheVariants.{Office}
 use Rattle.desk.proofs.PageLemmas.{front_shown, printed_shown}
 use Rattle.desk.proofs.lines.tell.Goals as goal
@@ -14,6 +14,12 @@ returns-in-Migrated g c = rw c.in-Migrated.is (printed_shown c.args.line _ _ _ _
 pub returns-in-Replied : goal.returns-in-Replied
 returns-in-Replied g c = rw c.in-Replied.is (printed_shown c.args.line _ _ _ _ (rw c.as_str.ensures.value at c.tell_text-in-Replied.ensures))
 
+pub returns-in-CountFinished : goal.returns-in-CountFinished
+returns-in-CountFinished g c = rw c.in-CountFinished.is (printed_shown c.args.line _ _ _ _ c.tell_text-in-CountFinished.ensures)
+
+pub returns-in-LotNeeded : goal.returns-in-LotNeeded
+returns-in-LotNeeded g c = rw c.in-LotNeeded.is (printed_shown c.args.line _ _ _ _ (rw c.text.ensures at c.tell_text-in-LotNeeded.ensures))
+
 pub returns-in-Refused : goal.returns-in-Refused
 returns-in-Refused g c =
     rw c.in-Refused.is (front_shown g.O.Sink.taken g.O.Sink.failed g.E.Sink.taken g.E.Sink.failed c.args.line _ _ _ (refused c.in-Refused.refusal) c.tell_refusal.result _ _ refl refl c.tell_refusal.ensures)
@@ -25,3 +31,7 @@ returns-in-Unread g c =
 pub returns-in-Failed : goal.returns-in-Failed
 returns-in-Failed g c =
     rw c.in-Failed.is (front_shown g.O.Sink.taken g.O.Sink.failed g.E.Sink.taken g.E.Sink.failed c.args.line _ _ _ (failed (Office c.in-Failed.fault)) c.tell_failure_at.result _ _ refl refl c.tell_failure_at.ensures)
+
+pub returns-in-Unjournalled : goal.returns-in-Unjournalled
+returns-in-Unjournalled g c =
+    rw c.in-Unjournalled.is (front_shown g.O.Sink.taken g.O.Sink.failed g.E.Sink.taken g.E.Sink.failed c.args.line _ _ _ unjournalled c.tell_no_journal.result _ _ refl refl c.tell_no_journal.ensures)

@@ -1,7 +1,7 @@
 -- Why `tell_words` keeps its promise.
 use Rattle.std.proofs.Common.{refl}
 use Rattle.desk.specs.Pages.{words_page}
-use Rattle.desk.specs.declared.words.WordsFault.TheVariants.{Origin, Verdict}
+use Rattle.desk.specs.declared.words.WordsFault.TheVariants.{Digest, Origin, Verdict}
 use Rattle.desk.proofs.PageLemmas.{error_shown}
 use Rattle.desk.proofs.lines.tell_words.Goals as goal
 
@@ -11,3 +11,7 @@ returns-in-Verdict g c = rw c.in-Verdict.is (error_shown g.O.Sink.taken g.O.Sink
 pub returns-in-Origin : goal.returns-in-Origin
 returns-in-Origin g c =
     rw c.in-Origin.is (error_shown g.O.Sink.taken g.O.Sink.failed g.E.Sink.taken g.E.Sink.failed _ _ _ (words_page Origin) c.tell_error-in-Origin.result refl c.tell_error-in-Origin.ensures)
+
+pub returns-in-Digest : goal.returns-in-Digest
+returns-in-Digest g c =
+    rw c.in-Digest.is (error_shown g.O.Sink.taken g.O.Sink.failed g.E.Sink.taken g.E.Sink.failed _ _ _ (words_page Digest) c.tell_error-in-Digest.result refl c.tell_error-in-Digest.ensures)

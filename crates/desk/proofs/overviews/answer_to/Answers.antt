@@ -1,9 +1,9 @@
 -- Why `answer_to` keeps its promise.
 use Rattle.sqlite.specs.Held.{state}
 use Rattle.register.specs.Offices.{receipt_entry}
-use Rattle.store.specs.Overviews.{batch_view, doubtful_view, ward_view}
-use Rattle.office.specs.Overviews.{batches_told, doubtful_told, receipts_told, wards_told}
-use Rattle.desk.specs.Overviews.{batch_line, doubtful_line, receipt_line, ward_line}
+use Rattle.store.specs.Overviews.{batch_view, ward_view}
+use Rattle.office.specs.Overviews.{batches_told, receipts_told, wards_told}
+use Rattle.desk.specs.Overviews.{batch_line, receipt_line, ward_line}
 use Rattle.desk.specs.Pages.{page_of}
 use Rattle.desk.proofs.OverviewLemmas.{lines_found}
 use Rattle.desk.proofs.overviews.answer_to.Goals as goal
@@ -17,11 +17,6 @@ pub returns-in-Batches-clause-found : goal.returns-in-Batches-clause-found
 returns-in-Batches-clause-found g c = λ clean is_open s at.
     rw c.in-Batches.is (lines_found (λ v. v.items) batch_line batch_view s (batches_told s c.in-Batches.ward) c.batches.result (page_of c.outcome_of-in-Batches.result) c.batches.new.self.closed (state g.S.Store c.args.office.now.held) (state g.S.Store c.batches.new.self.held)
     (c.batches.ensures.reads clean is_open s at) c.outcome_of-in-Batches.ensures.lines c.outcome_of-in-Batches.ensures.stop (c.batches.ensures.cause clean is_open s at))
-
-pub returns-in-Doubtful-clause-found : goal.returns-in-Doubtful-clause-found
-returns-in-Doubtful-clause-found g c = λ clean is_open s at.
-    rw c.in-Doubtful.is (lines_found (λ v. v.items) doubtful_line doubtful_view s (doubtful_told s c.in-Doubtful.ward) c.doubtful.result (page_of c.outcome_of-in-Doubtful.result) c.doubtful.new.self.closed (state g.S.Store c.args.office.now.held) (state g.S.Store c.doubtful.new.self.held)
-    (c.doubtful.ensures.reads clean is_open s at) c.outcome_of-in-Doubtful.ensures.lines c.outcome_of-in-Doubtful.ensures.stop (c.doubtful.ensures.cause clean is_open s at))
 
 pub returns-in-Receipts-clause-found : goal.returns-in-Receipts-clause-found
 returns-in-Receipts-clause-found g c = λ clean is_open s at.

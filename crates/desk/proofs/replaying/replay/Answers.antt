@@ -16,7 +16,7 @@ returns-in-Err-clause-ran g c =
       page = page_of c.in-Err.outcome;
       cut = told.0;
       shown = told.1;
-      is = λ clean is_open s at. replay_unread (g.F.Folder.held c.args.folder.now) s c.args.path _ c.open.ensures st c.args.office.now.closed st (page_of c.in-Err.outcome) told.0 c.in-Err.ensures.unread (record { is_open = is_open; at = at });
+      is = λ clean is_open s at. replay_unread (g.F.Folder.held c.args.folder.now) s c.args.keep_going c.args.path _ c.open.ensures st c.args.office.now.closed st (page_of c.in-Err.outcome) told.0 c.in-Err.ensures.unread (record { is_open = is_open; at = at });
     }
 
 pub returns-in-Ok-all_said-clause-ran : goal.returns-in-Ok-all_said-clause-ran
@@ -32,7 +32,7 @@ returns-in-Ok-all_said-clause-ran g c =
           let it = told.is clean is_open s at in (
             it.0,
             it.1,
-            replay_of (g.F.Folder.held c.args.folder.now) s c.args.path _ c.open.ensures (state g.S.Store c.args.office.now.held) c.send_lines.new.office.closed (state g.S.Store c.send_lines.new.office.held) lines _ holds
+            replay_of (g.F.Folder.held c.args.folder.now) s c.args.keep_going c.args.path _ c.open.ensures (state g.S.Store c.args.office.now.held) c.send_lines.new.office.closed (state g.S.Store c.send_lines.new.office.held) lines _ holds
                 (rw c.deref-in-Ok-all_said.ensures.value at it.2),
           );
     }
@@ -46,5 +46,5 @@ returns-clause-ran g c =
       page = page;
       cut = told.0;
       shown = told.1;
-      is = λ clean is_open s at. replay_unread (g.F.Folder.held c.args.folder.now) s c.args.path _ c.open.ensures st c.args.office.now.closed st page told.0 (inr refl) (record { is_open = is_open; at = at });
+      is = λ clean is_open s at. replay_unread (g.F.Folder.held c.args.folder.now) s c.args.keep_going c.args.path _ c.open.ensures st c.args.office.now.closed st page told.0 (inr refl) (record { is_open = is_open; at = at });
     }

@@ -1,14 +1,9 @@
 -- Why `send_lines` keeps its promise.
-use Rattle.std.proofs.Common.{[], inl, inr, map, refl}
-use Rattle.desk.specs.Cuttings.{said_entry}
+use Rattle.std.proofs.Common.{[], inl, inr, refl}
 use Rattle.desk.specs.Pages.{script_page}
 use Rattle.desk.proofs.PageLemmas.{error_shown}
 use Rattle.desk.proofs.ScriptEnds.{no_output}
-use Rattle.desk.proofs.ScriptLemmas.{all_send}
 use Rattle.desk.proofs.replaying.send_lines.Goals as goal
-
-pub send_turns-requires-clause-turns : goal.send_turns-requires-clause-turns
-send_turns-requires-clause-turns g c = rw c.deref.ensures.value (all_send (map said_entry c.args.lines.now) c.in-Ok.turns.items c.in-Ok.ensures.ok)
 
 pub returns-in-Ok-clause-sent : goal.returns-in-Ok-clause-sent
 returns-in-Ok-clause-sent g c =

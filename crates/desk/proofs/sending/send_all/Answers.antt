@@ -1,85 +1,88 @@
 -- Why `send_all` keeps its promise.
-use Rattle.std.proofs.Common.{◌<◌, ◌+◌, ◌++◌, ◌∷◌, [], None, drop, take, length, refl, arith}
+use Rattle.std.proofs.Common.{◌≡◌, ◌∙◌, ◌<◌, ◌+◌, ◌∷◌, [], true, false, drop, take, length, ap, refl, sym, arith}
 use Rattle.sqlite.specs.Held.{state}
 use Rattle.store.proofs.KeepLemmas.{wears_itself, wears_then}
-use Rattle.desk.specs.Headline.{ended}
-use Rattle.desk.specs.Pages.{below, cut_below, uncut, empty_page, fronted, page_of}
+use Rattle.desk.specs.Headline.{ended, told_above}
+use Rattle.desk.specs.Pages.{below, cut_below, uncut, empty_page, fronted, goes_on, page_of, page_for}
 use Rattle.desk.proofs.CauseLemmas.{since}
-use Rattle.desk.proofs.CourseLemmas.{above, answered_since, none_sent, sent_all, sent_last, sent_more}
-use Rattle.desk.proofs.PageLemmas.{shown_below}
-use Rattle.desk.proofs.TellingLemmas.{nothing_told, shown_else, shown_zero, silent_front, told_all, told_more}
+use Rattle.desk.proofs.CourseLemmas.{answered_since, none_sent, nothing_more, sent_all, sent_last, sent_more}
+use Rattle.desk.proofs.PageLemmas.{shown_last, whole_more}
+use Rattle.desk.proofs.TellingLemmas.{nothing_told, shown_goes, shown_stops, shown_whole, stops_by, told_all}
 use Rattle.desk.proofs.sending.send_all.Goals as goal
 
 pub loop-request-init : goal.loop-request-init
 loop-request-init g c = record {
   wears = wears_itself (state g.S.Store c.args.office.now.held);
   clean = λ clean. clean;
-  so_far = record { said = _; shown = nothing_told _; is = λ clean is_open s at. none_sent s _ _ _ (record { is_open = is_open; at = at }) };
+  so_far = record { said = _; shown = nothing_told _; is = λ clean is_open s at. none_sent _ _ _ s _ _ _ (record { is_open = is_open; at = at }) };
 }
 
 pub loop-request-preserved : goal.loop-request-preserved
 loop-request-preserved g c =
     let rs = c.args.requests.now in
+    let keep = c.args.keep_going in
+    let line = c.args.line in
     let i = c.loop-request.request-index in
     let within : i < length rs = omega arith in
     let so_far = c.loop-request.invariant.so_far in
     let page = page_of c.outcome_of.result in
     let told = c.tell-status.ensures in
+    let goes : goes_on keep c.tell-status.result ≡ true = sym c.goes_on.ensures ∙ c.if-not-goes_on.false in
+    let fine = shown_goes keep told.0 _ _ (fronted line page) c.tell-status.result told.1 goes in
     let first = state g.S.Store c.args.office.now.held in
     let mid = state g.S.Store c.loop-request.office.held in
     let next = state g.S.Store c.outcome_of.new.office.held in
-    let line = c.args.line in
     record {
       wears = wears_then first mid next c.outcome_of.ensures.clean c.loop-request.invariant.wears c.outcome_of.ensures.wears;
       clean = λ clean. c.loop-request.invariant.clean (c.outcome_of.ensures.clean clean);
       so_far = record {
-        said = so_far.said ++ (fronted line page).out;
-        shown = told_more told.0 _ _ _ so_far.said (fronted line page) c.tell-status.result (silent_front line c.outcome_of.result) c.if-status-ne0.false so_far.shown told.1;
+        said = below so_far.said (fronted line page);
+        shown = rw c.status_behind-ends.ensures (whole_more _ _ _ so_far.said (fronted line page) c.loop-request.ends c.tell-status.result so_far.shown
+            (shown_whole keep told.0 _ _ (fronted line page) c.tell-status.result told.1 goes));
         is = λ clean is_open s at.
             let so = so_far.is (c.outcome_of.ensures.clean clean) is_open s at in
             let it = c.outcome_of.ensures.told clean so.open_at.is_open so.end so.open_at.at in
-            sent_more first line s rs mid i c.request-item.result so_far.said c.loop-request.office.closed mid page it.0 c.outcome_of.new.office.closed next within c.request-item.is so it.1
-            (shown_zero told.0 _ _ (fronted line page) c.tell-status.result told.1 c.if-status-ne0.false).1;
+            sent_more first keep line page_for s rs mid i c.request-item.result so_far.said c.loop-request.office.closed mid page it.0 c.outcome_of.new.office.closed next within c.request-item.is so it.1
+            (ap (goes_on keep) fine.1 ∙ goes);
       };
     }
 
-pub returns-then-status-ne0-clause-sent : goal.returns-then-status-ne0-clause-sent
-returns-then-status-ne0-clause-sent g c =
+pub returns-then-not-goes_on-clause-sent : goal.returns-then-not-goes_on-clause-sent
+returns-then-not-goes_on-clause-sent g c =
     let rs = c.args.requests.now in
+    let keep = c.args.keep_going in
+    let line = c.args.line in
     let i = c.loop-request.request-index in
     let within : i < length rs = omega arith in
     let so_far = c.loop-request.invariant.so_far in
     let page = page_of c.outcome_of.result in
     let told = c.tell-status.ensures in
+    let stops : goes_on keep c.tell-status.result ≡ false = sym c.goes_on.ensures ∙ c.if-not-goes_on.true in
     let first = state g.S.Store c.args.office.now.held in
     let mid = state g.S.Store c.loop-request.office.held in
     let next = state g.S.Store c.outcome_of.new.office.held in
     let closed = c.outcome_of.new.office.closed in
-    let line = c.args.line in
     let r = c.request-item.result in
     record {
       page = below so_far.said (fronted line page);
-      cut = cut_below so_far.said told.0;
-      shown = shown_below told.0 _ _ _ so_far.said (fronted line page) c.tell-status.result so_far.shown told.1;
-      is = (
-        silent_front line c.outcome_of.result,
-        λ clean is_open s at.
-            let honest = c.outcome_of.ensures.clean clean in
-            let so = so_far.is honest is_open s at in
-            let tells = since first mid next honest c.loop-request.invariant.wears c.outcome_of.ensures.wears in
-            let it = c.outcome_of.ensures.told clean so.open_at.is_open so.end so.open_at.at in
-            let here = answered_since first mid closed next so.end r it.0 page tells it.1 in
-            let course = above (take i rs) so_far.said (ended line (r ∷ drop (i + 1) rs) it.0 page told.0) in (
-              course.requests,
-              course.answered,
-              sent_last first line s rs i r so_far.said c.loop-request.office.closed mid page told.0 it.0 closed next within c.request-item.is so here
-                  (shown_else told.0 _ _ (fronted line page) c.tell-status.result told.1 c.if-status-ne0.true),
-            ),
-      );
+      cut = cut_below so_far.said.out told.0;
+      shown = shown_last told.0 _ _ _ so_far.said (fronted line page) c.loop-request.ends c.tell-status.result so_far.shown told.1 (stops_by keep c.tell-status.result stops);
+      is = λ clean is_open s at.
+          let honest = c.outcome_of.ensures.clean clean in
+          let so = so_far.is honest is_open s at in
+          let tells = since first mid next honest c.loop-request.invariant.wears c.outcome_of.ensures.wears in
+          let it = c.outcome_of.ensures.told clean so.open_at.is_open so.end so.open_at.at in
+          let here = answered_since first mid closed next page_for so.end r it.0 page tells it.1 in
+          let course = told_above (take i rs) so_far.said (ended line (r ∷ drop (i + 1) rs) it.0 page told.0) in (
+            course.requests,
+            course.answered,
+            sent_last first keep line page_for s rs i r so_far.said c.loop-request.office.closed mid page told.0 it.0 closed next within c.request-item.is so here
+                (shown_stops keep told.0 _ _ (fronted line page) c.tell-status.result told.1 stops),
+          );
     }
 
-pub returns-then-status-ne0-clause-wears : goal.returns-then-status-ne0-clause-wears
-returns-then-status-ne0-clause-wears g c = wears_then (state g.S.Store c.args.office.now.held) (state g.S.Store c.loop-request.office.held) (state g.S.Store c.outcome_of.new.office.held) c.outcome_of.ensures.clean c.loop-request.invariant.wears
+pub returns-then-not-goes_on-clause-wears : goal.returns-then-not-goes_on-clause-wears
+returns-then-not-goes_on-clause-wears g c = wears_then (state g.S.Store c.args.office.now.held) (state g.S.Store c.loop-request.office.held) (state g.S.Store c.outcome_of.new.office.held) c.outcome_of.ensures.clean c.loop-request.invariant.wears
     c.outcome_of.ensures.wears
 
 pub returns-clause-sent : goal.returns-clause-sent
@@ -90,12 +93,12 @@ returns-clause-sent g c =
     record {
       page = below so_far.said empty_page;
       cut = uncut;
-      shown = told_all _ _ so_far.said so_far.shown;
-      is = (
-        λ zero. refl,
-        λ clean is_open s at.
-            let so = so_far.is clean is_open s at in
-            let course = above (take i rs) so_far.said (ended None [] 0 empty_page uncut) in
-            (course.requests, course.answered, sent_all (state g.S.Store c.args.office.now.held) c.args.line s rs i so_far.said c.loop-request.office.closed (state g.S.Store c.loop-request.office.held) c.loop-request-test.false so),
-      );
+      shown = told_all _ _ so_far.said c.loop-request.ends so_far.shown;
+      is = λ clean is_open s at.
+          let so = so_far.is clean is_open s at in
+          let course = told_above (take i rs) so_far.said nothing_more in (
+            course.requests,
+            course.answered,
+            sent_all (state g.S.Store c.args.office.now.held) c.args.keep_going c.args.line page_for s rs i so_far.said c.loop-request.office.closed (state g.S.Store c.loop-request.office.held) c.loop-request-test.false so,
+          );
     }

@@ -1,9 +1,9 @@
--- What holds each time round the loop of `send_all`: the requests so far got replies, which were told.
+-- What holds each time round the loop of `send_all`: the requests so far were gone past, which was told.
 use Rattle.sqlite.specs.State.{HasCleanDisk}
 use Rattle.sqlite.specs.Held.{state}
 use Rattle.store.specs.Offices.{Wears}
 use Rattle.office.specs.Answers.{WhenOpenAt}
-use Rattle.desk.specs.Pages.{outputs_of}
+use Rattle.desk.specs.Pages.{outputs_of, page_for}
 use Rattle.desk.proofs.CourseLemmas.{SentSo}
 use Rattle.desk.proofs.TellingLemmas.{ToldSo}
 use Rattle.desk.proofs.sending.send_all.Given as goal
@@ -12,7 +12,7 @@ abbrev pub invariant-loop-request : goal.invariant-loop-request
 invariant-loop-request g l = record {
   wears : Wears (state g.S.Store l.initial.office.held) (state g.S.Store l.office.held);
   clean : HasCleanDisk (state g.S.Store l.office.held) → HasCleanDisk (state g.S.Store l.initial.office.held);
-  so_far : ToldSo (outputs_of g.O.Sink.taken g.O.Sink.failed g.E.Sink.taken g.E.Sink.failed l.initial.out l.initial.err) (outputs_of g.O.Sink.taken g.O.Sink.failed g.E.Sink.taken g.E.Sink.failed l.out l.err)
+  so_far : ToldSo (outputs_of g.O.Sink.taken g.O.Sink.failed g.E.Sink.taken g.E.Sink.failed l.initial.out l.initial.err) (outputs_of g.O.Sink.taken g.O.Sink.failed g.E.Sink.taken g.E.Sink.failed l.out l.err) l.ends
       (λ said. WhenOpenAt (state g.S.Store) l.initial.office l.office
-      (λ s. SentSo s l.requests l.request-index said l.office.closed (state g.S.Store l.office.held)));
+      (λ s. SentSo l.keep_going l.line page_for s l.requests l.request-index said l.office.closed (state g.S.Store l.office.held)));
 }

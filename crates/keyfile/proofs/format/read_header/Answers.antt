@@ -15,6 +15,6 @@ returns-in-Some-clause-err g c bytes after =
     let why = rw at.0 at c.check_header.ensures.err in
     elim why [
       | inl memory ↦ header-stopped format g.R.Read.remaining bytes fault at.1 (ap is_stop memory)
-      | inr other ↦ header-other format g.R.Read.remaining bytes c.next_record.new.file (fields_of c.in-Some.raw) next fault at.1 other.0 other.1
+      | inr other ↦ header-other format g.R.Read.remaining bytes c.next_record.new.file (fields_of c.in-Some.raw) next fault at.1 other
     ])
     c.at_record.ensures.err

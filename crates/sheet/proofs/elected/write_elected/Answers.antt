@@ -15,4 +15,4 @@ returns-in_err-write_elected_items g c =
     Writes-front _ r failure (Writes-failed r failure (Writes-then _ c.in_ok-write_line.ensures c.in_err-write_elected_items.ensures))
 
 pub returns : goal.returns
-returns g c = Writes-then _ (Writes-then _ c.in_ok-write_line.ensures c.in_ok-write_elected_items.ensures) (rw c.seats_left.ensures at c.write_elected_end.ensures)
+returns g c = Writes-then _ (Writes-then _ c.in_ok-write_line.ensures c.in_ok-write_elected_items.ensures) (rw (c.stay_empty-is_final.ensures, c.left_in.ensures) at c.write_elected_end.ensures)

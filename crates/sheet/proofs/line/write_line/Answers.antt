@@ -1,22 +1,13 @@
 -- Why `write_line` keeps its promise.
-use Rattle.std.proofs.Common.{codes}
-use Rattle.std.proofs.lemmas.List.{take_all}
-use Rattle.sheet.specs.Pieces.{piece_text}
-use Rattle.sheet.proofs.Joined.{line-map}
-use Rattle.sheet.proofs.Writing.{Writes-none, Writes-then, Writes-front, Writes-item, Writes-item_cut}
+use Rattle.sheet.proofs.Joined.{line_joined}
+use Rattle.sheet.proofs.Writing.{Writes-then, Writes-failed, Writes-front}
 use Rattle.sheet.proofs.line.write_line.Goals as goal
 
-pub loop-piece-init : goal.loop-piece-init
-loop-piece-init g c = Writes-none _ _
-
-pub loop-piece-preserved : goal.loop-piece-preserved
-loop-piece-preserved g c =
-    Writes-item piece_text c.args.pieces.now c.loop-piece.piece-index c.piece-item.result _ c.loop-piece-test.true c.piece-item.is c.loop-piece.invariant c.in_ok-write_piece.ensures
-
-pub returns-in_err-write_piece : goal.returns-in_err-write_piece
-returns-in_err-write_piece g c =
-    let pieces = Writes-item_cut piece_text c.args.pieces.now c.loop-piece.piece-index c.piece-item.result c.from_residual.result c.loop-piece-test.true c.piece-item.is c.loop-piece.invariant c.in_err-write_piece.ensures c.from_residual.ensures.0 in
-    rw line-map (Writes-front (codes "\n") c.from_residual.result c.from_residual.ensures.0 pieces)
+pub returns-in_err-write_pieces : goal.returns-in_err-write_pieces
+returns-in_err-write_pieces g c =
+    let r = c.from_residual.result in
+    let failure = c.from_residual.ensures.0 in
+    rw line_joined (Writes-front _ r failure (Writes-failed r failure c.in_err-write_pieces.ensures))
 
 pub returns : goal.returns
-returns g c = rw line-map (Writes-then c.write_text.result (rw (take_all _ _ c.loop-piece-test.false) at c.loop-piece.invariant) c.write_text.ensures)
+returns g c = rw line_joined (Writes-then _ c.in_ok-write_pieces.ensures c.write_text.ensures)

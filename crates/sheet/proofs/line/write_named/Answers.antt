@@ -2,23 +2,23 @@
 use Rattle.sheet.proofs.Writing.{Writes-then, Writes-failed, Writes-front}
 use Rattle.sheet.proofs.line.write_named.Goals as goal
 
-pub returns-in_err-write_number : goal.returns-in_err-write_number
-returns-in_err-write_number g c =
+pub returns-in_err-write_any_number : goal.returns-in_err-write_any_number
+returns-in_err-write_any_number g c =
     let r = c.from_residual.result in
     let failure = c.from_residual.ensures.0 in
-    Writes-front _ r failure (Writes-front _ r failure (Writes-front _ r failure (Writes-failed r failure c.in_err-write_number.ensures)))
+    Writes-front _ r failure (Writes-front _ r failure (Writes-front _ r failure (Writes-failed r failure c.in_err-write_any_number.ensures)))
 
 pub returns-in_err-write_text : goal.returns-in_err-write_text
 returns-in_err-write_text g c =
     let r = c.from_residual-in_err-write_text.result in
     let failure = c.from_residual-in_err-write_text.ensures.0 in
-    Writes-front _ r failure (Writes-front _ r failure (Writes-failed r failure (Writes-then _ c.in_ok-write_number.ensures c.in_err-write_text.ensures)))
+    Writes-front _ r failure (Writes-front _ r failure (Writes-failed r failure (Writes-then _ c.in_ok-write_any_number.ensures c.in_err-write_text.ensures)))
 
 pub returns-in_err-write_plain : goal.returns-in_err-write_plain
 returns-in_err-write_plain g c =
     let r = c.from_residual-in_err-write_plain.result in
     let failure = c.from_residual-in_err-write_plain.ensures.0 in
-    Writes-front _ r failure (Writes-failed r failure (Writes-then _ (Writes-then _ c.in_ok-write_number.ensures c.in_ok-write_text.ensures) c.in_err-write_plain.ensures))
+    Writes-front _ r failure (Writes-failed r failure (Writes-then _ (Writes-then _ c.in_ok-write_any_number.ensures c.in_ok-write_text.ensures) c.in_err-write_plain.ensures))
 
 pub returns : goal.returns
-returns g c = Writes-then _ (Writes-then _ (Writes-then _ c.in_ok-write_number.ensures c.in_ok-write_text.ensures) c.in_ok-write_plain.ensures) c.write_text-2.ensures
+returns g c = Writes-then _ (Writes-then _ (Writes-then _ c.in_ok-write_any_number.ensures c.in_ok-write_text.ensures) c.in_ok-write_plain.ensures) c.write_text-2.ensures

@@ -105,3 +105,11 @@ returns-clause-blind g c clean is_open s at good clerk =
     let rs = c.args.requests.now in
     told_alone clerk s rs (vec_len c.loop-request.answers) c.loop-request.answers.items at.is good
     (c.loop-request.invariant.answers clean is_open s at ∙ ap (λ n. map told_of (outcomes s (take n rs))) (sym c.loop-request.invariant.count))
+
+-- ---- the disk
+
+pub returns-in-Err-clause-clean : goal.returns-in-Err-clause-clean
+returns-in-Err-clause-clean g c clean = c.loop-request.invariant.clean (c.in-Err.ensures.clean clean)
+
+pub returns-clause-clean : goal.returns-clause-clean
+returns-clause-clean g c clean = c.loop-request.invariant.clean clean

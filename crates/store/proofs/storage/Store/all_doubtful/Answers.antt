@@ -18,12 +18,13 @@ loop-batch-preserved g c =
     loads_as (loads_both c.loop-batch.invariant c.in_ok-found.ensures)
     (λ s is told.
     let bs = take k (map batch_entry c.args.batches.now) in
-    told.1 ∙ ap (λ (ds : List DoubtfulView). ds ++ doubtful_in s b) told.0
-    ∙ sym (flat_map-append (doubtful_in s) bs (b ∷ []) ∙ ap (λ (ds : List DoubtfulView). flat_map (doubtful_in s) bs ++ ds) (append-nil (doubtful_in s b)))
-    ∙ ap (flat_map (doubtful_in s)) (sym next))
+    let found = doubtful_in s c.args.columns in
+    told.1 ∙ ap (λ (ds : List DoubtfulView). ds ++ found b) told.0
+    ∙ sym (flat_map-append found bs (b ∷ []) ∙ ap (λ (ds : List DoubtfulView). flat_map found bs ++ ds) (append-nil (found b)))
+    ∙ ap (flat_map found) (sym next))
 
 pub returns-in_err-found : goal.returns-in_err-found
 returns-in_err-found g c = loads_cut c.from_residual.ensures.1 c.loop-batch.invariant c.in_err-found.ensures
 
 pub returns : goal.returns
-returns g c = loads_as c.loop-batch.invariant (λ s is told. told ∙ ap (flat_map (doubtful_in s)) (entries_all batch_entry c.args.batches.now _ c.loop-batch-test.false))
+returns g c = loads_as c.loop-batch.invariant (λ s is told. told ∙ ap (flat_map (doubtful_in s c.args.columns)) (entries_all batch_entry c.args.batches.now _ c.loop-batch-test.false))

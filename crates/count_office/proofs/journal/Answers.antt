@@ -1,0 +1,37 @@
+-- Why `journal` keeps its promise: the office in memory was empty, and memory gives back what was written.
+use Rattle.std.proofs.Common.{◌≡◌, inl, inr, refl}
+use Rattle.sqlite_trees.specs.View.{doubt}
+use Rattle.sqlite_trees.specs.declared.memory.MemStore.{MemStore}
+use Rattle.sqlite.specs.Held.{Held, state}
+use Rattle.sqlite.specs.State.{HasCleanDisk}
+use Rattle.sqlite.specs.Steps.{IsEmpty, over_memory}
+use Rattle.tables.specs.declared.fault.Fault.TheVariants.{Memory}
+use Rattle.store.specs.Openings.{IsBlank}
+use Rattle.desk.specs.Pages.{failed}
+use Rattle.desk.specs.declared.lines.Failure.TheVariants.{Office}
+use Rattle.desk.proofs.PageLemmas.{error_shown}
+use Rattle.count_office.proofs.journal.Goals as goal
+
+memory_is_clean : (held : Held MemStore) → HasCleanDisk (state over_memory held)
+unfolding doubt
+memory_is_clean held = refl
+
+memory_is_blank : (held : Held MemStore) → IsEmpty (state over_memory held) → IsBlank (state over_memory held)
+memory_is_blank held empty = record { is_open = empty.0.is_open; outside = empty.0.autocommit; settled = empty.0.clean; schema = empty.2; sound = (empty.1 empty.0.is_open).0 }
+
+pub returns-in-Ok-clause-told : goal.returns-in-Ok-clause-told
+returns-in-Ok-clause-told g c =
+    let told = c.journal_office-status.ensures.journalled in
+    record {
+      page = told.page;
+      cut = told.cut;
+      shown = told.shown;
+      is = λ clean db rests s left. (told.is clean (memory_is_clean c.journal_office-status.result.1)).in_office db rests s left (memory_is_blank c.in-Ok.blank c.in-Ok.ensures.empty);
+    }
+
+-- no memory for it: that is told, as far as the error output takes it
+pub returns-in-Err-clause-told : goal.returns-in-Err-clause-told
+returns-in-Err-clause-told g c =
+    let page = failed (Office Memory) in
+    let told = error_shown g.O.Sink.taken g.O.Sink.failed g.E.Sink.taken g.E.Sink.failed c.args.out.now c.args.err.now c.tell_failure-status.new.err page c.tell_failure-status.result refl c.tell_failure-status.ensures in
+    record { page = page; cut = told.0; shown = told.1; is = λ clean db rests s left. inr (inr (Memory, refl, inl refl)) }

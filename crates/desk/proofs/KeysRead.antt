@@ -1,0 +1,25 @@
+-- What words mean that hold several texts, or a flag, read off worked ones.
+use Rattle.std.proofs.Common.{◌≡◌, [], ◌∷◌, true, false, refl}
+use Rattle.std.specs.Prelude.{codes, Some}
+use Rattle.clap.proofs.OnLiterals.{clap_on_literals}
+use Rattle.clap.specs.Words.{subcommand_of}
+use Rattle.desk.specs.Orders.{key, orders, replay}
+use Rattle.desk.specs.Words.{meaning, office_words}
+
+-- the marks of three papers, one of them empty, around the id
+a_keying : meaning (subcommand_of office_words (codes "DB" ∷ codes "key" ∷ codes "4" ∷ codes "12" ∷ codes "1" ∷ codes ",1," ∷ [] ∷ codes "--id" ∷ codes "k1" ∷ codes "D" ∷ []))
+    ≡ Some (key 4 12 1 (codes ",1," ∷ [] ∷ codes "D" ∷ []) (codes "k1"))
+unfolding office_words orders clap_on_literals
+a_keying = refl
+
+no_papers : meaning (subcommand_of office_words (codes "DB" ∷ codes "key" ∷ codes "4" ∷ codes "12" ∷ codes "1" ∷ codes "--id" ∷ codes "k1" ∷ [])) ≡ Some (key 4 12 1 [] (codes "k1"))
+unfolding office_words orders clap_on_literals
+no_papers = refl
+
+past_refusals : meaning (subcommand_of office_words (codes "DB" ∷ codes "replay" ∷ codes "a.txt" ∷ codes "--keep-going" ∷ [])) ≡ Some (replay (codes "a.txt") true)
+unfolding office_words orders clap_on_literals
+past_refusals = refl
+
+up_to_a_refusal : meaning (subcommand_of office_words (codes "DB" ∷ codes "replay" ∷ codes "a.txt" ∷ [])) ≡ Some (replay (codes "a.txt") false)
+unfolding office_words orders clap_on_literals
+up_to_a_refusal = refl

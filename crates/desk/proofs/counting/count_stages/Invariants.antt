@@ -1,0 +1,22 @@
+-- What holds each time round the loop of `count_stages`: the stages so far were counted, which was told.
+use Rattle.std.proofs.Common.{◌≡◌, ℕ, Bool, map}
+use Rattle.clap.specs.Words.{Text}
+use Rattle.sqlite.specs.State.{HasCleanDisk}
+use Rattle.sqlite.specs.Held.{state}
+use Rattle.store.specs.Offices.{Wears}
+use Rattle.office.specs.Answers.{WhenOpenAt}
+use Rattle.desk.specs.Orders.{sent_as}
+use Rattle.desk.specs.Pages.{outputs_of}
+use Rattle.desk.specs.Requests.{advances, most_advances}
+use Rattle.desk.proofs.StageLemmas.{CountedSo}
+use Rattle.desk.proofs.TellingLemmas.{ToldSo}
+use Rattle.desk.proofs.counting.count_stages.Given as goal
+
+abbrev pub invariant-loop-request : goal.invariant-loop-request
+invariant-loop-request g l = record {
+  wears : Wears (state g.S.Store l.initial.office.held) (state g.S.Store l.office.held);
+  clean : HasCleanDisk (state g.S.Store l.office.held) → HasCleanDisk (state g.S.Store l.initial.office.held);
+  so_far : ToldSo (outputs_of g.O.Sink.taken g.O.Sink.failed g.E.Sink.taken g.E.Sink.failed l.initial.out l.initial.err) (outputs_of g.O.Sink.taken g.O.Sink.failed g.E.Sink.taken g.E.Sink.failed l.out l.err) 0
+      (λ said. WhenOpenAt (state g.S.Store) l.initial.office l.office
+      (λ s. (keep : Bool) (ward : ℕ) (id : Text) → map sent_as l.requests ≡ advances ward id most_advances → CountedSo keep l.line s ward id l.requests l.request-index said l.office.closed (state g.S.Store l.office.held)));
+}

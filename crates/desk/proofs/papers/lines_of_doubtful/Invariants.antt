@@ -1,0 +1,11 @@
+-- What the loop of `lines_of_doubtful` keeps: the lines so far, and those that are left, are all.
+use Rattle.std.proofs.Common.{◌≡◌, ◌++◌, drop, map, string_bytes}
+use Rattle.store.specs.Overviews.{doubtful_view}
+use Rattle.desk.specs.Names.{names_told}
+use Rattle.desk.specs.Overviews.{lines_of, doubtful_line}
+use Rattle.desk.proofs.papers.lines_of_doubtful.Given as goal
+
+abbrev pub invariant-loop-paper : goal.invariant-loop-paper
+invariant-loop-paper l =
+    let told = doubtful_line (names_told l.names) in
+    string_bytes l.text ++ lines_of told (map doubtful_view (drop l.paper-index l.papers)) ≡ lines_of told (map doubtful_view l.papers)

@@ -1,0 +1,9 @@
+-- What the loop of `preferences` keeps: the text so far, and what is told of those that are left, are all.
+use Rattle.std.proofs.Common.{◌≡◌, ◌+◌, ◌++◌, drop, string_bytes}
+use Rattle.desk.specs.Names.{names_told}
+use Rattle.desk.specs.Overviews.{preferences_from}
+use Rattle.desk.proofs.papers.preferences.Given as goal
+
+abbrev pub invariant-loop-place : goal.invariant-loop-place
+invariant-loop-place l =
+    string_bytes l.text ++ preferences_from (names_told l.names) (l.place + 1) (drop l.place l.candidates) ≡ preferences_from (names_told l.names) 1 l.candidates

@@ -1,0 +1,46 @@
+-- What comes of an order for the journal of the office.
+use Rattle.std.specs.Prelude.{◌≡◌, ◌⊎◌, List, map}
+use Rattle.clap.specs.Words.{Text}
+use Rattle.sqlite.specs.Effect.{Database}
+use Rattle.sqlite.specs.State.{State}
+use Rattle.register.specs.Machine.{after}
+use Rattle.register.specs.Offices.{OfficeState, empty_office}
+use Rattle.register.specs.declared.command.Request.{Request}
+use Rattle.tables.specs.Contents.{RestsAt}
+use Rattle.tables.specs.Presence.{IsOurs}
+use Rattle.tables.specs.Reading.{FailsToList, OnlyReads}
+use Rattle.store.specs.Offices.{LeavesState}
+use Rattle.store.specs.Openings.{HoldsNoState, IsBlank, IsLeftAt, IsToldBy}
+use Rattle.office.specs.Answers.{IsMemoryOrStore}
+use Rattle.office.specs.Runs.{LeadTo}
+use Rattle.desk.specs.Headline.{IsFailed}
+use Rattle.desk.specs.Pages.{Page, printed, unjournalled}
+use Rattle.desk.specs.Scripts.{AreTurns, script_lines}
+use Rattle.desk.specs.declared.orders.Errand.TheVariants as errand
+use Rattle.desk.specs.declared.scripts.Turn.{Turn}
+
+-- each turn is to send the request of its place, and needs no file
+abbrev pub AreSent : List Turn → List Request → Type 0
+AreSent turns requests = map (λ (turn : Turn). turn.errand) turns ≡ map (λ (request : Request). errand.Send request) requests
+
+-- The text is a script of these requests, one a line.
+pub record IsScriptOf (text : Text) (requests : List Request) : Type 0 where
+  pub turns : List Turn
+  pub script : AreTurns (script_lines text) turns
+  pub sends : AreSent turns requests
+
+-- A journal of a state is a script of requests that lead to it: sent to an empty office, each of them is accepted, and they leave that very state.
+abbrev pub IsJournalOf : OfficeState → Text → Type 0
+IsJournalOf s text = (requests : List Request) × IsScriptOf text requests × LeadTo requests s
+
+-- What is told of the office of a state: a journal of it; or that there is none; or a fault, where memory was wanting or a store failed.
+abbrev pub IsJournalTold : OfficeState → Page → Type 0
+IsJournalTold s page = ((text : Text) × (page ≡ printed text) × IsJournalOf s text) ⊎ ((page ≡ unjournalled) ⊎ IsFailed IsMemoryOrStore page)
+
+-- What comes of the order, by what its own connection rests at, where the other one has an empty database: a journal of the office is told, or why
+-- not; or what an opening tells where there is none. Its own office is only read, and a stop leaves it as it was.
+pub record IsJournalled (page : Page) (old new blank : State) : Type 0 where
+  pub in_office : (db : Database) → RestsAt db old → (s : OfficeState) → IsLeftAt s db → IsBlank blank → IsJournalTold s page
+  pub elsewhere : (db : Database) → IsOurs db.schema → RestsAt db old → HoldsNoState db → IsFailed (λ fault. IsToldBy db fault × FailsToList db old new fault) page
+  pub reads : OnlyReads old new
+  pub leaves : (db : Database) → RestsAt db old → (earlier : List Request) → IsLeftAt (after empty_office earlier) db → LeavesState new (λ x. x ≡ after empty_office earlier)

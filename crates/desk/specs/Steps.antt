@@ -1,0 +1,80 @@
+-- What comes next in the election of a ward, in words, with its candidates' names.
+use Rattle.std.specs.Prelude.{ℕ, ◌==◌, ◌++◌, List, [], ◌∷◌, codes, find, Option, Some, None}
+use Rattle.std.specs.Fmt.{decimal}
+use Rattle.std.specs.List.{flat_map}
+use Rattle.clap.specs.Words.{Text}
+use Rattle.count.specs.declared.stages.Action.{Action}
+use Rattle.count.specs.declared.stages.Action.TheVariants.{First, Surplus, Exclude, ExcludeLast}
+use Rattle.count.specs.declared.stages.TiedFor.{TiedFor}
+use Rattle.count.specs.declared.stages.TiedFor.TheVariants.{Surplus as for_surplus, Exclusion as for_exclusion}
+use Rattle.count.specs.declared.stages.Due.{Due}
+use Rattle.count.specs.declared.stages.Due.TheVariants.{Act, Lot, Finished}
+use Rattle.register.specs.Offices.{CandidateEntry}
+use Rattle.register.specs.Standings.{StatusEntry}
+use Rattle.register.specs.Steps.{StepEntry, nominations_end, papers_stand, count_goes, nothing_comes}
+
+-- ---- candidates
+
+-- the candidate of a number
+abbrev pub candidate_in : List CandidateEntry → ℕ → Option CandidateEntry
+candidate_in candidates number = find (λ (c : CandidateEntry). c.number == number) candidates
+
+-- a number, and the name of the candidate who has it: `3 Cy`
+abbrev pub with_name : ℕ → Option CandidateEntry → Text
+with_name number None = decimal number
+with_name number (Some c) = decimal number ++ (codes " " ++ c.name)
+
+unfoldable pub named : List CandidateEntry → ℕ → Text
+named candidates number = with_name number (candidate_in candidates number)
+
+-- one behind another: `, 3 Cy`
+abbrev pub named_behind : List CandidateEntry → ℕ → Text
+named_behind candidates number = codes ", " ++ named candidates number
+
+-- several: `2 Bob, 3 Cy`
+unfoldable pub all_named : List CandidateEntry → List ℕ → Text
+all_named candidates [] = []
+all_named candidates (n ∷ ns) = named candidates n ++ flat_map (named_behind candidates) ns
+
+-- ---- what is due in a count
+
+-- what is done at a stage, and of whom
+unfoldable pub action_words : List CandidateEntry → Action → Text
+action_words candidates First = codes "first preferences"
+action_words candidates (Surplus c) = codes "surplus of " ++ named candidates c
+action_words candidates (Exclude c) = codes "exclusion of " ++ named candidates c
+action_words candidates (ExcludeLast c) = codes "exclusion of " ++ (named candidates c ++ codes ", last vacancies")
+
+-- what a lot decides
+abbrev pub lot_words : TiedFor → Text
+lot_words for_surplus = codes "whose surplus comes first"
+lot_words for_exclusion = codes "who is excluded"
+
+-- the stage that is due, or the lot that it waits for, or that nothing is
+unfoldable pub due_words : ℕ → List CandidateEntry → Due → Text
+due_words stage candidates (Act action) = codes "stage " ++ (decimal stage ++ (codes " comes next, " ++ action_words candidates action))
+due_words stage candidates (Lot at kind tied) = codes "stage " ++ (decimal at ++ (codes " waits for a lot that decides " ++ (lot_words kind ++ (codes ": " ++ all_named candidates tied))))
+due_words stage candidates Finished = codes "the count is finished, the declaration comes next"
+
+-- ---- what comes next
+
+-- how many candidates there are for how many seats, before the nominations are closed
+unfoldable pub nominations_words : ℕ → ℕ → Text
+nominations_words candidates seats = decimal candidates ++ (codes " candidates for " ++ (decimal seats ++ codes " seats so far, the close of nominations comes next"))
+
+-- how the papers of a ward stand, before its seal
+unfoldable pub papers_words : StatusEntry → Text
+papers_words s =
+    decimal s.taken ++ (codes " of " ++ (decimal s.batches ++ (codes " batches taken, " ++ (decimal s.differing ++ (codes " differing, " ++
+    (decimal s.doubtful_open ++ codes " doubtful open, the seal comes once all are taken and judged"))))))
+
+-- what comes next, by how far the ward has come
+unfoldable pub step_words : StepEntry → Text
+step_words (nominations_end candidates seats) = nominations_words candidates seats
+step_words (papers_stand s) = papers_words s
+step_words (count_goes stage due candidates) = due_words stage candidates due
+step_words nothing_comes = codes "declared, nothing is left to do"
+
+-- the line that tells it of a ward
+unfoldable pub step_text : ℕ → StepEntry → Text
+step_text ward step = codes "ward " ++ (decimal ward ++ (codes ": " ++ step_words step))

@@ -1,0 +1,90 @@
+//! The stages of a ward, counted by one order.
+
+ghost use Rattle.std.specs.Prelude.{◌≡◌, ◌-◌, ◌^◌, ◌<◌, ℕ, Bool, map};
+ghost use Rattle.sqlite.specs.State.{HasCleanDisk};
+ghost use Rattle.sqlite.specs.Held.{state};
+ghost use Rattle.clap.specs.Words.{Text};
+ghost use Rattle.store.specs.Offices.{Wears};
+ghost use Rattle.office.specs.Answers.{WhenOpenAt};
+ghost use Rattle.desk.specs.Orders.{sent_as};
+ghost use Rattle.desk.specs.Pages.{Tells, outputs_of, page_at_rest, page_of};
+ghost use Rattle.desk.specs.Parts.{ComesTo, IsCounted, IsStage};
+ghost use Rattle.desk.specs.Requests.{advances, id_at, most_advances};
+
+use crate::lines::{Outcome, tell};
+use office::{Answer, Office};
+use register::{Reason, Refusal, Request};
+use sqlite::Alter;
+use votes::Sink;
+
+/// What is told of a refusal of one stage more: that the count rests is a reply. Behind the first request a ward in
+/// another phase is one that was declared since.
+fn at_rest(is_first: bool, refusal: Refusal) -> Outcome
+    ensures { page_of result ≡ page_at_rest is_first refusal }
+{
+    match refusal.reason() {
+        Reason::CountFinished => Outcome::CountFinished,
+        Reason::LotNeeded { .. } => Outcome::LotNeeded(refusal),
+        Reason::WrongPhase if !is_first => Outcome::CountFinished,
+        _ => Outcome::Refused(refusal),
+    }
+}
+
+/// What comes of a request for one stage more, the first of an order or another; and whether the count goes on behind
+/// it, as it does where the request was accepted, now or before.
+fn stage_of<S: Alter>(office: &mut Office<S>, is_first: bool, request: &Request) -> (Outcome, bool)
+    ensures told { WhenOpenAt (state S.Store) office.old office.new
+        (λ s. IsStage (state S.Store office.old.held) office.new.closed (state S.Store office.new.held) is_first s request.now (page_of result.0) result.1) }
+    ensures wears { Wears (state S.Store office.old.held) (state S.Store office.new.held) }
+    ensures clean { HasCleanDisk (state S.Store office.new.held) → HasCleanDisk (state S.Store office.old.held) }
+{
+    match office.handle(request.actor, request.id.as_str(), &request.command) {
+        Ok(Answer::Done(reply)) => (Outcome::Replied(reply), true),
+        Ok(Answer::Kept(reply)) => (Outcome::Replied(reply), true),
+        Ok(Answer::Refused(refusal)) => (at_rest(is_first, refusal), false),
+        Err(fault) => (Outcome::Failed(fault), false),
+    }
+}
+
+/// The id of the first of some requests.
+fn first_id(requests: &[Request]) -> &str
+    ensures { (ward : ℕ) (id : Text) → map sent_as requests.now ≡ advances ward id most_advances → result.now ≡ id_at id 1 }
+{
+    match requests.first() {
+        Some(request) => request.id.as_str(),
+        None => "",
+    }
+}
+
+/// Counts stage by stage, by the requests of an order, and tells each reply. It ends behind the first request that isn't
+/// accepted, now or before. Where the count rests there, that is told in a line too. Any other refusal is told as ever,
+/// and so is a fault. The first output that fails ends it.
+pub(crate) fn count_stages<S: Alter, O: Sink, E: Sink>(
+    office: &mut Office<S>,
+    line: Option<usize>,
+    requests: &[Request],
+    out: &mut O,
+    err: &mut E,
+) -> u8
+    requires out { O.failed out.old < 2 ^ 64 - 1 }
+    requires err { E.failed err.old < 2 ^ 64 - 1 }
+    ensures counted { let outputs = outputs_of O.taken O.failed E.taken E.failed in Tells (outputs out.old err.old) (outputs out.new err.new) result
+        (λ cut page. WhenOpenAt (state S.Store) office.old office.new (λ s. (keep : Bool) (ward : ℕ) (id : Text) → map sent_as requests.now ≡ advances ward id most_advances
+        → ComesTo cut page (IsCounted (state S.Store office.old.held) office.new.closed (state S.Store office.new.held) keep line s ward id))) }
+    ensures wears { Wears (state S.Store office.old.held) (state S.Store office.new.held) }
+    ensures clean { HasCleanDisk (state S.Store office.new.held) → HasCleanDisk (state S.Store office.old.held) }
+{
+    let first = first_id(requests);
+    for request in requests {
+        let is_first = request.id.as_str() == first;
+        let (outcome, more) = stage_of(office, is_first, request);
+        let status = tell(line, &outcome, out, err);
+        if status != 0 {
+            return status;
+        }
+        if !more {
+            return 0;
+        }
+    }
+    0
+}

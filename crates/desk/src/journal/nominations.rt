@@ -1,0 +1,86 @@
+//! The nominations of a ward, in a journal.
+
+ghost use Rattle.register.specs.Offices.{MapsRise};
+ghost use Rattle.rowcheck.specs.States.{state_of};
+
+use crate::journal::receipts::Kept;
+use crate::journal::words::{put_heading, put_named, put_order};
+use register::Ward;
+use register::ranges::LAST_CANDIDATE;
+use rowcheck::finding::candidates_of;
+use std::alloc::{AllocError, Global};
+
+/// The name of the candidate who has this number in a ward; the empty text, where none has it.
+pub(crate) fn name_of<'a>(kept: &Kept<'a>, ward: u32, number: u32) -> &'a str
+    requires { MapsRise (state_of kept.now.rows.now) }
+{
+    for candidate in candidates_of(kept.rows, ward) {
+        if candidate.number == number {
+            return candidate.name.as_str();
+        }
+    }
+    ""
+}
+
+/// Puts each adding of a candidate under a number, and its withdrawal, if it was withdrawn. No table keeps the name of
+/// a candidate who is withdrawn: another one stands for it.
+fn put_candidate(
+    alloc: Global,
+    text: &mut String,
+    kept: &Kept<'_>,
+    ward: u32,
+    number: u32,
+) -> Result<(), AllocError>
+    requires { MapsRise (state_of kept.now.rows.now) }
+{
+    let adding = format!(in alloc; "candidate {ward} {number}")?;
+    let withdrawal = format!(in alloc; "withdraw {ward} {number}")?;
+    let withdrawn = format!(in alloc; "withdrawn candidate {number}")?;
+    for time in 0..kept.count(adding.as_str()) {
+        let gone = kept.numbered(withdrawal.as_str(), time);
+        let name = match gone {
+            Some(_) => withdrawn.as_str(),
+            None => name_of(kept, ward, number),
+        };
+        let added = kept.numbered(adding.as_str(), time);
+        put_named(text, adding.as_str(), name, added)?;
+        put_order(text, withdrawal.as_str(), gone)?;
+    }
+    Ok(())
+}
+
+/// Puts all candidates of a ward, by their numbers.
+fn put_candidates(
+    alloc: Global,
+    text: &mut String,
+    kept: &Kept<'_>,
+    ward: u32,
+) -> Result<(), AllocError>
+    requires { MapsRise (state_of kept.now.rows.now) }
+{
+    for number in 1..=LAST_CANDIDATE {
+        put_candidate(alloc, text, kept, ward, number)?;
+    }
+    Ok(())
+}
+
+/// Puts a ward, its candidates, and the end of its nominations.
+pub(crate) fn put_nominations(
+    alloc: Global,
+    text: &mut String,
+    kept: &Kept<'_>,
+    ward: &Ward,
+) -> Result<(), AllocError>
+    requires { MapsRise (state_of kept.now.rows.now) }
+{
+    let (number, seats) = (ward.number, ward.seats);
+    let name = ward.name.as_str();
+    let heading = format!(in alloc; "ward {number}, {name}: nominations")?;
+    put_heading(text, heading.as_str())?;
+    let subject = format!(in alloc; "ward {number}")?;
+    let words = format!(in alloc; "ward {number} {seats}")?;
+    put_named(text, words.as_str(), name, kept.only(subject.as_str()))?;
+    put_candidates(alloc, text, kept, number)?;
+    let closing = format!(in alloc; "close {number}")?;
+    put_order(text, closing.as_str(), kept.only(closing.as_str()))
+}

@@ -1,0 +1,214 @@
+//! What comes next in the election of a ward, told in a line with its candidates' names.
+
+ghost use Rattle.std.specs.Prelude.{◌≡◌, ◌++◌, IfOk, map, option_map, string_bytes};
+ghost use Rattle.sqlite.specs.Held.{state};
+ghost use Rattle.register.specs.Offices.{candidate_entry};
+ghost use Rattle.register.specs.Standings.{status_entry};
+ghost use Rattle.register.specs.Steps.{step_entry};
+ghost use Rattle.tables.specs.Reading.{OnlyReads};
+ghost use Rattle.office.specs.Reads.{next_told};
+ghost use Rattle.office.specs.Answers.{WhenOpenAt};
+ghost use Rattle.desk.specs.Parts.{IsFound};
+ghost use Rattle.desk.specs.Pages.{page_of, replied};
+ghost use Rattle.desk.specs.Steps.{action_words, all_named, candidate_in, due_words, lot_words, named, named_behind, nominations_words, papers_words, step_text, step_words};
+
+use crate::lines::Outcome;
+use count::{Action, Due, TiedFor};
+use office::{Office, Stop};
+use paper::Columns;
+use register::{Candidate, NextStep, Status};
+use sqlite::Alter;
+use std::alloc::{AllocError, Global};
+use store::Fault;
+
+// ---- candidates
+
+/// The candidate of a number.
+fn candidate_in<'a>(candidates: &'a [Candidate], number: u8) -> Option<&'a Candidate>
+    ensures { option_map (λ c. candidate_entry c.now) result ≡ candidate_in (map candidate_entry candidates.now) number }
+{
+    for candidate in candidates {
+        if candidate.number == u32::from(number) {
+            return Some(candidate);
+        }
+    }
+    None
+}
+
+#[tactic(auto, unfolding(crate::specs::Steps::named))]
+/// A number, and the name of the candidate who has it: `3 Cy`.
+fn named(alloc: Global, candidates: &[Candidate], number: u8) -> Result<String, AllocError>
+    ensures { IfOk result (λ text. string_bytes text ≡ named (map candidate_entry candidates.now) number) }
+{
+    match candidate_in(candidates, number) {
+        Some(candidate) => {
+            let name = candidate.name.as_str();
+            format!(in alloc; "{number} {name}")
+        }
+        None => format!(in alloc; "{number}"),
+    }
+}
+
+/// Puts a candidate behind others: `, 3 Cy`.
+fn put_named(
+    alloc: Global,
+    text: &mut String,
+    candidates: &[Candidate],
+    number: u8,
+) -> Result<(), AllocError>
+    ensures { IfOk result (λ _. string_bytes text.new ≡ string_bytes text.old ++ named_behind (map candidate_entry candidates.now) number) }
+{
+    let told = named(alloc, candidates, number)?;
+    text.push_str(", ")?;
+    text.push_str(told.as_str())
+}
+
+#[tactic(auto, unfolding(crate::specs::Steps::all_named))]
+/// Several candidates: `2 Bob, 3 Cy`.
+fn all_named(
+    alloc: Global,
+    candidates: &[Candidate],
+    numbers: &Columns,
+) -> Result<String, AllocError>
+    ensures { IfOk result (λ text. string_bytes text ≡ all_named (map candidate_entry candidates.now) numbers.now) }
+{
+    let Some((first, others)) = numbers.as_slice().split_first() else {
+        return Ok(String::new(alloc));
+    };
+    let mut text = named(alloc, candidates, *first)?;
+    for number in others {
+        put_named(alloc, &mut text, candidates, *number)?;
+    }
+    Ok(text)
+}
+
+// ---- what is due in a count
+
+#[tactic(auto, unfolding(crate::specs::Steps::action_words))]
+/// What is done at a stage, and of whom.
+fn action_words(
+    alloc: Global,
+    candidates: &[Candidate],
+    action: Action,
+) -> Result<String, AllocError>
+    ensures { IfOk result (λ text. string_bytes text ≡ action_words (map candidate_entry candidates.now) action) }
+{
+    match action {
+        Action::First => String::from_str(alloc, "first preferences"),
+        Action::Surplus(c) => {
+            let whose = named(alloc, candidates, c)?;
+            format!(in alloc; "surplus of {whose}")
+        }
+        Action::Exclude(c) => {
+            let who = named(alloc, candidates, c)?;
+            format!(in alloc; "exclusion of {who}")
+        }
+        Action::ExcludeLast(c) => {
+            let who = named(alloc, candidates, c)?;
+            format!(in alloc; "exclusion of {who}, last vacancies")
+        }
+    }
+}
+
+/// What a lot decides.
+fn lot_words(kind: TiedFor) -> &'static str
+    ensures { result.now ≡ lot_words kind }
+{
+    match kind {
+        TiedFor::Surplus => "whose surplus comes first",
+        TiedFor::Exclusion => "who is excluded",
+    }
+}
+
+#[tactic(auto, unfolding(crate::specs::Steps::due_words))]
+/// The stage that is due, or the lot that it waits for, or that nothing is.
+fn due_words(
+    alloc: Global,
+    stage: u32,
+    candidates: &[Candidate],
+    due: Due,
+) -> Result<String, AllocError>
+    ensures { IfOk result (λ text. string_bytes text ≡ due_words stage (map candidate_entry candidates.now) due) }
+{
+    match due {
+        Due::Act(action) => {
+            let action = action_words(alloc, candidates, action)?;
+            format!(in alloc; "stage {stage} comes next, {action}")
+        }
+        Due::Lot { stage, kind, among } => {
+            let (decides, tied) = (lot_words(kind), all_named(alloc, candidates, &among)?);
+            format!(in alloc; "stage {stage} waits for a lot that decides {decides}: {tied}")
+        }
+        Due::Finished => {
+            String::from_str(alloc, "the count is finished, the declaration comes next")
+        }
+    }
+}
+
+// ---- what comes next
+
+#[tactic(auto, unfolding(crate::specs::Steps::nominations_words))]
+/// How many candidates there are for how many seats, before the nominations are closed.
+fn nominations_words(alloc: Global, candidates: usize, seats: u32) -> Result<String, AllocError>
+    ensures { IfOk result (λ text. string_bytes text ≡ nominations_words candidates seats) }
+{
+    format!(in alloc;
+        "{candidates} candidates for {seats} seats so far, the close of nominations comes next"
+    )
+}
+
+#[tactic(auto, unfolding(crate::specs::Steps::papers_words))]
+/// How the papers of a ward stand, before its seal.
+fn papers_words(alloc: Global, status: &Status) -> Result<String, AllocError>
+    ensures { IfOk result (λ text. string_bytes text ≡ papers_words (status_entry status.now)) }
+{
+    let (taken, batches) = (status.taken, status.batches);
+    let (differing, open) = (status.differing, status.doubtful_open);
+    format!(in alloc;
+        "{taken} of {batches} batches taken, {differing} differing, {open} doubtful open, the seal comes once all are taken and judged"
+    )
+}
+
+#[tactic(auto, unfolding(crate::specs::Steps::step_words))]
+/// What comes next, by how far the ward has come.
+fn step_words(alloc: Global, step: &NextStep) -> Result<String, AllocError>
+    ensures { IfOk result (λ text. string_bytes text ≡ step_words (step_entry step.now)) }
+{
+    match step {
+        NextStep::Nominations { candidates, seats } => {
+            nominations_words(alloc, *candidates, *seats)
+        }
+        NextStep::Papers(status) => papers_words(alloc, status),
+        NextStep::Count {
+            stage,
+            due,
+            candidates,
+        } => due_words(alloc, *stage, candidates, *due),
+        NextStep::Nothing => String::from_str(alloc, "declared, nothing is left to do"),
+    }
+}
+
+#[tactic(auto, unfolding(crate::specs::Steps::step_text))]
+/// The line that tells what comes next in a ward, without its end.
+fn step_text(alloc: Global, ward: u32, step: &NextStep) -> Result<String, AllocError>
+    ensures { IfOk result (λ text. string_bytes text ≡ step_text ward (step_entry step.now)) }
+{
+    let words = step_words(alloc, step)?;
+    format!(in alloc; "ward {ward}: {words}")
+}
+
+/// What comes next in a ward, in words; or why that isn't told.
+pub(crate) fn next_of<S: Alter>(alloc: Global, office: &mut Office<S>, ward: u32) -> Outcome
+    ensures found { WhenOpenAt (state S.Store) office.old office.new
+        (λ s. IsFound s (λ step. replied (step_text ward step)) (next_told s ward) (page_of result) office.new.closed (state S.Store office.old.held) (state S.Store office.new.held)) }
+    ensures same { OnlyReads (state S.Store office.old.held) (state S.Store office.new.held) }
+{
+    match office.next_step(ward) {
+        Ok(step) => match step_text(alloc, ward, &step) {
+            Ok(text) => Outcome::Replied(text),
+            Err(_) => Outcome::Failed(Fault::Memory),
+        },
+        Err(Stop::Refused(refusal)) => Outcome::Refused(refusal),
+        Err(Stop::Fault(fault)) => Outcome::Failed(fault),
+    }
+}

@@ -1,0 +1,36 @@
+-- The digest that a file may have to have, by SHA-256.
+use Rattle.std.specs.Prelude.{◌≡◌, ◌≢◌, ◌⊎◌, ℕ, true, List, Option, Some, None, option_map}
+use Rattle.std.specs.Result.{result_ok}
+use Rattle.sha2.specs.Sha256.{sha256}
+use Rattle.hex.specs.Hex.{decode_sized}
+use Rattle.keyfile.specs.Faults.{is_stop}
+use Rattle.keyfile.specs.Files.{Format, IsFaultOf, fault_at}
+use Rattle.keyfile.specs.Reading.{Known}
+use Rattle.keyfile.specs.Records.{file_records}
+use Rattle.keyfile.specs.declared.digest.FileDigest.{FileDigest}
+use Rattle.keyfile.specs.declared.fault.FileFault.{FileFault}
+use Rattle.keyfile.specs.declared.fault.Flaw.TheVariants.{OtherFile}
+
+-- the 32 bytes of a digest
+abbrev pub digest_bytes : FileDigest → List ℕ
+digest_bytes digest = digest.bytes
+
+-- the digest that is asked for, if one is
+abbrev pub asked_digest : Option FileDigest → Option (List ℕ)
+asked_digest digest = option_map digest_bytes digest
+
+-- the digest that a text writes: 64 hexadecimal digits
+abbrev pub digest_in : List ℕ → Option (List ℕ)
+digest_in text = result_ok (decode_sized text 32)
+
+-- P holds of the bytes that a file is read as: of its own, where it tells them; where a digest is asked for, of bytes that have it, whatever the file tells
+abbrev pub IsReadAs : Option (List ℕ) → Option (List ℕ) → (List ℕ → Type 0) → Type 0
+IsReadAs None told P = Known told P
+IsReadAs (Some digest) told P = (bytes : List ℕ) × (sha256 bytes ≡ digest) × Known told (λ own. own ≡ bytes) × P bytes
+
+-- what is told of a file's bytes: where a digest is asked for and they have another, that, or that the reading was stopped; else what is told of any file
+abbrev pub IsFaultBy : {Row : Type 0} → Option (List ℕ) → Format Row → List ℕ → FileFault → Type 0
+IsFaultBy None format bytes fault = IsFaultOf format (file_records bytes) fault
+IsFaultBy (Some digest) format bytes fault =
+    ((sha256 bytes ≢ digest) × (fault ≡ fault_at 0 OtherFile))
+    ⊎ (((sha256 bytes ≡ digest) ⊎ (is_stop fault.flaw ≡ true)) × IsFaultOf format (file_records bytes) fault)

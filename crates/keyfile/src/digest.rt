@@ -1,0 +1,71 @@
+//! The digest that a file may have to have: it tells one file from any other.
+
+ghost use Rattle.std.specs.Prelude.{◌≡◌, ◌≢◌, ◌↔◌, ◌⊎◌, IsTrue, IfErr, IfOk, option_map, true};
+ghost use Rattle.sha2.specs.Sha256.{sha256};
+ghost use Rattle.keyfile.specs.Digests.{digest_bytes, digest_in};
+ghost use Rattle.keyfile.specs.Faults.{is_stop};
+ghost use Rattle.keyfile.specs.Files.{fault_at};
+ghost use Rattle.keyfile.specs.Reading.{Known};
+
+use crate::fault::{FileFault, Flaw};
+use hex::FromHex;
+use sha2::{Digest, Sha256};
+use std::alloc::Global;
+use std::io::{ErrorKind, Read};
+
+/// A digest by SHA-256.
+#[derive(Clone, Copy, Debug)]
+pub struct FileDigest {
+    bytes: [u8; 32],
+}
+
+impl FileDigest {
+    /// The digest that a text writes in 64 hexadecimal digits, their letters small or capital; None where it is another text.
+    pub fn parse(text: &str) -> Option<FileDigest>
+        ensures { option_map digest_bytes result ≡ digest_in text.now }
+    {
+        match <[u8; 32] as FromHex>::from_hex(text) {
+            Ok(bytes) => Some(FileDigest { bytes }),
+            Err(_) => None,
+        }
+    }
+
+    /// Whether bytes have this digest.
+    fn is_of(self, bytes: &[u8]) -> bool
+        ensures { IsTrue result ↔ (sha256 bytes.now ≡ digest_bytes self) }
+    {
+        let digest = Sha256::digest(bytes);
+        digest.as_slice() == self.bytes.as_slice()
+    }
+}
+
+/// A flaw of a whole file, told at its header.
+fn at_start(flaw: Flaw) -> FileFault
+    ensures { result ≡ fault_at 0 flaw }
+{
+    FileFault {
+        flaw,
+        record_number: 0,
+    }
+}
+
+/// All bytes of a file, which have a digest; or why there are none: it is another file, or it can't be read.
+pub(crate) fn read_whole<R: Read + Drop>(
+    alloc: Global,
+    r: R,
+    digest: FileDigest,
+) -> Result<Vec<u8>, FileFault>
+    ensures digest { IfOk result (λ bytes. sha256 bytes.items ≡ digest_bytes digest) }
+    ensures bytes { IfOk result (λ bytes. Known (R.remaining r) (λ own. own ≡ bytes.items)) }
+    ensures start { IfErr result (λ fault. fault.record_number ≡ 0) }
+    ensures why { IfErr result (λ fault. (is_stop fault.flaw ≡ true) ⊎ ((fault.flaw ≡ Flaw.OtherFile) × Known (R.remaining r) (λ own. sha256 own ≢ digest_bytes digest))) }
+{
+    let mut file = r;
+    let mut bytes = Vec::new(alloc);
+    match file.read_to_end(&mut bytes) {
+        Ok(_) if digest.is_of(&bytes) => Ok(bytes),
+        Ok(_) => Err(at_start(Flaw::OtherFile)),
+        Err(error) if error.kind() == ErrorKind::OutOfMemory => Err(at_start(Flaw::Memory)),
+        Err(_) => Err(at_start(Flaw::ReadFailed)),
+    }
+}

@@ -1,0 +1,42 @@
+-- The page of all wards, as the state has it.
+use Rattle.std.specs.Prelude.{ℕ, Bool, false, nat_eq, List, map, Option, Some, None, Result, Ok}
+use Rattle.std.specs.List.{filter, list_any}
+use Rattle.sheet.specs.Index.{ListedEntry, index}
+use Rattle.sheet.specs.declared.index.Standing.{Standing}
+use Rattle.sheet.specs.declared.index.Standing.TheVariants as standing
+use Rattle.register.specs.declared.phase.Phase.{Phase}
+use Rattle.register.specs.declared.phase.Phase.TheVariants.{Nominations, Keying, Sealed, Declared}
+use Rattle.register.specs.declared.refusal.Reason.{Reason}
+use Rattle.register.specs.Offices.{CandidateEntry, OfficeState}
+use Rattle.store.specs.Overviews.{WardView, ward_views}
+use Rattle.office.specs.Sheets.{candidate_shown}
+
+-- how a ward in a phase stands, for everyone
+abbrev pub standing_in : Phase → Standing
+standing_in Nominations = standing.Nominations
+standing_in Keying = standing.Keying
+standing_in Sealed = standing.Sealed
+standing_in Declared = standing.Declared
+
+-- a candidate is among those elected, where that is told
+abbrev pub is_among_elected : Option (List ℕ) → CandidateEntry → Bool
+is_among_elected None c = false
+is_among_elected (Some elected) c = list_any (nat_eq c.number) elected
+
+-- what is listed of a ward: who is elected, by number and name, once that is declared
+abbrev pub listed_shown : WardView → ListedEntry
+listed_shown v = record {
+  number = v.ward.number;
+  name = v.ward.name;
+  seats = v.ward.seats;
+  standing = standing_in v.ward.phase;
+  elected = map candidate_shown (filter (is_among_elected v.elected) v.candidates);
+}
+
+-- the page of all wards, in the order of their numbers, under a title
+abbrev pub index_of : List ℕ → OfficeState → List ℕ
+index_of title s = index title (map listed_shown (ward_views s))
+
+-- what is told where it is asked for: it is never refused
+abbrev pub index_told : List ℕ → OfficeState → Result (List ℕ) Reason
+index_told title s = Ok (index_of title s)

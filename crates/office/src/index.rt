@@ -1,0 +1,131 @@
+//! The page of all wards, written from how they stand.
+#![tactic(auto, using(crate::proofs::StopLemmas::stops_of_memory))]
+
+ghost use Rattle.std.specs.Prelude.{◌≡◌, false, true, map, IfOk, IfErr, OnOk, Err, string_bytes};
+ghost use Rattle.std.specs.List.{filter};
+ghost use Rattle.sqlite.specs.Held.{state};
+ghost use Rattle.register.specs.Offices.{candidate_entry};
+ghost use Rattle.sheet.specs.Index.{elected_shown, index, listed};
+ghost use Rattle.store.specs.Overviews.{ward_view};
+ghost use Rattle.tables.specs.Reading.{OnlyReads};
+ghost use Rattle.office.specs.Answers.{WhenOpenAt};
+ghost use Rattle.office.specs.Index.{index_told, is_among_elected, listed_shown, standing_in};
+ghost use Rattle.office.specs.Reads.{ReadWhenOpen, StopsBy, ClosesAt};
+ghost use Rattle.office.specs.Sheets.{candidate_shown};
+
+use crate::answers::Stop;
+use crate::offices::Office;
+use paper::Columns;
+use register::{Candidate, Phase};
+use sheet::{ListedWard, Standing, index_text};
+use sqlite::Alter;
+use std::alloc::{AllocError, Global};
+use store::{Fault, WardOverview};
+
+/// How a ward in a phase stands, for everyone.
+fn standing_in(phase: Phase) -> Standing
+    ensures { result ≡ standing_in phase }
+{
+    match phase {
+        Phase::Nominations => Standing::Nominations,
+        Phase::Keying => Standing::Keying,
+        Phase::Sealed => Standing::Sealed,
+        Phase::Declared => Standing::Declared,
+    }
+}
+
+/// Whether a number is among those elected, where that is told.
+fn is_elected(elected: &Option<Columns>, candidate: &Candidate) -> bool
+    ensures { result ≡ is_among_elected elected.now (candidate_entry candidate.now) }
+{
+    match elected {
+        None => false,
+        Some(elected) => elected
+            .as_slice()
+            .iter()
+            .any(|c| candidate.number == u32::from(*c)),
+    }
+}
+
+/// Those candidates who are among the elected, by number and name.
+fn elected_names(
+    alloc: Global,
+    elected: &Option<Columns>,
+    candidates: &[Candidate],
+) -> Result<Vec<(u32, String)>, AllocError>
+    ensures { IfOk result (λ names. map elected_shown names.items ≡ map candidate_shown (filter (is_among_elected elected.now) (map candidate_entry candidates.now))) }
+{
+    let mut names = Vec::new(alloc);
+    for candidate in candidates {
+        if is_elected(elected, candidate) {
+            names.push((candidate.number, candidate.name.clone()?))?;
+        }
+    }
+    Ok(names)
+}
+
+/// What is listed of a ward.
+fn listed_of(alloc: Global, overview: &WardOverview) -> Result<ListedWard, AllocError>
+    ensures { IfOk result (λ ward. listed ward ≡ listed_shown (ward_view overview.now)) }
+{
+    Ok(ListedWard {
+        number: overview.ward.number,
+        name: overview.ward.name.clone()?,
+        seats: overview.ward.seats,
+        standing: standing_in(overview.ward.phase),
+        elected: elected_names(alloc, &overview.elected, &overview.candidates)?,
+    })
+}
+
+/// What is listed of all wards.
+fn all_listed(alloc: Global, overviews: &[WardOverview]) -> Result<Vec<ListedWard>, AllocError>
+    ensures { IfOk result (λ wards. map listed wards.items ≡ map listed_shown (map ward_view overviews.now)) }
+{
+    let mut wards = Vec::new(alloc);
+    for overview in overviews {
+        wards.push(listed_of(alloc, overview)?)?;
+    }
+    Ok(wards)
+}
+
+/// The page of all wards that stand so.
+fn index_over(alloc: Global, title: &str, overviews: &[WardOverview]) -> Result<String, AllocError>
+    ensures { IfOk result (λ text. string_bytes text ≡ index title.now (map listed_shown (map ward_view overviews.now))) }
+{
+    let wards = all_listed(alloc, overviews)?;
+    index_text(alloc, title, &wards)
+}
+
+impl<S: Alter> Office<S> {
+    /// The page of all wards that stand so. Only want of memory fails it, which leaves the office open.
+    fn index_of(&mut self, title: &str, overviews: &[WardOverview]) -> Result<String, Stop>
+        ensures told { IfOk result (λ text. string_bytes text ≡ index title.now (map listed_shown (map ward_view overviews.now))) }
+        ensures stopped { IfErr result (λ stop. (stop ≡ Stop.Fault Fault.Memory) × (self.new.closed ≡ false)) }
+        ensures held { self.new.held ≡ self.old.held }
+        ensures open_still { OnOk result (self.new.closed ≡ self.old.closed) }
+    {
+        match index_over(self.alloc, title, overviews) {
+            Ok(text) => Ok(text),
+            Err(AllocError) => Err(self.stopped_by(Fault::Memory)),
+        }
+    }
+
+    /// The page of all wards, to hang at the door: how each stands, and who is elected where that is declared. An empty
+    /// title is left out.
+    ///
+    /// Nothing is changed. `Memory` leaves the office open; any other fault closes it. A closed office tells
+    /// `Closed`.
+    pub fn index(&mut self, title: &str) -> Result<String, Stop>
+        ensures reads { ReadWhenOpen (state S.Store) self.old self.new string_bytes (λ s. index_told title.now s) result }
+        ensures same { OnlyReads (state S.Store self.old.held) (state S.Store self.new.held) }
+        ensures closes { IfErr result (ClosesAt self.new.closed) }
+        ensures cause { WhenOpenAt (state S.Store) self.old self.new (λ s. IfErr result (StopsBy (state S.Store self.old.held) (state S.Store self.new.held))) }
+        ensures closed { self.old.closed ≡ true → (result ≡ Err (Stop.Fault Fault.Closed)) × (self.new ≡ self.old) }
+    {
+        let overviews = match self.wards() {
+            Ok(overviews) => overviews,
+            Err(stop) => return Err(stop),
+        };
+        self.index_of(title, &overviews)
+    }
+}

@@ -1,0 +1,40 @@
+-- What comes next in the election of a ward.
+use Rattle.std.specs.Prelude.{ℕ, List, map, length, Option, option_map}
+use Rattle.count.specs.declared.stages.Due.{Due}
+use Rattle.register.specs.declared.phase.Phase.{Phase}
+use Rattle.register.specs.declared.phase.Phase.TheVariants.{Nominations, Keying, Sealed, Declared}
+use Rattle.register.specs.declared.steps.NextStep.{NextStep}
+use Rattle.register.specs.declared.steps.NextStep.TheVariants as step
+use Rattle.register.specs.Offices.{WardEntry, CandidateEntry, OfficeState, ward_at, candidates_of, candidate_entry}
+use Rattle.register.specs.Elections.{election_of, due_of}
+use Rattle.register.specs.Standings.{StatusEntry, status_of, status_entry}
+use Rattle.register.specs.Counts.{stage_after}
+
+-- what comes next in a ward: the end of its nominations, with so many candidates for so many seats so far; the rest of its papers, which stand
+-- so; in its count what is due, at the stage of this number, with its candidates; or nothing
+pub data StepEntry : Type 0 where
+  nominations_end : ℕ → ℕ → StepEntry
+  papers_stand : StatusEntry → StepEntry
+  count_goes : ℕ → Due → List CandidateEntry → StepEntry
+  nothing_comes : StepEntry
+
+-- what comes next in a ward of a state that is in a phase
+abbrev pub next_in : Phase → OfficeState → WardEntry → StepEntry
+next_in Nominations s w = nominations_end (length (candidates_of s w.number)) w.seats
+next_in Keying s w = papers_stand (status_of s w)
+next_in Sealed s w = count_goes (stage_after w.done) (due_of (election_of s w)) (candidates_of s w.number)
+next_in Declared s w = nothing_comes
+
+abbrev pub next_of : OfficeState → WardEntry → StepEntry
+next_of s w = next_in w.phase s w
+
+-- the same of the ward of a number, if there is one
+abbrev pub next_at : OfficeState → ℕ → Option StepEntry
+next_at s ward = option_map (next_of s) (ward_at s ward)
+
+-- what a step stands for
+abbrev pub step_entry : NextStep → StepEntry
+step_entry (step.Nominations candidates seats) = nominations_end candidates seats
+step_entry (step.Papers status) = papers_stand (status_entry status)
+step_entry (step.Count stage due candidates) = count_goes stage due (map candidate_entry candidates.items)
+step_entry step.Nothing = nothing_comes

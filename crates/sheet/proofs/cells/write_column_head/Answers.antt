@@ -1,0 +1,5 @@
+-- Why `write_column_head` keeps its promise.
+use Rattle.sheet.proofs.cells.write_column_head.Goals as goal
+
+pub returns : goal.returns
+returns g c = rw c.name_in.ensures at c.write_line.ensures

@@ -1,0 +1,5 @@
+-- Why `write_figures` keeps its promise.
+use Rattle.sheet.proofs.chart.write_figures.Goals as goal
+
+pub returns : goal.returns
+returns g c = rw (c.ending_words.ensures, c.ending_stage.ensures) at c.write_line.ensures

@@ -1,0 +1,11 @@
+-- What holds each time round the loop of `write_elected_stages`.
+use Rattle.std.proofs.Common.{take, Ok}
+use Rattle.votes.specs.declared.streams.Broken.{Broken}
+use Rattle.sheet.specs.Cells.{from_place}
+use Rattle.sheet.specs.Entries.{shown}
+use Rattle.sheet.specs.Page.{elected_at}
+use Rattle.sheet.specs.Writing.{Writes}
+use Rattle.sheet.proofs.elected.write_elected_stages.Given as goal
+
+abbrev pub invariant-loop-k : goal.invariant-loop-k
+invariant-loop-k g l = Writes {E = Broken} g.W.Sink.taken g.W.Sink.failed l.fn.sink l.sink (from_place (elected_at (shown l.ward)) 0 (take l.k l.stages)) (Ok (tt {0}))

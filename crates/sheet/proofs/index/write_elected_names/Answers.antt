@@ -1,0 +1,21 @@
+-- Why `write_elected_names` keeps its promise.
+use Rattle.std.proofs.lemmas.List.{take_all}
+use Rattle.std.proofs.lemmas.List.Folds.{flat_map-map}
+use Rattle.sheet.specs.Index.{elected_name, elected_shown}
+use Rattle.sheet.proofs.Writing.{Writes-none, Writes-item, Writes-item_cut}
+use Rattle.sheet.proofs.index.write_elected_names.Goals as goal
+
+pub loop-candidate-init : goal.loop-candidate-init
+loop-candidate-init g c = Writes-none _ _
+
+pub loop-candidate-preserved : goal.loop-candidate-preserved
+loop-candidate-preserved g c =
+    Writes-item (λ candidate. elected_name (elected_shown candidate)) c.args.elected.now c.loop-candidate.candidate-index c.candidate-item.result _ c.loop-candidate-test.true c.candidate-item.is c.loop-candidate.invariant c.in_ok-write_elected_name.ensures
+
+pub returns-in_err-write_elected_name : goal.returns-in_err-write_elected_name
+returns-in_err-write_elected_name g c =
+    rw flat_map-map (Writes-item_cut (λ candidate. elected_name (elected_shown candidate)) c.args.elected.now c.loop-candidate.candidate-index c.candidate-item.result c.from_residual.result
+    c.loop-candidate-test.true c.candidate-item.is c.loop-candidate.invariant c.in_err-write_elected_name.ensures c.from_residual.ensures.0)
+
+pub returns : goal.returns
+returns g c = rw flat_map-map (rw (take_all _ _ c.loop-candidate-test.false) at c.loop-candidate.invariant)

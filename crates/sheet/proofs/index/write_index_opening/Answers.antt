@@ -1,0 +1,5 @@
+-- Why `write_index_opening` keeps its promise.
+use Rattle.sheet.proofs.index.write_index_opening.Goals as goal
+
+pub returns : goal.returns
+returns g c = rw c.style.ensures at c.write_line.ensures

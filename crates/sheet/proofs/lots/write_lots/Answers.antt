@@ -1,0 +1,28 @@
+-- Why `write_lots` keeps its promise.
+use Rattle.std.proofs.Common.{◌≡◌, ◌==◌, true, false, length, sym, ◌∙◌}
+use Rattle.sheet.proofs.Writing.{Writes-then, Writes-failed, Writes-front}
+use Rattle.sheet.proofs.lots.write_lots.Goals as goal
+
+pub returns-then-is_empty : goal.returns-then-is_empty
+returns-then-is_empty g c =
+    let e : (length c.args.lots.now == 0) ≡ true = sym c.is_empty.ensures ∙ c.if-is_empty.true in
+    rw e c.write_line.ensures
+
+pub returns-in_err-write_line : goal.returns-in_err-write_line
+returns-in_err-write_line g c =
+    let e : (length c.args.lots.now == 0) ≡ false = sym c.is_empty.ensures ∙ c.if-is_empty.false in
+    let r = c.from_residual.result in
+    let failure = c.from_residual.ensures.0 in
+    rw e (Writes-front _ r failure (Writes-front _ r failure (Writes-failed r failure c.in_err-write_line.ensures)))
+
+pub returns-in_err-write_lot_items : goal.returns-in_err-write_lot_items
+returns-in_err-write_lot_items g c =
+    let e : (length c.args.lots.now == 0) ≡ false = sym c.is_empty.ensures ∙ c.if-is_empty.false in
+    let r = c.from_residual-in_err-write_lot_items.result in
+    let failure = c.from_residual-in_err-write_lot_items.ensures.0 in
+    rw e (Writes-front _ r failure (Writes-failed r failure (Writes-then _ c.in_ok-write_line.ensures c.in_err-write_lot_items.ensures)))
+
+pub returns : goal.returns
+returns g c =
+    let e : (length c.args.lots.now == 0) ≡ false = sym c.is_empty.ensures ∙ c.if-is_empty.false in
+    rw e (Writes-then _ (Writes-then _ c.in_ok-write_line.ensures c.in_ok-write_lot_items.ensures) c.write_line-3.ensures)

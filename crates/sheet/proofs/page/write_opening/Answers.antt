@@ -1,0 +1,5 @@
+-- Why `write_opening` keeps its promise.
+use Rattle.sheet.proofs.page.write_opening.Goals as goal
+
+pub returns : goal.returns
+returns g c = rw (c.from.ensures, c.style.ensures) at c.write_line.ensures

@@ -1,0 +1,5 @@
+-- Why `write_uncontested` keeps its promise.
+use Rattle.sheet.proofs.page.write_uncontested.Goals as goal
+
+pub returns : goal.returns
+returns g c = rw c.from.ensures at c.write_line.ensures

@@ -1,7 +1,0 @@
--- What holds each time round the loop of `greatest_of_stages`.
-use Rattle.std.proofs.Common.{◌≡◌, drop}
-use Rattle.sheet.specs.Picture.{greatest_at}
-use Rattle.sheet.proofs.picture.greatest_of_stages.Given as goal
-
-abbrev pub invariant-loop-stage : goal.invariant-loop-stage
-invariant-loop-stage l = greatest_at l.top (drop l.stage-index l.stages) ≡ greatest_at l.most l.stages

@@ -1,0 +1,153 @@
+//! The page of all wards, to hang at the door.
+
+ghost use Rattle.std.specs.Prelude.{◌≡◌, ◌-◌, ◌^◌, ◌<◌, map};
+ghost use Rattle.std.specs.List.{flat_map};
+ghost use Rattle.sheet.specs.Index.{elected_name, elected_shown, index, index_heads, index_opening, index_row, listed, row_opening, standing_words as words_of};
+ghost use Rattle.sheet.specs.Writing.{Writes};
+
+use crate::line::{Piece, write_line, write_text};
+use crate::look::style;
+use crate::page::write_title;
+use votes::{Broken, Sink};
+
+/// How a ward stands, for everyone.
+#[derive(Clone, Copy)]
+pub enum Standing {
+    /// Its nominations are open.
+    Nominations,
+    /// Its papers are being keyed.
+    Keying,
+    /// It is sealed, and not declared yet.
+    Sealed,
+    /// It is declared.
+    Declared,
+}
+
+/// A ward as the page of all wards tells it: its number and name, its seats, how it stands, and the number and name of each
+/// who is elected, once that is declared.
+#[derive(Drop)]
+pub struct ListedWard {
+    pub number: u32,
+    pub name: String,
+    pub seats: u32,
+    pub standing: Standing,
+    pub elected: Vec<(u32, String)>,
+}
+
+/// How a ward stands, in words.
+fn standing_words(standing: Standing) -> &'static str
+    ensures { result.now ≡ words_of standing }
+{
+    match standing {
+        Standing::Nominations => "nominations are open",
+        Standing::Keying => "its papers are being keyed",
+        Standing::Sealed => "sealed, not declared yet",
+        Standing::Declared => "<b>declared</b>",
+    }
+}
+
+/// Writes a candidate who is elected.
+fn write_elected_name<W: Sink>(sink: &mut W, candidate: &(u32, String)) -> Result<(), Broken>
+    requires { W.failed sink.old < 2 ^ 64 - 1 }
+    ensures { Writes W.taken W.failed sink.old sink.new (elected_name (elected_shown candidate.now)) result }
+{
+    let (c, name) = candidate;
+    let named = Piece::Listed(*c, name.as_str());
+    write_line(sink, &[Piece::Text("<li>"), named, Piece::Text("</li>")])
+}
+
+/// Writes those who are elected.
+fn write_elected_names<W: Sink>(sink: &mut W, elected: &[(u32, String)]) -> Result<(), Broken>
+    requires { W.failed sink.old < 2 ^ 64 - 1 }
+    ensures { Writes W.taken W.failed sink.old sink.new (flat_map elected_name (map elected_shown elected.now)) result }
+{
+    for candidate in elected {
+        write_elected_name(sink, candidate)?;
+    }
+    Ok(())
+}
+
+/// Writes the row of a ward, as far as those elected.
+fn write_row_opening<W: Sink>(sink: &mut W, ward: &ListedWard) -> Result<(), Broken>
+    requires { W.failed sink.old < 2 ^ 64 - 1 }
+    ensures { Writes W.taken W.failed sink.old sink.new (row_opening (listed ward.now)) result }
+{
+    let pieces = [
+        Piece::Text("<tr><th scope=\"row\">"),
+        Piece::Listed(ward.number, ward.name.as_str()),
+        Piece::Text("</th><td>"),
+        Piece::Number(u64::from(ward.seats)),
+        Piece::Text("</td><td>"),
+        Piece::Text(standing_words(ward.standing)),
+        Piece::Text("</td><td>\n<ul>"),
+    ];
+    write_line(sink, &pieces)
+}
+
+/// Writes the row of a ward.
+fn write_index_row<W: Sink>(sink: &mut W, ward: &ListedWard) -> Result<(), Broken>
+    requires { W.failed sink.old < 2 ^ 64 - 1 }
+    ensures { Writes W.taken W.failed sink.old sink.new (index_row (listed ward.now)) result }
+{
+    write_row_opening(sink, ward)?;
+    write_elected_names(sink, &ward.elected)?;
+    write_line(sink, &[Piece::Text("</ul>\n</td></tr>")])
+}
+
+/// Writes the rows of all wards.
+fn write_index_rows<W: Sink>(sink: &mut W, wards: &[ListedWard]) -> Result<(), Broken>
+    requires { W.failed sink.old < 2 ^ 64 - 1 }
+    ensures { Writes W.taken W.failed sink.old sink.new (flat_map index_row (map listed wards.now)) result }
+{
+    for ward in wards {
+        write_index_row(sink, ward)?;
+    }
+    Ok(())
+}
+
+/// Writes the document's head.
+fn write_index_opening<W: Sink>(sink: &mut W) -> Result<(), Broken>
+    requires { W.failed sink.old < 2 ^ 64 - 1 }
+    ensures { Writes W.taken W.failed sink.old sink.new index_opening result }
+{
+    let pieces = [
+        Piece::Text(
+            "<!DOCTYPE html>\n<html lang=\"en\">\n<head>\n<meta charset=\"utf-8\">\n<meta name=\"viewport\" content=\"width=device-width, initial-scale=1\">\n<title>Wards</title>\n<style>\n",
+        ),
+        Piece::Text(style()),
+        Piece::Text("</style>\n</head>\n<body>"),
+    ];
+    write_line(sink, &pieces)
+}
+
+/// Writes the heads of the columns.
+fn write_index_heads<W: Sink>(sink: &mut W) -> Result<(), Broken>
+    requires { W.failed sink.old < 2 ^ 64 - 1 }
+    ensures { Writes W.taken W.failed sink.old sink.new index_heads result }
+{
+    let pieces = [
+        Piece::Text(
+            "<h1>Wards</h1>\n<table class=\"index\">\n<thead>\n<tr><th scope=\"col\">Ward</th><th scope=\"col\">Seats</th>",
+        ),
+        Piece::Text(
+            "<th scope=\"col\">How it stands</th><th scope=\"col\">Elected</th></tr>\n</thead>\n<tbody>",
+        ),
+    ];
+    write_line(sink, &pieces)
+}
+
+/// Writes the page of all wards, one file of HTML: each with its seats, how it stands, and who is elected, once that is
+/// declared. An empty title is left out.
+///
+/// Takes no memory. `Broken` comes only from the sink, which has then taken a beginning of the page and
+/// counts one failure more.
+pub fn write_index<W: Sink>(sink: &mut W, title: &str, wards: &[ListedWard]) -> Result<(), Broken>
+    requires { W.failed sink.old < 2 ^ 64 - 1 }
+    ensures { Writes W.taken W.failed sink.old sink.new (index title.now (map listed wards.now)) result }
+{
+    write_index_opening(sink)?;
+    write_title(sink, title)?;
+    write_index_heads(sink)?;
+    write_index_rows(sink, wards)?;
+    write_text(sink, "</tbody>\n</table>\n</body>\n</html>\n")
+}

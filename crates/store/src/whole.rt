@@ -1,0 +1,26 @@
+//! An office, read whole.
+
+ghost use Rattle.sqlite.specs.Held.{state};
+ghost use Rattle.store.specs.Whole.{ReadsOffice};
+
+use crate::opening::checked_rows;
+use rowcheck::Rows;
+use sqlite::{Alter, Connection};
+use std::alloc::Global;
+use tables::Fault;
+
+/// All entries of the office that a connection's database holds, each table's in the order of its keys. No office is
+/// open afterwards.
+///
+/// The rows are judged first, as `Store::open_from` does, and what it would tell is told. Nothing is changed.
+pub fn read_office<S: Alter>(alloc: Global, conn: &mut Connection<S>) -> Result<Rows, Fault>
+    ensures { ReadsOffice (state S.Store conn.old) (state S.Store conn.new) result }
+{
+    if !conn.is_autocommit() {
+        return Err(Fault::Store);
+    }
+    match checked_rows(alloc, conn) {
+        Ok(rows) => Ok(rows),
+        Err(fault) => Err(fault),
+    }
+}
