@@ -1,9 +1,9 @@
-"""The office of an earlier program that crates/count_office/src/tests/older/rows.rt holds as text, made into a file."""
+"""The office of an earlier program that crates/store_tests/src/older/rows.rt holds as text, made into a file."""
 import pathlib
 import re
 import sqlite3
 
-TEXT = pathlib.Path(__file__).resolve().parent.parent / "crates/count_office/src/tests/older/rows.rt"
+TEXT = pathlib.Path(__file__).resolve().parent.parent / "crates/store_tests/src/older/rows.rt"
 
 
 def statements():

@@ -24,8 +24,6 @@ ghost use Rattle.sqlite.specs.Closing.{IsCopied};
 
 mod fresh;
 mod held;
-#[cfg(test)]
-mod tests;
 mod traces;
 
 use desk::perform::perform;
