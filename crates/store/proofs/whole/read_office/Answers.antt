@@ -25,8 +25,8 @@ returns-in-Ok g c =
       inside = search rules;
     }
 
-pub returns : goal.returns
-returns g c =
+pub returns-in-Err : goal.returns-in-Err
+returns-in-Err g c =
     let read = c.in-Err.ensures in
     record {
       is = tt;
