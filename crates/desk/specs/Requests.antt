@@ -97,7 +97,7 @@ is_refused (accepted next reply) = false
 is_refused (kept reply) = false
 is_refused (refused why) = true
 
--- the last request of some is the one before these; or it isn't, and these follow it
+-- where a request is the last, none stands behind it; where it isn't, the others follow so
 abbrev pub EndsOr : Bool → List Request → Type 0 → Type 0
 EndsOr true others Follow = others ≡ []
 EndsOr false others Follow = Follow

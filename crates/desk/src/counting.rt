@@ -57,8 +57,9 @@ fn first_id(requests: &[Request]) -> &str
 }
 
 /// Counts stage by stage, by the requests of an order, and tells each reply. It ends behind the first request that isn't
-/// accepted, now or before. Where the count rests there, that is told in a line too. Any other refusal is told as ever,
-/// and so is a fault. The first output that fails ends it.
+/// accepted, now or before. Where the count rests there, at a lot or its end, that is told in a line too, with status 0.
+/// Any other refusal is told as ever, with status 1, and so is a fault, with status 3. The first output that fails ends
+/// it, with status 3. Each stage that was replied stays counted.
 pub(crate) fn count_stages<S: Alter, O: Sink, E: Sink>(
     office: &mut Office<S>,
     line: Option<usize>,

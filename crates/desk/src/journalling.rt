@@ -69,8 +69,9 @@ fn draft_of(alloc: Global, rows: &Rows) -> Result<Draft, AllocError>
     Ok(Draft { text, requests })
 }
 
-/// The journal of the office of these rows, or why it isn't told. It is played in the database of a connection, which
-/// has nothing in it. The connection is handed back.
+/// The journal of the office of these rows, or why it isn't told: the text that was written doesn't make that office, or
+/// a fault, `Memory` or `Store`. It is played in the database of a connection, which has nothing in it. The connection is
+/// handed back, with whatever the trial left there.
 fn journal_of<T: Alter>(
     alloc: Global,
     rows: &Rows,
@@ -117,9 +118,10 @@ fn journalled<S: Alter, T: Alter>(
 /// of the other connection. With status 0 each line was accepted there, and they left the very state of this office,
 /// every receipt too. The office itself is only read.
 ///
-/// Where the receipts and the other tables don't belong together, that is told, with status 1. A database that holds no
-/// office, or a newer, an older or a damaged one, is told as that fault (105, 106, 108, 103), and want of memory or a
-/// store that fails as ever.
+/// Where the text doesn't make this very office, that is told, with status 1. It is so where the receipts and the other
+/// tables don't belong together. No clause says that it is so nowhere else. A database that holds no office, or a newer,
+/// an older or a damaged one, is told as that fault (105, 106, 108, 103), with its cause. Of want of memory (101), and of
+/// a store that fails (102), no clause says whether the office or the trial met it.
 pub fn journal_office<S: Alter, T: Alter, O: Sink, E: Sink>(
     alloc: Global,
     conn: &mut Connection<S>,

@@ -15,7 +15,8 @@ use store::{CopyFault, Fault, Migrated};
 use thiserror::Error;
 use votes::{Broken, Sink, put_all};
 
-/// What is told of an office whose receipts and other tables don't belong together.
+/// What is told where the journal that was written doesn't make its office, as where its receipts and its other tables
+/// don't belong together.
 const NO_JOURNAL: &str = "no journal: the receipts are not those of these tables";
 
 /// What an order came to.
@@ -25,13 +26,13 @@ pub(crate) enum Outcome {
     Ready,
     /// An office was brought over, or was at this program's version already.
     Migrated(Migrated),
-    /// This is replied to a request that was accepted, now or before; or it tells how a ward stands.
+    /// This is replied to a request that was accepted, now or before; or it tells how a ward stands, or what comes next.
     Replied(Reply),
     /// This text is told as it is, its lines ended.
     Printed(String),
     /// No seat is left in a count.
     CountFinished,
-    /// A count waits for a lot, for which a request for one stage more was refused.
+    /// A count waits for a lot, for which a request for one stage more was refused. That is told as a reply, not as a refusal.
     LotNeeded(Refusal),
     /// A request was refused.
     Refused(Refusal),
@@ -41,7 +42,7 @@ pub(crate) enum Outcome {
     Failed(Fault),
     /// No copy is told.
     Uncopied(CopyFault),
-    /// The office has no journal.
+    /// No journal of the office was found: the one that was written doesn't make it.
     Unjournalled,
 }
 

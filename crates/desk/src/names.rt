@@ -31,7 +31,8 @@ fn name_of<'a>(candidates: &'a [Candidate], number: u32) -> &'a str
 
 impl<'a> Names<'a> {
     #[tactic(auto, unfolding(crate::specs::Names::names_of))]
-    /// The names of candidates. Each number is looked for among them once, and a preference finds its name at its place.
+    /// The names of candidates. Each number from 0 to 30 is looked for among them once, and a preference finds its name at
+    /// its place.
     pub(crate) fn new(alloc: Global, candidates: &'a [Candidate]) -> Result<Names<'a>, AllocError>
         ensures { IfOk result (λ names. names_told names ≡ names_of (map candidate_entry candidates.now)) }
     {

@@ -49,7 +49,8 @@ fn at_start(flaw: Flaw) -> FileFault
     }
 }
 
-/// All bytes of a file, which have a digest; or why there are none: it is another file, or it can't be read.
+/// All bytes of a file, which have a digest; or why there are none: it is another file (`OtherFile`), or it can't be read
+/// (`ReadFailed`, `Memory`). The file is read to its end, however long it is, and all of it is kept.
 pub(crate) fn read_whole<R: Read + Drop>(
     alloc: Global,
     r: R,

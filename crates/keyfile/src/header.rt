@@ -7,13 +7,14 @@ ghost use Rattle.keyfile.specs.Headers.{first_field_flaw, in_range, named_in};
 use crate::fault::Flaw;
 use paper::plain_number_in;
 
-/// The highest number of a batch.
+/// The highest number of a batch, as the office gives them out.
 const HIGHEST_BATCH: u32 = 9999;
 
-/// The highest number of a clerk.
+/// The highest number of a clerk, as the office knows them.
 const HIGHEST_CLERK: u32 = 999;
 
-/// A text up to its first such mark, and what stands behind that; of a text without one all of it, and nothing.
+/// A text up to the first place where this character stands in it, and what stands behind that; of a text without it all of
+/// it, and nothing.
 fn parted(text: &str, mark: char) -> (&str, &str)
     requires { mark < 128 }
     ensures before { result.0.now ≡ before_first (λ b. b == mark) text.now }
@@ -51,7 +52,8 @@ fn named_in(field: &str) -> Option<(u32, u32)>
     in_range(plain_number_in(batch), plain_number_in(clerk))
 }
 
-/// What is wrong with the first field of a keying of a batch by a clerk, if anything is.
+/// What is wrong with the first field of a keying of a batch by a clerk, if anything is: `Header` where it is neither `paper`
+/// nor names a batch and a clerk in their ranges, and `OtherKeying` where it names others than these.
 pub(crate) fn first_field_flaw(field: &str, batch: u32, clerk: u32) -> Option<Flaw>
     ensures { result ≡ first_field_flaw batch clerk field.now }
 {

@@ -29,8 +29,9 @@ const MOST_PAPERS: u32 = 500;
 /// `ReadFailed` and `Memory` may come at any record that no fault stands before.
 ///
 /// In place of `paper` the header may have `paper 12/4`: the file is then of batch 12 by clerk 4. One
-/// of another batch or by another clerk is told as `OtherKeying`. Where a digest is asked for, the
-/// papers are those of bytes that have it, and a file of others is told as `OtherFile`.
+/// of another batch or by another clerk is told as `OtherKeying`, if its columns are these; a file of
+/// other columns is told as `Header`, whatever it names. Where a digest is asked for, the papers are
+/// those of bytes that have it, and a file of others is told as `OtherFile`.
 pub fn read_keying<R: Read + Drop>(
     alloc: Global,
     r: R,

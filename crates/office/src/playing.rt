@@ -45,7 +45,7 @@ fn are_done(answers: &[Answer]) -> bool
     answers.iter().all(|answer| is_done(answer))
 }
 
-/// Whether the office that a connection's database holds has these entries.
+/// Whether the office that a connection's database holds has these entries. `Memory` or `Store` where it can't be read.
 fn has_rows<S: Alter>(alloc: Global, conn: &mut Connection<S>, rows: &Rows) -> Result<bool, Fault>
     ensures same { HasCleanDisk (state S.Store conn.new) → (s : OfficeState) → IsAt s (state S.Store conn.old) → IfOk result (λ has. has ≡ true → s ≡ state_of rows.now) }
     ensures other { HasCleanDisk (state S.Store conn.new) → (s : OfficeState) → IsAt s (state S.Store conn.old) → IfOk result (λ has. has ≡ false → ¬ (s ≡ state_of rows.now)) }
@@ -60,16 +60,17 @@ fn has_rows<S: Alter>(alloc: Global, conn: &mut Connection<S>, rows: &Rows) -> R
 
 impl<S: Alter> Office<S> {
     /// All entries of the office that a connection's database holds, each table's in the order of its keys. No office
-    /// is open afterwards.
+    /// is open afterwards, and nothing is changed, whatever is told.
     ///
-    /// What `open_from` would tell is told. Nothing is changed.
+    /// What `open_from` would tell is told, with its cause; within a transaction that is `Store`, and nothing is read.
     pub fn rows(alloc: Global, conn: &mut Connection<S>) -> Result<Rows, Fault>
         ensures { ReadsOffice (state S.Store conn.old) (state S.Store conn.new) result }
     {
         read_office(alloc, conn)
     }
 
-    /// Answers requests in order, and says whether each was accepted.
+    /// Answers requests in order, and says whether each was accepted. A fault is told as `Memory` or `Store`; what it
+    /// leaves isn't said, since the office was made for the trial alone.
     fn accepts_all(&mut self, requests: &[Request]) -> Result<bool, Fault>
         ensures all { WhenOpenAt (state S.Store) self.old self.new
             (λ s. IfOk result (λ yes. (yes ≡ are_accepted s requests.now) × IsOpenAt (after s requests.now) self.new.closed (state S.Store self.new.held))) }
@@ -84,8 +85,11 @@ impl<S: Alter> Office<S> {
     }
 
     /// Plays requests over an empty office, which it makes in a connection's database, and says whether they lead to
-    /// the office of these rows: each is accepted, and the entries are the same in the end, receipts too. The
-    /// connection is handed back.
+    /// the office of these rows: each is accepted, and the entries are the same in the end, receipts too. It is said
+    /// where the database had nothing in it. The connection is handed back, with whatever the trial left there.
+    ///
+    /// `Memory` or `Store` is told where the trial couldn't be ended: memory was wanting, or the trial's store gave up.
+    /// No clause says why. The rows are an argument, so no other database is read or changed.
     pub fn leads_to(
         alloc: Global,
         blank: Connection<S>,

@@ -222,7 +222,7 @@ pub(crate) fn subject_of(alloc: Global, command: &CountCommand) -> Result<String
     }
 }
 
-/// The stage after so many that are done, at most the last that a count may have.
+/// The stage (1 to 31) after so many that are done (0 to 31), at most the last that a count may have.
 pub fn stage_after(done: u32) -> u32
     ensures { result ≡ stage_after done }
 {

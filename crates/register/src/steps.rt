@@ -7,14 +7,17 @@ use count::Due;
 /// What comes next in the election of a ward, by how far it has come.
 #[derive(Drop)]
 pub enum NextStep {
-    /// Its nominations are open, and are closed next. It has so many candidates so far, for so many seats.
+    /// Its nominations are open, and are closed next. It has so many candidates so far (0 to 30), for so many seats (1 to
+    /// 15).
     Nominations {
         candidates: usize,
         seats: u32,
     },
-    /// Its papers are keyed and judged, and stand so. It is sealed next.
+    /// Its papers are being keyed and judged, and stand so. It is sealed once each batch is taken, and each doubtful paper
+    /// judged.
     Papers(Status),
-    /// It is counted. This is due, which is the stage of this number where it is one, and these are the candidates.
+    /// It is sealed, and this is due in its count: a stage, of which this is the number (1 to 31); or a lot, which says
+    /// itself for which stage it is; or nothing more, as in an uncontested ward. These are its candidates, by their numbers.
     Count {
         stage: u32,
         due: Due,

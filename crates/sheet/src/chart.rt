@@ -25,7 +25,7 @@ pub struct Scale {
     pub most: u64,
 }
 
-/// How a candidate's way ends, and at which stage.
+/// How a candidate's way ends, and at which stage, by its number from 1 on.
 #[derive(Clone, Copy)]
 pub enum Ending {
     /// He is elected at it.

@@ -39,7 +39,7 @@ pub enum Piece<'a> {
     Escaped(&'a str),
     /// A candidate's or a ward's number and name, on a page.
     Named(u8, &'a str),
-    /// The same, whatever number it is.
+    /// The same of a number that is wider, as the page of all wards has them.
     Listed(u32, &'a str),
 }
 
