@@ -23,7 +23,9 @@ use store::{Fault, read_office};
 
 /// Why a database that was empty a moment ago tells nothing: memory was wanting, or its store failed.
 fn trial_fault(fault: Fault) -> Fault
-    ensures { IsMemoryOrStore result }
+    ensures memory { fault ≡ Fault.Memory → result ≡ Fault.Memory }
+    ensures other { ¬ (fault ≡ Fault.Memory) → result ≡ Fault.Store }
+    ensures told { IsMemoryOrStore result }
 {
     match fault {
         Fault::Memory => Fault::Memory,

@@ -4,8 +4,9 @@ use Rattle.sqlite.specs.Effect.{Database}
 use Rattle.sqlite.specs.State.{State, HasCleanDisk}
 use Rattle.register.specs.Offices.{OfficeState}
 use Rattle.register.specs.Items.{IsState}
+use Rattle.register.specs.Tabulated.{IsTabulationOf}
 use Rattle.rowcheck.specs.declared.rows.Rows.{Rows}
-use Rattle.rowcheck.specs.States.{state_of}
+use Rattle.rowcheck.specs.States.{state_of, tabulated}
 use Rattle.tables.specs.declared.fault.Fault.{Fault}
 use Rattle.tables.specs.declared.fault.Fault.TheVariants.{Store as StoreFailed}
 use Rattle.tables.specs.Contents.{RestsAt}
@@ -14,10 +15,12 @@ use Rattle.tables.specs.Reading.{OnlyReads, FailsBy, FailsToList}
 use Rattle.store.specs.Offices.{HoldsState, IsAt}
 use Rattle.store.specs.Openings.{IsLeftAt, IsToldBy}
 
--- The rows that are read are those of a state (`is`), whatever made them. They are those of the state that the database holds: found by its
--- rows alone (`found`), left there by a stop (`left`), or kept by an office that was open (`kept`). Else an opening's fault is told, with its cause.
+-- The rows that are read are those of a state (`is`), with what its counts tabulate (`tabulates`), whatever made them. They are those of the state
+-- that the database holds: found by its rows alone (`found`), left there by a stop (`left`), or kept by an office that was open (`kept`). Else an
+-- opening's fault is told, with its cause.
 pub record ReadsOffice (old new : State) (result : Result Rows Fault) : Type 0 where
   pub is : IfOk result (λ rows. IsState (state_of rows))
+  pub tabulates : IfOk result (λ rows. IsTabulationOf (tabulated rows) (state_of rows))
   pub found : HasCleanDisk new → (db : Database) → IsOurs db.schema → RestsAt db old → IfOk result (λ rows. HoldsState db (state_of rows))
   pub left : HasCleanDisk new → (db : Database) → RestsAt db old → (s : OfficeState) → IsLeftAt s db → IfOk result (λ rows. state_of rows ≡ s)
   pub kept : HasCleanDisk new → (s : OfficeState) → IsAt s old → IfOk result (λ rows. state_of rows ≡ s)

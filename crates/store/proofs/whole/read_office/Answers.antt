@@ -13,6 +13,7 @@ returns-in-Ok g c =
     let read = c.in-Ok.ensures in
     record {
       is = read.judged.0;
+      tabulates = read.judged.1;
       found = λ clean db ours rests. (read.holds clean db ours rests).0;
       left = λ clean db rests s left. read_left s x db left (read.holds clean db (left_ours s db left) rests).0;
       kept = λ clean s at.
@@ -30,6 +31,7 @@ returns-in-Err g c =
     let read = c.in-Err.ensures in
     record {
       is = tt;
+      tabulates = tt;
       found = λ clean db ours rests. tt;
       left = λ clean db rests s left. tt;
       kept = λ clean s at. tt;
