@@ -30,7 +30,7 @@ noted=$(digest k9-13.csv)
     play town.db batch 12 7 2 4 9 --id b1
     play town.db batch 13 7 2 4 9 --id b2
 
-    # the files of two batches swapped, one clerk's file for both, and headers that are none
+    # the files of two batches swapped, one clerk's file for both, a header that is none, and the file of a batch of another ward
     play town.db import-keying 4 12 1 k4-13.csv --id k1
     play town.db import-keying 9 12 1 k4-12.csv --id k1
     play town.db import-keying 4 12 1 zero.csv --id k1

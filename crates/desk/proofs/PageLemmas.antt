@@ -17,11 +17,6 @@ pieces_more : {X : Type 0} (f : X → Text) (xs : List X) (i : ℕ) (d : X) → 
 pieces_more f xs i d within =
     ap (flat_map f) (take_more xs i d within) ∙ flat_map-append f (take i xs) (get_or xs i d ∷ []) ∙ ap (λ text. flat_map f (take i xs) ++ text) (append-nil (f (get_or xs i d)))
 
--- what words name, in three pieces, behind them and before a rest
-pub named_behind : (words a b c rest : Text) → words ++ (a ++ (b ++ (c ++ rest))) ≡ (words ++ (a ++ (b ++ c))) ++ rest
-named_behind words a b c rest =
-    sym (append_assoc words (a ++ (b ++ c)) rest ∙ ap (λ t. words ++ t) (append_assoc a (b ++ c) rest ∙ ap (λ t. a ++ t) (append_assoc b c rest)))
-
 module _ {W : Type 0} {taken : W → Option (List ℕ)} {failed : W → ℕ} {X E : Type 0} where
   -- nothing was put yet
   pub put_none : (s : W) (x : X) → IsPut {E = E} taken failed s s [] (Ok x)

@@ -4,6 +4,7 @@ pub mod MarkLemmas
 pub mod FieldLemmas
 pub mod MapLemmas
 pub mod HeaderLemmas
+pub mod FlawLemmas
 pub mod RecordLemmas
 pub mod ReadLemmas
 pub mod FileLemmas

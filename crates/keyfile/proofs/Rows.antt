@@ -58,9 +58,44 @@ another_clerk : keying_of (codes "paper 12/9,1,2,3") ≡ Err (fault_at 0 (OtherK
 unfolding chars encode is_utf8 next_record records_from strip_bom
 another_clerk = refl
 
-other_columns_first : keying_of (codes "paper 13/9,1,2") ≡ Err (fault_at 0 Header)
+-- the file of a batch of another ward, which has other columns, names its batch all the same
+another_ward : keying_of (codes "paper 13/9,1,2") ≡ Err (fault_at 0 (OtherKeying 13 9))
 unfolding chars encode is_utf8 next_record records_from strip_bom
-other_columns_first = refl
+another_ward = refl
+
+another_ward_longer : keying_of (codes "paper 13/4,1,3,2,4") ≡ Err (fault_at 0 (OtherKeying 13 4))
+unfolding chars encode is_utf8 next_record records_from strip_bom
+another_ward_longer = refl
+
+no_columns : keying_of (codes "paper 12/9") ≡ Err (fault_at 0 (OtherKeying 12 9))
+unfolding chars encode is_utf8 next_record records_from strip_bom
+no_columns = refl
+
+-- where it names nobody, or this batch and this clerk, the columns decide
+own_with_other_columns : keying_of (codes "paper 12/4,1,2") ≡ Err (fault_at 0 Header)
+unfolding chars encode is_utf8 next_record records_from strip_bom
+own_with_other_columns = refl
+
+nobody_with_other_columns : keying_of (codes "paper,1,2,3,4") ≡ Err (fault_at 0 Header)
+unfolding chars encode is_utf8 next_record records_from strip_bom
+nobody_with_other_columns = refl
+
+own_without_papers : keying_of (codes "paper 12/4,1,2,3") ≡ Ok []
+unfolding chars encode is_utf8 next_record records_from strip_bom
+own_without_papers = refl
+
+nobody_without_papers : keying_of (codes "paper,1,2,3") ≡ Ok []
+unfolding chars encode is_utf8 next_record records_from strip_bom
+nobody_without_papers = refl
+
+-- a first field that names none in its one spelling is no header
+mistyped_with_other_columns : keying_of (codes "paper 13/09,1,2") ≡ Err (fault_at 0 Header)
+unfolding chars encode is_utf8 next_record records_from strip_bom
+mistyped_with_other_columns = refl
+
+column_that_is_no_text : keying_of (codes "paper 13/9," ++ 255 ∷ []) ≡ Err (fault_at 0 Header)
+unfolding chars encode is_utf8 next_record records_from strip_bom
+column_that_is_no_text = refl
 
 no_such_batch : keying_of (codes "paper 10000/4,1,2,3") ≡ Err (fault_at 0 Header)
 unfolding chars encode is_utf8 next_record records_from strip_bom

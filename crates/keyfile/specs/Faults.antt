@@ -34,7 +34,12 @@ flaw_words Memory = codes "memory"
 flaw_words (OtherKeying batch clerk) = codes "the file is of batch "
 flaw_words OtherFile = codes "not the file of this digest"
 
--- the batch that it names, what stands behind that, and the clerk; nothing, where it names none
+-- the flaw in words, with the batch and the clerk that it names
+abbrev pub flaw_text : Flaw → List ℕ
+flaw_text (OtherKeying batch clerk) = codes "the file is of batch " ++ (decimal batch ++ (codes ", clerk " ++ decimal clerk))
+flaw_text flaw = flaw_words flaw
+
+-- what stands behind those first words, in three pieces: the batch that it names, what is between, and the clerk; nothing, where it names none
 abbrev pub flaw_batch : Flaw → List ℕ
 flaw_batch (OtherKeying batch clerk) = decimal batch
 flaw_batch _ = []
@@ -46,10 +51,6 @@ flaw_between _ = []
 abbrev pub flaw_clerk : Flaw → List ℕ
 flaw_clerk (OtherKeying batch clerk) = decimal clerk
 flaw_clerk _ = []
-
--- the flaw in words, with the batch and the clerk that it names
-abbrev pub flaw_text : Flaw → List ℕ
-flaw_text flaw = flaw_words flaw ++ (flaw_batch flaw ++ (flaw_between flaw ++ flaw_clerk flaw))
 
 -- whether a flaw is none of the file, but stopped its reading
 abbrev pub is_stop : Flaw → Bool

@@ -22,10 +22,20 @@ are_columns [] [] = true
 are_columns (field ∷ fields) (column ∷ columns) = is_told (plain_number_in field) column && are_columns fields columns
 are_columns fields columns = false
 
--- what is wrong with the header of a keying of a batch by a clerk: its first field and the columns in ascending order are asked for
+-- what is wrong with the columns of a header: the candidates' numbers in ascending order are asked for
+abbrev pub columns_flaw : List ℕ → Record → Option Flaw
+columns_flaw columns fields = if are_columns fields columns then None else Some Header
+
+-- the first of two flaws, if there is any
+abbrev pub first_flaw : Option Flaw → Option Flaw → Option Flaw
+first_flaw (Some flaw) later = Some flaw
+first_flaw None later = later
+
+-- what is wrong with the header of a keying of a batch by a clerk: whose keying its first field says that it is comes before its columns, since a batch of
+-- another ward has other columns
 abbrev pub keying_header_flaw : List ℕ → ℕ → ℕ → Record → Option Flaw
 keying_header_flaw columns batch clerk [] = Some Header
-keying_header_flaw columns batch clerk (first ∷ numbers) = if are_columns numbers columns then first_field_flaw batch clerk first else Some Header
+keying_header_flaw columns batch clerk (first ∷ fields) = first_flaw (first_field_flaw batch clerk first) (columns_flaw columns fields)
 
 -- a comma, a double quote or a line end
 abbrev pub is_break : ℕ → Bool

@@ -4,10 +4,9 @@ ghost use Rattle.std.specs.Prelude.{◌≡◌, ◌≢◌, ◌↔◌, ◌⊎◌, 
 ghost use Rattle.sha2.specs.Sha256.{sha256};
 ghost use Rattle.keyfile.specs.Digests.{digest_bytes, digest_in};
 ghost use Rattle.keyfile.specs.Faults.{is_stop};
-ghost use Rattle.keyfile.specs.Files.{fault_at};
 ghost use Rattle.keyfile.specs.Reading.{Known};
 
-use crate::fault::{FileFault, Flaw};
+use crate::fault::{FileFault, Flaw, at_record};
 use hex::FromHex;
 use sha2::{Digest, Sha256};
 use std::alloc::Global;
@@ -39,16 +38,6 @@ impl FileDigest {
     }
 }
 
-/// A flaw of a whole file, told at its header.
-fn at_start(flaw: Flaw) -> FileFault
-    ensures { result ≡ fault_at 0 flaw }
-{
-    FileFault {
-        flaw,
-        record_number: 0,
-    }
-}
-
 /// All bytes of a file, which have a digest; or why there are none: it is another file (`OtherFile`), or it can't be read
 /// (`ReadFailed`, `Memory`). The file is read to its end, however long it is, and all of it is kept.
 pub(crate) fn read_whole<R: Read + Drop>(
@@ -63,10 +52,11 @@ pub(crate) fn read_whole<R: Read + Drop>(
 {
     let mut file = r;
     let mut bytes = Vec::new(alloc);
-    match file.read_to_end(&mut bytes) {
+    let read = match file.read_to_end(&mut bytes) {
         Ok(_) if digest.is_of(&bytes) => Ok(bytes),
-        Ok(_) => Err(at_start(Flaw::OtherFile)),
-        Err(error) if error.kind() == ErrorKind::OutOfMemory => Err(at_start(Flaw::Memory)),
-        Err(_) => Err(at_start(Flaw::ReadFailed)),
-    }
+        Ok(_) => Err(Flaw::OtherFile),
+        Err(error) if error.kind() == ErrorKind::OutOfMemory => Err(Flaw::Memory),
+        Err(_) => Err(Flaw::ReadFailed),
+    };
+    at_record(0, read)
 }

@@ -8,11 +8,11 @@ use std::alloc::AllocError;
 use thiserror::Error;
 
 /// Why a record of an import file can't be taken. Of several the first in this order is told: other file,
-/// header, other keying, record length, too many records, not UTF-8, number, paper order, marks.
+/// other keying, header, record length, too many records, not UTF-8, number, paper order, marks.
 #[derive(Clone, Copy, Debug, PartialEq, Eq, Error)]
 #[error("{}", self.words())]
 pub enum Flaw {
-    /// There is no record, or the first isn't the header.
+    /// There is no record, or the first isn't the header. One that isn't UTF-8 is none, and names no keying.
     Header,
     /// It isn't as long as the header.
     RecordLength,

@@ -29,9 +29,10 @@ const MOST_PAPERS: u32 = 500;
 /// `ReadFailed` and `Memory` may come at any record that no fault stands before.
 ///
 /// In place of `paper` the header may have `paper 12/4`: the file is then of batch 12 by clerk 4. One
-/// of another batch or by another clerk is told as `OtherKeying`, if its columns are these; a file of
-/// other columns is told as `Header`, whatever it names. Where a digest is asked for, the papers are
-/// those of bytes that have it, and a file of others is told as `OtherFile`.
+/// of another batch or by another clerk is told as `OtherKeying`, whatever its columns are; any other
+/// file of other columns is told as `Header`. A header that isn't UTF-8 is told as `Header`, and names
+/// nothing. Where a digest is asked for, the papers are those of bytes that have it, and a file of
+/// others is told as `OtherFile`.
 pub fn read_keying<R: Read + Drop>(
     alloc: Global,
     r: R,
@@ -75,15 +76,13 @@ impl FileFormat for KeyingFormat {
     }
 
     fn header_flaw(&self, fields: &[&str]) -> Option<Flaw> {
-        match fields {
-            [] => Some(Flaw::Header),
-            [first, numbers @ ..] => {
-                if are_columns(numbers, self.columns.as_slice()) {
-                    first_field_flaw(first, self.batch, self.clerk)
-                } else {
-                    Some(Flaw::Header)
-                }
-            }
+        let [first, numbers @ ..] = fields else {
+            return Some(Flaw::Header);
+        };
+        match first_field_flaw(first, self.batch, self.clerk) {
+            Some(flaw) => Some(flaw),
+            None if are_columns(numbers, self.columns.as_slice()) => None,
+            None => Some(Flaw::Header),
         }
     }
 
