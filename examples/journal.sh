@@ -22,6 +22,12 @@ mute_office() {
     "$here/launch" "$@" >/dev/full
 }
 
+# Tells which orders differ between a text and the journal of an office, as the guide has it.
+tell_beside() {
+    echo "$1 beside the journal of $2:"
+    (cd "$folder" && "$office" "$2" journal | diff -B -I '^#' "$1" -) || true
+}
+
 # Tells what differs between two files.
 tell_changes() {
     echo "changes:"
@@ -74,6 +80,10 @@ printf '%s\n' ward,candidate,name 7,1,Ann 7,2,Bob 7,3,Cy 7,4,Dee >"$folder/names
     tell_changes evening.txt mended.txt
     play new.db init
     play new.db replay mended.txt
+    tell_beside mended.txt new.db
+    # over a file that was played before it does nothing, with status 0; what was mended isn't there
+    play town.db replay mended.txt
+    tell_beside mended.txt town.db
     play town.db wards
     play new.db wards
     play new.db seal 7 --id s1
