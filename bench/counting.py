@@ -101,6 +101,7 @@ def measure(folder, count):
     timed("advance, the first stage", "advance", "7", "--id", "x")
     added, seconds = adding_seconds(town)
     results.append((f"its {added} rows added by the stock sqlite", seconds, None))
+    timed("count, up to a lot or the end", "count", "7", "--id", "x")
     advance(town, 3)
     timed("ward 8 2 Quay, 3 stages done", *idle)
     timed("advance", "advance", "7", "--id", "x")

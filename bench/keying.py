@@ -69,6 +69,13 @@ def keying_file(path, texts):
             file.write(f"{number},{fields}\n")
 
 
+def words_of(path):
+    """The papers of such a file as the words of the order `key`."""
+    with open(path, encoding="ascii") as file:
+        marks = [line.rstrip("\n").split(",", 1)[1] for line in file][1:]
+    return ["D" if text.startswith("D") else text for text in marks]
+
+
 def play(folder, town, *words, status=0):
     return run([PROGRAM, town, *words], status)
 
@@ -178,16 +185,20 @@ def measure(folder, count):
     new = str(batches + 1)
     doubtful = sqlite3.connect(town).execute("SELECT batch, paper FROM keying WHERE marks = 'D' LIMIT 1").fetchone()
     keying = os.path.join(folder, "keying.csv")
+    keyed = words_of(keying)
     orders = [
         ("status 7", [PROGRAM, "status", "7"], 0),
         ("wards", [PROGRAM, "wards"], 0),
         ("batches 7", [PROGRAM, "batches", "7"], 0),
         ("doubtful 7", [PROGRAM, "doubtful", "7"], 0),
         ("receipts", [PROGRAM, "receipts"], 0),
+        ("papers of a batch", [PROGRAM, "papers", "1"], 0),
+        ("index", [PROGRAM, "index"], 0),
         ("journal", [PROGRAM, "journal"], 0),
         ("ward 8 2 Quay", [PROGRAM, "ward", "8", "2", "Quay", "--id", "x"], 0),
         ("batch", [PROGRAM, "batch", str(batches + 2), "7", "500", "4", "9", "--id", "x"], 0),
         ("import-keying of 500 papers", [PROGRAM, "import-keying", "4", new, "1", keying, "--id", "x"], 0),
+        ("key of 500 papers", [PROGRAM, "key", "4", new, "1", "--id", "x", *keyed], 0),
         ("again (refused)", [PROGRAM, "again", "1", "--id", "x"], 1),
         ("judge", [PROGRAM, "judge", str(doubtful[0]), str(doubtful[1]), "reject:3", "--id", "x"], 0),
     ]

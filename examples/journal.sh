@@ -92,10 +92,12 @@ printf '%s\n' ward,candidate,name 7,1,Ann 7,2,Bob 7,3,Cy 7,4,Dee >"$folder/names
     play new.db declare 7 --id d1
     play new.db wards
 
-    # a line that is gone takes with it what rests on it
+    # a line that is gone takes with it what rests on it: told line by line, or all at once by a script that keeps going
     grep -v '^batch 13 ' "$folder/evening.txt" >"$folder/without.txt"
     play less.db init
     play less.db replay without.txt
+    play less.db replay without.txt --keep-going
+    play less.db wards
 
     # sent twice it does nothing twice; cut or mixed up it ends at a line
     cat "$folder/evening.txt" "$folder/evening.txt" >"$folder/twice.txt"
