@@ -5,7 +5,7 @@ ghost use Rattle.clap.specs.Words.{app_of, rule_of, subcommand_of, takes, with_r
 ghost use Rattle.clap.specs.declared.builder.command.Command.TheViews.{out-Command as fields_of};
 ghost use Rattle.desk.specs.Orders.{no_digest, no_origin, no_verdict, told, words_of};
 ghost use Rattle.desk.specs.Versions.{version_text};
-ghost use Rattle.desk.specs.Words.{IsOwnText, IsToldOf, TellsOwnText, TellsRefusal, meaning, status_of_kind, wrong_with};
+ghost use Rattle.desk.specs.Words.{IsNoneMeant, IsOwnText, IsToldOf, TellsOwnText, TellsRefusal, meaning, status_of_kind, wrong_with};
 ghost use Rattle.desk.specs.Words.{office_words, order_words, rule_of_kind, start_words, with_orders};
 
 use crate::matched::{NoOrder, entries, order_in};
@@ -265,6 +265,7 @@ fn denied(alloc: Global, kind: ErrorKind, error: &Error) -> WordsFault
 pub fn order<'a>(alloc: Global, words: &'a [&'a str]) -> Result<Order<'a>, WordsFault>
     ensures accepts { IfOk result (λ _. wrong_with (map (λ s. s.now) words.entry.now) ≡ []) }
     ensures denies { IfErr result (IsToldOf (wrong_with (map (λ s. s.now) words.entry.now))) }
+    ensures none { IfErr result (IsNoneMeant (meaning (subcommand_of office_words (map (λ s. s.now) words.entry.now)))) }
     ensures version { wrong_with (map (λ s. s.now) words.entry.now) ≡ ErrorKind.DisplayVersion ∷ [] → IfErr result (TellsOwnText (Some version_text)) }
     ensures ok { IfOk result (λ o. meaning (subcommand_of office_words (map (λ s. s.now) words.entry.now)) ≡ Some (told o)) }
     ensures err { takes office_words (map (λ s. s.now) words.entry.now) ≡ true → IfErr result (λ e. (e ≡ WordsFault.Memory)
