@@ -10,7 +10,7 @@ ghost use Rattle.office.specs.Reads.{next_told};
 ghost use Rattle.office.specs.Answers.{WhenOpenAt};
 ghost use Rattle.desk.specs.Parts.{IsFound};
 ghost use Rattle.desk.specs.Pages.{page_of, replied};
-ghost use Rattle.desk.specs.Steps.{action_words, all_named, candidate_in, due_words, lot_words, named, named_behind, nominations_words, papers_words, step_text, step_words};
+ghost use Rattle.desk.specs.Steps.{action_words, all_named, candidate_in, due_words, lot_words, named, named_behind, nominations_words, papers_words, seal_words, step_text, step_words};
 
 use crate::lines::Outcome;
 use count::{Action, Due, TiedFor};
@@ -157,6 +157,19 @@ fn nominations_words(alloc: Global, candidates: usize, seats: u32) -> Result<Str
     )
 }
 
+/// What the seal of a ward waits for: it is due once all batches are taken, and all their doubtful papers are judged.
+fn seal_words(status: &Status) -> &'static str
+    ensures { result.now ≡ seal_words (status_entry status.now) }
+{
+    if status.batches == 0 {
+        "no batch is given out yet"
+    } else if status.taken == status.batches && status.doubtful_open == 0 {
+        "the seal comes next"
+    } else {
+        "the seal comes once all are taken and judged"
+    }
+}
+
 #[tactic(auto, unfolding(crate::specs::Steps::papers_words))]
 /// How the papers of a ward stand, before its seal.
 fn papers_words(alloc: Global, status: &Status) -> Result<String, AllocError>
@@ -164,8 +177,9 @@ fn papers_words(alloc: Global, status: &Status) -> Result<String, AllocError>
 {
     let (taken, batches) = (status.taken, status.batches);
     let (differing, open) = (status.differing, status.doubtful_open);
+    let seal = seal_words(status);
     format!(in alloc;
-        "{taken} of {batches} batches taken, {differing} differing, {open} doubtful open, the seal comes once all are taken and judged"
+        "{taken} of {batches} batches taken, {differing} differing, {open} doubtful open, {seal}"
     )
 }
 
