@@ -1,5 +1,5 @@
 -- What comes next in the election of a ward, in words, with its candidates' names.
-use Rattle.std.specs.Prelude.{ℕ, ◌==◌, ◌&&◌, ◌++◌, if◌then◌else◌, List, [], ◌∷◌, codes, find, Option, Some, None}
+use Rattle.std.specs.Prelude.{ℕ, ◌==◌, ◌&&◌, ◌++◌, if◌then◌else◌, List, [], ◌∷◌, codes, Option, Some, None}
 use Rattle.std.specs.Fmt.{decimal}
 use Rattle.std.specs.List.{flat_map}
 use Rattle.clap.specs.Words.{Text}
@@ -11,13 +11,10 @@ use Rattle.count.specs.declared.stages.Due.{Due}
 use Rattle.count.specs.declared.stages.Due.TheVariants.{Act, Lot, Finished}
 use Rattle.register.specs.Offices.{CandidateEntry}
 use Rattle.register.specs.Standings.{StatusEntry}
+use Rattle.desk.specs.Names.{candidate_in}
 use Rattle.register.specs.Steps.{StepEntry, nominations_end, papers_stand, count_goes, nothing_comes}
 
 -- ---- candidates
-
--- the candidate of a number
-abbrev pub candidate_in : List CandidateEntry → ℕ → Option CandidateEntry
-candidate_in candidates number = find (λ (c : CandidateEntry). c.number == number) candidates
 
 -- a number, and the name of the candidate who has it: `3 Cy`
 abbrev pub with_name : ℕ → Option CandidateEntry → Text
