@@ -1,8 +1,8 @@
 //! The page of all wards, written from how they stand.
 #![tactic(auto, using(crate::proofs::StopLemmas::stops_of_memory))]
 
-ghost use Rattle.std.specs.Prelude.{◌≡◌, false, true, map, IfOk, IfErr, OnOk, Err, string_bytes};
-ghost use Rattle.std.specs.List.{filter};
+ghost use Rattle.std.specs.Prelude.{◌≡◌, false, true, nat_eq, map, IfOk, IfErr, OnOk, Err, string_bytes};
+ghost use Rattle.std.specs.List.{filter, list_any};
 ghost use Rattle.sqlite.specs.Held.{state};
 ghost use Rattle.register.specs.Offices.{candidate_entry};
 ghost use Rattle.sheet.specs.Index.{elected_shown, index, listed};
@@ -34,16 +34,27 @@ fn standing_in(phase: Phase) -> Standing
     }
 }
 
-/// Whether a number is among those elected, where that is told.
+/// Whether a column has a candidate's number.
+fn has_number(number: u32, column: u8) -> bool
+    ensures { result ≡ nat_eq number column }
+{
+    number == u32::from(column)
+}
+
+/// Whether a candidate's number is among these columns.
+fn is_among(columns: &[u8], number: u32) -> bool
+    ensures { result ≡ list_any (nat_eq number) columns.now }
+{
+    columns.iter().any(|column| has_number(number, *column))
+}
+
+/// Whether a candidate is among those elected, where that is told.
 fn is_elected(elected: &Option<Columns>, candidate: &Candidate) -> bool
     ensures { result ≡ is_among_elected elected.now (candidate_entry candidate.now) }
 {
     match elected {
         None => false,
-        Some(elected) => elected
-            .as_slice()
-            .iter()
-            .any(|c| candidate.number == u32::from(*c)),
+        Some(elected) => is_among(elected.as_slice(), candidate.number),
     }
 }
 
