@@ -60,7 +60,7 @@ unfoldable pub nominations_words : ℕ → ℕ → Text
 nominations_words candidates seats = decimal candidates ++ (codes " candidates for " ++ (decimal seats ++ codes " seats so far, the close of nominations comes next"))
 
 -- what the seal waits for: it is due once all batches are taken, and all their doubtful papers are judged
-abbrev pub seal_words : StatusEntry → Text
+unfoldable pub seal_words : StatusEntry → Text
 seal_words s =
     if s.batches == 0 then codes "no batch is given out yet" else (if s.taken == s.batches && s.doubtful_open == 0 then codes "the seal comes next" else codes "the seal comes once all are taken and judged")
 

@@ -146,6 +146,7 @@ fn nominations_words(alloc: Global, candidates: usize, seats: u32) -> Result<Str
     )
 }
 
+#[tactic(auto, unfolding(crate::specs::Steps::seal_words))]
 /// What the seal of a ward waits for: it is due once all batches are taken, and all their doubtful papers are judged.
 fn seal_words(status: &Status) -> &'static str
     ensures { result.now ≡ seal_words (status_entry status.now) }

@@ -8,7 +8,7 @@ ghost use Rattle.desk.specs.Versions.{version_text};
 ghost use Rattle.desk.specs.Words.{IsNoneMeant, IsOwnText, IsToldOf, TellsOwnText, TellsRefusal, meaning, status_of_kind, wrong_with};
 ghost use Rattle.desk.specs.Words.{office_words, order_words, rule_of_kind, start_words, with_orders};
 
-use crate::matched::{NoOrder, entries, order_in};
+use crate::matched::{NoOrder, entries_from_seal, entries_to_seal, order_in};
 use crate::orders::Order;
 use crate::table::{Entry, Heading, Kind, MAX_CONNECTIONS, MAX_PORT, Word};
 use crate::version::{VERSION, version_text};
@@ -185,7 +185,8 @@ fn office_command<'a>(alloc: Global) -> Result<Command<'a>, AllocError>
     ensures app { IfOk result (λ c. app_of c ≡ office_words) }
     ensures local { IfOk result (λ c. (fields_of c).has_globals ≡ false) }
 {
-    with_orders(alloc, named(start_command(alloc))?, entries())
+    let command = with_orders(alloc, named(start_command(alloc))?, entries_to_seal())?;
+    with_orders(alloc, command, entries_from_seal())
 }
 
 /// The status that the program ends with where words ask for help or the version, or are not understood.
