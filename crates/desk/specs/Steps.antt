@@ -64,11 +64,13 @@ unfoldable pub seal_words : StatusEntry → Text
 seal_words s =
     if s.batches == 0 then codes "no batch is given out yet" else (if s.taken == s.batches && s.doubtful_open == 0 then codes "the seal comes next" else codes "the seal comes once all are taken and judged")
 
+-- how many batches of a ward are taken, and how many differ
+unfoldable pub taken_words : StatusEntry → Text
+taken_words s = decimal s.taken ++ (codes " of " ++ (decimal s.batches ++ (codes " batches taken, " ++ (decimal s.differing ++ codes " differing"))))
+
 -- how the papers of a ward stand, before its seal
 unfoldable pub papers_words : StatusEntry → Text
-papers_words s =
-    decimal s.taken ++ (codes " of " ++ (decimal s.batches ++ (codes " batches taken, " ++ (decimal s.differing ++ (codes " differing, " ++
-    (decimal s.doubtful_open ++ (codes " doubtful open, " ++ seal_words s)))))))
+papers_words s = taken_words s ++ (codes ", " ++ (decimal s.doubtful_open ++ (codes " doubtful open, " ++ seal_words s)))
 
 -- what comes next, by how far the ward has come
 unfoldable pub step_words : StepEntry → Text

@@ -10,7 +10,7 @@ ghost use Rattle.office.specs.Reads.{next_told};
 ghost use Rattle.office.specs.Answers.{WhenOpenAt};
 ghost use Rattle.desk.specs.Parts.{IsFound};
 ghost use Rattle.desk.specs.Pages.{page_of, replied};
-ghost use Rattle.desk.specs.Steps.{action_words, all_named, due_words, lot_words, named, named_behind, nominations_words, papers_words, seal_words, step_text, step_words};
+ghost use Rattle.desk.specs.Steps.{action_words, all_named, due_words, lot_words, named, named_behind, nominations_words, papers_words, seal_words, step_text, step_words, taken_words};
 
 use crate::lines::Outcome;
 use crate::names::candidate_in;
@@ -160,17 +160,23 @@ fn seal_words(status: &Status) -> &'static str
     }
 }
 
+#[tactic(auto, unfolding(crate::specs::Steps::taken_words))]
+/// How many batches of a ward are taken, and how many differ.
+fn taken_words(alloc: Global, status: &Status) -> Result<String, AllocError>
+    ensures { IfOk result (λ text. string_bytes text ≡ taken_words (status_entry status.now)) }
+{
+    let (taken, batches, differing) = (status.taken, status.batches, status.differing);
+    format!(in alloc; "{taken} of {batches} batches taken, {differing} differing")
+}
+
 #[tactic(auto, unfolding(crate::specs::Steps::papers_words))]
 /// How the papers of a ward stand, before its seal.
 fn papers_words(alloc: Global, status: &Status) -> Result<String, AllocError>
     ensures { IfOk result (λ text. string_bytes text ≡ papers_words (status_entry status.now)) }
 {
-    let (taken, batches) = (status.taken, status.batches);
-    let (differing, open) = (status.differing, status.doubtful_open);
-    let seal = seal_words(status);
-    format!(in alloc;
-        "{taken} of {batches} batches taken, {differing} differing, {open} doubtful open, {seal}"
-    )
+    let taken = taken_words(alloc, status)?;
+    let (open, seal) = (status.doubtful_open, seal_words(status));
+    format!(in alloc; "{taken}, {open} doubtful open, {seal}")
 }
 
 #[tactic(auto, unfolding(crate::specs::Steps::step_words))]

@@ -33,7 +33,7 @@ returns-in-Err-clause-told g c clean =
     record {
       in_office = λ db rests s left blank also.
           inr (inr (c.in-Err.fault, refl, elim (c.in-Err.ensures.cause clean db rests s left) [ inl memory ↦ inl memory | inr store ↦ inr store.0 ]));
-      elsewhere = λ db ours rests none. (c.in-Err.fault, refl, c.in-Err.ensures.told clean db ours rests, c.in-Err.ensures.fails clean db ours rests);
+      elsewhere = λ db ours rests none. (c.in-Err.fault, refl, (c.in-Err.ensures.told clean db ours rests, c.in-Err.ensures.fails clean db ours rests));
       reads = c.rows.ensures.reads;
       leaves = λ db rests earlier left.
           read_leaves (after empty_office earlier) db old new (λ trees is_open may. g.met.S.Store.settled c.args.conn.now.store trees is_open may) c.rows.ensures.reads clean rests left;
