@@ -17,7 +17,7 @@ ghost use Rattle.register.specs.Offices.{OfficeState};
 ghost use Rattle.tables.specs.Contents.{RestsAt};
 ghost use Rattle.tables.specs.Reading.{OnlyReads};
 ghost use Rattle.store.specs.Openings.{IsLeftAt};
-ghost use Rattle.desk.specs.Journals.{IsJournalTold};
+ghost use Rattle.desk.specs.Journals.{IsJournalTold, IsToldElsewhere};
 ghost use Rattle.desk.specs.Pages.{Tells, outputs_of};
 ghost use Rattle.sqlite_wal.specs.Reads.{AreClean};
 ghost use Rattle.sqlite.specs.Closing.{IsCopied};
@@ -205,7 +205,8 @@ fn journal<S: Alter, O: Sink, E: Sink>(
     requires out { O.failed out.old < 2 ^ 64 - 1 }
     requires err { E.failed err.old < 2 ^ 64 - 1 }
     ensures told { let outputs = outputs_of O.taken O.failed E.taken E.failed in Tells (outputs out.old err.old) (outputs out.new err.new) result.0
-        (λ _ page. HasCleanDisk (state S.Store result.1) → (db : Database) → RestsAt db (state S.Store conn) → (s : OfficeState) → IsLeftAt s db → IsJournalTold s page) }
+        (λ _ page. HasCleanDisk (state S.Store result.1) → ((db : Database) → RestsAt db (state S.Store conn) → (s : OfficeState) → IsLeftAt s db → IsJournalTold s page)
+        × IsToldElsewhere page (state S.Store conn) (state S.Store result.1)) }
     ensures reads { OnlyReads (state S.Store conn) (state S.Store result.1) }
 {
     match Connection::open_in_memory(rt.alloc()) {

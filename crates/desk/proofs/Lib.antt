@@ -1,6 +1,7 @@
 pub mod NumbersRead
 pub mod FrontsRead
 pub mod OrdersNamed
+pub mod OrderTables
 pub mod PageLemmas
 pub mod CauseLemmas
 pub mod TellingLemmas

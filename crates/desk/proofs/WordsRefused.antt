@@ -1,5 +1,5 @@
 -- The status of words that `clap` doesn't take.
-use Rattle.std.proofs.Common.{◌≡◌, ◌∙◌, ◌⊎◌, ℕ, List, [], ◌∷◌, Some, true, refl, subst, sym, ap, inl, inr}
+use Rattle.std.proofs.Common.{◌≡◌, ◌∙◌, ◌⊎◌, ℕ, List, [], ◌∷◌, Option, Some, true, refl, subst, sym, ap, inl, inr}
 use Rattle.std.specs.Prelude.{◌==◌}
 use Rattle.std.specs.List.{list_any}
 use Rattle.std.proofs.Math.Bool.{or-true}
@@ -10,9 +10,9 @@ use Rattle.clap.specs.declared.error.Error.{Error}
 use Rattle.clap.specs.declared.error.kind.ErrorKind.{ErrorKind}
 use Rattle.clap.specs.declared.error.kind.ErrorKind.TheVariants as kind
 use Rattle.clap.proofs.OnLiterals.{clap_on_literals}
-use Rattle.desk.specs.Orders.{orders}
+use Rattle.desk.specs.Orders.{Meant, orders}
 use Rattle.desk.specs.Versions.{version_text}
-use Rattle.desk.specs.Words.{IsToldOf, TellsOwnText, TellsRefusal, office_words, status_of_kind, wrong_with}
+use Rattle.desk.specs.Words.{IsNoneMeant, IsToldOf, TellsOwnText, TellsRefusal, office_words, status_of_kind, wrong_with}
 use Rattle.desk.specs.declared.words.WordsFault.{WordsFault}
 use Rattle.desk.specs.declared.words.WordsFault.TheVariants as words_fault
 
@@ -44,6 +44,14 @@ refusal_is_told k kinds (words_fault.Words text status) tells among = (refusal_g
 -- where the kind that was asked for is that of the error
 pub refusal_told : (k given : ErrorKind) (kinds : Kinds) (fault : WordsFault) → given ≡ k → TellsRefusal given fault → (k ≡ kind.OutOfMemory) ⊎ IsAmong k kinds → IsToldOf kinds fault
 refusal_told k given kinds fault same tells among = refusal_is_told k kinds fault (subst (λ x. TellsRefusal x fault) same tells) among
+
+-- and of no word that is none
+pub refusal_means_no_none : (k : ErrorKind) (meant : Option Meant) (fault : WordsFault) → TellsRefusal k fault → IsNoneMeant meant fault
+refusal_means_no_none k meant words_fault.Memory tells = tt
+refusal_means_no_none k meant words_fault.Verdict tells = absurd tells
+refusal_means_no_none k meant words_fault.Origin tells = absurd tells
+refusal_means_no_none k meant words_fault.Digest tells = absurd tells
+refusal_means_no_none k meant (words_fault.Words text status) tells = tt
 
 -- where words ask for the version, it is told
 pub version_asked : (k given : ErrorKind) (kinds : Kinds) (fault : WordsFault) → given ≡ k → kinds ≡ kind.DisplayVersion ∷ [] → (k ≡ kind.OutOfMemory) ⊎ IsAmong k kinds

@@ -2,7 +2,7 @@
 use Rattle.std.specs.Prelude.{◌≡◌, ◌⊎◌, List, map}
 use Rattle.clap.specs.Words.{Text}
 use Rattle.sqlite.specs.Effect.{Database}
-use Rattle.sqlite.specs.State.{State}
+use Rattle.sqlite.specs.State.{HasCleanDisk, State}
 use Rattle.register.specs.Machine.{after}
 use Rattle.register.specs.Offices.{OfficeState, empty_office}
 use Rattle.register.specs.declared.command.Request.{Request}
@@ -37,10 +37,14 @@ IsJournalOf s text = (requests : List Request) × IsScriptOf text requests × Le
 abbrev pub IsJournalTold : OfficeState → Page → Type 0
 IsJournalTold s page = ((text : Text) × (page ≡ printed text) × IsJournalOf s text) ⊎ ((page ≡ unjournalled) ⊎ IsFailed IsMemoryOrStore page)
 
--- What comes of the order, by what its own connection rests at, where the other one has an empty database: a journal of the office is told, or why
--- not; or what an opening tells where there is none. Its own office is only read, and a stop leaves it as it was.
-pub record IsJournalled (page : Page) (old new blank : State) : Type 0 where
-  pub in_office : (db : Database) → RestsAt db old → (s : OfficeState) → IsLeftAt s db → IsBlank blank → IsJournalTold s page
-  pub elsewhere : (db : Database) → IsOurs db.schema → RestsAt db old → HoldsNoState db → IsFailed (λ fault. IsToldBy db fault × FailsToList db old new fault) page
+-- What is told where the database that its connection rests at holds no office: the fault that the database gives, with its cause.
+abbrev pub IsToldElsewhere : Page → State → State → Type 0
+IsToldElsewhere page old new = (db : Database) → IsOurs db.schema → RestsAt db old → HoldsNoState db → IsFailed (λ fault. IsToldBy db fault × FailsToList db old new fault) page
+
+-- What comes of the order, by what its own connection rests at. Where that is an office, and the other connection has an empty database, whose disk is
+-- clean once the journal was tried in it, a journal of the office is told, or why not. Its own office is only read, and a stop leaves it as it was.
+pub record IsJournalled (page : Page) (old new blank trial : State) : Type 0 where
+  pub in_office : (db : Database) → RestsAt db old → (s : OfficeState) → IsLeftAt s db → IsBlank blank → HasCleanDisk trial → IsJournalTold s page
+  pub elsewhere : IsToldElsewhere page old new
   pub reads : OnlyReads old new
   pub leaves : (db : Database) → RestsAt db old → (earlier : List Request) → IsLeftAt (after empty_office earlier) db → LeavesState new (λ x. x ≡ after empty_office earlier)

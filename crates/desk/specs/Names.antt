@@ -1,13 +1,17 @@
 -- The names of a ward's candidates, by their numbers.
-use Rattle.std.specs.Prelude.{ℕ, ◌==◌, List, [], map, find, slice_get, option_map, unwrap_or}
+use Rattle.std.specs.Prelude.{ℕ, ◌==◌, List, [], Option, map, find, slice_get, option_map, unwrap_or}
 use Rattle.std.specs.List.{range_with_len}
 use Rattle.clap.specs.Words.{Text}
 use Rattle.register.specs.Offices.{CandidateEntry}
 use Rattle.desk.specs.declared.names.Names.{Names}
 
--- the name of the candidate of a number; nothing where there is none
+-- the candidate of a number
+abbrev pub candidate_in : List CandidateEntry → ℕ → Option CandidateEntry
+candidate_in candidates number = find (λ (c : CandidateEntry). c.number == number) candidates
+
+-- his name; nothing where there is none
 abbrev pub name_of : List CandidateEntry → ℕ → Text
-name_of candidates number = unwrap_or (option_map (λ (c : CandidateEntry). c.name) (find (λ (c : CandidateEntry). c.number == number) candidates)) []
+name_of candidates number = unwrap_or (option_map (λ (c : CandidateEntry). c.name) (candidate_in candidates number)) []
 
 -- the names of the numbers 0 to 30, one after the other; no candidate has the number 0
 unfoldable pub names_of : List CandidateEntry → List Text

@@ -106,9 +106,9 @@ unread fault = record {
 abbrev pub failed : Failure → Page
 failed failure = record { out = []; err = numbered_line (codes "fault ") (failure_number failure) (failure_text failure); status = 3 }
 
--- that there is no journal of the office: its receipts and its other tables don't belong together
+-- that there is no journal of the office: the orders that were written from its tables don't make it
 abbrev pub unjournalled : Page
-unjournalled = record { out = []; err = line (codes "no journal: the receipts are not those of these tables"); status = 1 }
+unjournalled = record { out = []; err = line (codes "no journal: what was written does not make this office"); status = 1 }
 
 -- what the machine tells
 abbrev pub page_told : Told → Page

@@ -1,11 +1,12 @@
 -- The requests that orders send to the office.
-use Rattle.std.specs.Prelude.{◌≡◌, ◌==◌, ◌||◌, ℕ, suc, Bool, true, false, List, [], ◌∷◌, ◌++◌, codes, map, string_bytes, Option, Some, None, Result, Ok, Err}
+use Rattle.std.specs.Prelude.{◌≡◌, ◌==◌, ◌||◌, ◌+◌, ℕ, suc, Bool, true, false, List, [], ◌∷◌, ◌++◌, codes, map, string_bytes, Option, Some, None, Result, Ok, Err}
 use Rattle.std.specs.Fmt.{decimal}
 use Rattle.std.specs.List.{range_with_len}
 use Rattle.std.specs.Str.{bytes_eq}
 use Rattle.clap.specs.Words.{Text}
 use Rattle.register.specs.Machine.{Outcome, accepted, kept, refused, after_one, step_of}
 use Rattle.register.specs.Offices.{OfficeState}
+use Rattle.register.specs.Ranges.{last_lot_stage}
 use Rattle.register.specs.declared.command.Request.{Request}
 use Rattle.register.specs.declared.refusal.Reason.{Reason}
 use Rattle.office.specs.Reads.{columns_told}
@@ -87,9 +88,14 @@ is_first id r = bytes_eq (string_bytes r.id) (id_at id 1)
 abbrev pub advances : ℕ → Text → ℕ → List Sent
 advances ward id n = map (advance_at ward id) (range_with_len 1 n)
 
--- the most that such an order sends: one more than a count can have stages
+-- the highest stage that a count can have. At most 30 candidates stand, and each stage behind the first, that of the first preferences, transfers the
+-- papers of one of them, who is done with then: elected, his surplus, or excluded, all of them. So that is the last stage for which a lot may be drawn.
+abbrev pub last_stage : ℕ
+last_stage = last_lot_stage
+
+-- the most that such an order sends: one more than that, which is refused
 abbrev pub most_advances : ℕ
-most_advances = 32
+most_advances = last_stage + 1
 
 -- the machine refuses a request
 abbrev pub is_refused : Outcome → Bool

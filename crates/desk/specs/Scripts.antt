@@ -5,7 +5,7 @@ use Rattle.std.specs.List.{list_all, list_any}
 use Rattle.std.specs.Str.{is_utf8}
 use Rattle.clap.specs.Words.{Text, subcommand_of}
 use Rattle.desk.specs.Folders.{File, Folder, HoldsText, IsFileAt}
-use Rattle.desk.specs.Orders.{told}
+use Rattle.desk.specs.Orders.{no_digest, no_origin, no_verdict, told}
 use Rattle.desk.specs.Words.{IsToldOf, bad_digest, bad_origin, meaning, office_words, status_of_kind, wrong_with}
 use Rattle.desk.specs.declared.orders.Errand.{Errand}
 use Rattle.desk.specs.declared.orders.Errand.TheVariants as errand
@@ -180,12 +180,13 @@ line_flaw_text flaw.Digest = bad_digest
 line_flaw_text (flaw.Words text) = string_bytes text
 line_flaw_text flaw.Elsewhere = codes "error: this order stands in no script\n"
 
--- what is wrong with its words: what `clap` says of them, or that the order stands in no script, as one that asks for help
+-- what is wrong with its words: that one which stands for a verdict, an origin or a digest is none, though `clap` takes them; what `clap` says of them;
+-- or that the order stands in no script, as one that asks for help
 abbrev pub IsFlawOfWords : List Text → LineFlaw → Type 0
 IsFlawOfWords words (flaw.NoWords why) = ⊥
-IsFlawOfWords words flaw.Verdict = IsToldOf (wrong_with words) words_fault.Verdict
-IsFlawOfWords words flaw.Origin = IsToldOf (wrong_with words) words_fault.Origin
-IsFlawOfWords words flaw.Digest = IsToldOf (wrong_with words) words_fault.Digest
+IsFlawOfWords words flaw.Verdict = (wrong_with words ≡ []) × (meaning (subcommand_of office_words words) ≡ Some no_verdict)
+IsFlawOfWords words flaw.Origin = (wrong_with words ≡ []) × (meaning (subcommand_of office_words words) ≡ Some no_origin)
+IsFlawOfWords words flaw.Digest = (wrong_with words ≡ []) × (meaning (subcommand_of office_words words) ≡ Some no_digest)
 IsFlawOfWords words (flaw.Words text) = (status : ℕ) × (status ≢ 0) × IsToldOf (wrong_with words) (words_fault.Words text status)
 IsFlawOfWords words flaw.Elsewhere =
     (list_any (λ kind. status_of_kind kind == 0) (wrong_with words) ≡ true)

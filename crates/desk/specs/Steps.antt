@@ -1,5 +1,5 @@
 -- What comes next in the election of a ward, in words, with its candidates' names.
-use Rattle.std.specs.Prelude.{ℕ, ◌==◌, ◌++◌, List, [], ◌∷◌, codes, find, Option, Some, None}
+use Rattle.std.specs.Prelude.{ℕ, ◌==◌, ◌&&◌, ◌++◌, if◌then◌else◌, List, [], ◌∷◌, codes, Option, Some, None}
 use Rattle.std.specs.Fmt.{decimal}
 use Rattle.std.specs.List.{flat_map}
 use Rattle.clap.specs.Words.{Text}
@@ -11,13 +11,10 @@ use Rattle.count.specs.declared.stages.Due.{Due}
 use Rattle.count.specs.declared.stages.Due.TheVariants.{Act, Lot, Finished}
 use Rattle.register.specs.Offices.{CandidateEntry}
 use Rattle.register.specs.Standings.{StatusEntry}
+use Rattle.desk.specs.Names.{candidate_in}
 use Rattle.register.specs.Steps.{StepEntry, nominations_end, papers_stand, count_goes, nothing_comes}
 
 -- ---- candidates
-
--- the candidate of a number
-abbrev pub candidate_in : List CandidateEntry → ℕ → Option CandidateEntry
-candidate_in candidates number = find (λ (c : CandidateEntry). c.number == number) candidates
 
 -- a number, and the name of the candidate who has it: `3 Cy`
 abbrev pub with_name : ℕ → Option CandidateEntry → Text
@@ -62,11 +59,18 @@ due_words stage candidates Finished = codes "the count is finished, the declarat
 unfoldable pub nominations_words : ℕ → ℕ → Text
 nominations_words candidates seats = decimal candidates ++ (codes " candidates for " ++ (decimal seats ++ codes " seats so far, the close of nominations comes next"))
 
+-- what the seal waits for: it is due once all batches are taken, and all their doubtful papers are judged
+unfoldable pub seal_words : StatusEntry → Text
+seal_words s =
+    if s.batches == 0 then codes "no batch is given out yet" else (if s.taken == s.batches && s.doubtful_open == 0 then codes "the seal comes next" else codes "the seal comes once all are taken and judged")
+
+-- how many batches of a ward are taken, and how many differ
+unfoldable pub taken_words : StatusEntry → Text
+taken_words s = decimal s.taken ++ (codes " of " ++ (decimal s.batches ++ (codes " batches taken, " ++ (decimal s.differing ++ codes " differing"))))
+
 -- how the papers of a ward stand, before its seal
 unfoldable pub papers_words : StatusEntry → Text
-papers_words s =
-    decimal s.taken ++ (codes " of " ++ (decimal s.batches ++ (codes " batches taken, " ++ (decimal s.differing ++ (codes " differing, " ++
-    (decimal s.doubtful_open ++ codes " doubtful open, the seal comes once all are taken and judged"))))))
+papers_words s = taken_words s ++ (codes ", " ++ (decimal s.doubtful_open ++ (codes " doubtful open, " ++ seal_words s)))
 
 -- what comes next, by how far the ward has come
 unfoldable pub step_words : StepEntry → Text

@@ -211,6 +211,14 @@ IsToldOf kinds words_fault.Origin = kinds ≡ []
 IsToldOf kinds words_fault.Digest = kinds ≡ []
 IsToldOf kinds (words_fault.Words text status) = (list_any (λ kind. status_of_kind kind == status) kinds ≡ true) × (string_bytes text ≢ [])
 
+-- where the word of a verdict is told to say none, or that of an origin or of a digest to be none, the words mean just that
+abbrev pub IsNoneMeant : Option Meant → WordsFault → Type 0
+IsNoneMeant meant words_fault.Memory = ⊤
+IsNoneMeant meant words_fault.Verdict = meant ≡ Some no_verdict
+IsNoneMeant meant words_fault.Origin = meant ≡ Some no_origin
+IsNoneMeant meant words_fault.Digest = meant ≡ Some no_digest
+IsNoneMeant meant (words_fault.Words text status) = ⊤
+
 -- what is told of a word behind `--origin` that is none
 abbrev pub bad_origin : Text
 bad_origin = codes "error: an origin is http:// or https://, a host in small letters, and its port where it isn't the usual one, as https://count.example.org\n"

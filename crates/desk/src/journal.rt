@@ -3,6 +3,7 @@
 //! There is a line for each receipt, and what the receipt doesn't say stands in the other tables. First come the
 //! nominations, ward by ward; then the papers, batch by batch, each with the verdicts on them; then the counts, ward
 //! by ward. So what is asked for stands above what asks for it, and the rows of papers come in the order of their keys.
+//! The last line says how many orders they are.
 //!
 //! No clause speaks of the text. Whoever prints it reads it back first, and sees what it makes of an empty office.
 
@@ -19,6 +20,7 @@ use crate::journal::counts::put_count;
 use crate::journal::nominations::put_nominations;
 use crate::journal::papers::put_batch;
 use crate::journal::receipts::{Kept, places_of};
+use crate::journal::words::put_heading;
 use rowcheck::Rows;
 use std::alloc::{AllocError, Global};
 
@@ -56,6 +58,12 @@ fn put_all_counts(alloc: Global, text: &mut String, kept: &Kept<'_>) -> Result<(
     Ok(())
 }
 
+/// Puts the end: how many orders stand above it, one for each receipt. So a text that was cut can be told.
+fn put_end(alloc: Global, text: &mut String, orders: usize) -> Result<(), AllocError> {
+    let says = format!(in alloc; "end: {orders} orders")?;
+    put_heading(text, says.as_str())
+}
+
 /// The text of the journal of the office of these rows.
 pub(crate) fn journal_text(alloc: Global, rows: &Rows) -> Result<String, AllocError>
     requires { MapsRise (state_of rows.now) }
@@ -69,5 +77,6 @@ pub(crate) fn journal_text(alloc: Global, rows: &Rows) -> Result<String, AllocEr
     put_all_nominations(alloc, &mut text, &kept)?;
     put_all_batches(alloc, &mut text, &kept)?;
     put_all_counts(alloc, &mut text, &kept)?;
+    put_end(alloc, &mut text, rows.receipts.len())?;
     Ok(text)
 }

@@ -101,8 +101,8 @@ fn journalled<S: Alter, T: Alter>(
     conn: &mut Connection<S>,
     blank: Connection<T>,
 ) -> (Outcome, Connection<T>)
-    ensures told { HasCleanDisk (state S.Store conn.new) → HasCleanDisk (state T.Store result.1)
-        → IsJournalled (page_of result.0) (state S.Store conn.old) (state S.Store conn.new) (state T.Store blank) }
+    ensures told { HasCleanDisk (state S.Store conn.new)
+        → IsJournalled (page_of result.0) (state S.Store conn.old) (state S.Store conn.new) (state T.Store blank) (state T.Store result.1) }
     ensures reads { OnlyReads (state S.Store conn.old) (state S.Store conn.new) }
 {
     match Office::rows(alloc, conn) {
@@ -132,8 +132,8 @@ pub fn journal_office<S: Alter, T: Alter, O: Sink, E: Sink>(
     requires out { O.failed out.old < 2 ^ 64 - 1 }
     requires err { E.failed err.old < 2 ^ 64 - 1 }
     ensures journalled { let outputs = outputs_of O.taken O.failed E.taken E.failed in Tells (outputs out.old err.old) (outputs out.new err.new) result.0
-        (λ _ page. HasCleanDisk (state S.Store conn.new) → HasCleanDisk (state T.Store result.1)
-        → IsJournalled page (state S.Store conn.old) (state S.Store conn.new) (state T.Store blank)) }
+        (λ _ page. HasCleanDisk (state S.Store conn.new)
+        → IsJournalled page (state S.Store conn.old) (state S.Store conn.new) (state T.Store blank) (state T.Store result.1)) }
     ensures reads { OnlyReads (state S.Store conn.old) (state S.Store conn.new) }
 {
     let (outcome, blank) = journalled(alloc, conn, blank);

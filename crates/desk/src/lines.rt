@@ -17,7 +17,7 @@ use votes::{Broken, Sink, put_all};
 
 /// What is told where the journal that was written doesn't make its office, as where its receipts and its other tables
 /// don't belong together.
-const NO_JOURNAL: &str = "no journal: the receipts are not those of these tables";
+const NO_JOURNAL: &str = "no journal: what was written does not make this office";
 
 /// What an order came to.
 #[derive(Drop)]

@@ -1,11 +1,11 @@
 //! The table of orders, and the order that matched words mean.
 //!
-//! One order more is an entry of [`ORDERS`], and an arm that makes of its words what it means: in [`command_named`] where
-//! it sends a command, and in [`order_named`] where it doesn't, which may want a variant of
-//! [`Errand`](crate::orders::Errand) too. A line of `orders` in specs/Orders.antt says what that is.
+//! One order more is an entry of [`ORDERS_TO_SEAL`] or [`ORDERS_FROM_SEAL`], and an arm that makes of its words what it
+//! means: in [`command_named`] where it sends a command, and in [`order_named`] where it doesn't, which may want a variant
+//! of [`Errand`](crate::orders::Errand) too. A line of `orders` in specs/Orders.antt says what that is.
 #![tactic(auto, unfolding(crate::specs::Orders::orders))]
 
-ghost use Rattle.std.specs.Prelude.{◌≡◌, ◌⊎◌, false, Err, None, Some, codes, map, IfErr, IfOk, option_map, string_bytes};
+ghost use Rattle.std.specs.Prelude.{◌≡◌, ◌⊎◌, false, Err, None, Some, codes, drop, map, take, IfErr, IfOk, option_map, string_bytes};
 ghost use Rattle.clap.specs.Words.{all_of, first_of, found_of, rows_of, subcommand_rows_of};
 ghost use Rattle.desk.specs.Orders.{ask, no_digest, no_origin, no_verdict, orders, print, told, told_errand, told_text, words_of};
 ghost use Rattle.keyfile.specs.Digests.{digest_bytes};
@@ -45,10 +45,10 @@ macro_rules! order {
     };
 }
 
-/// All orders, in the sequence of an election; then the one that brings an older office over, those for the office
-/// alone, and those for everyone.
+/// The orders up to the seal of a ward, in the sequence of an election. They are a table of their own, since a proof
+/// computes each table whole.
 #[rattlefmt::skip]
-const ORDERS: [Entry; 36] = [
+const ORDERS_TO_SEAL: [Entry; 12] = [
     order!(Election "init" [], "Makes an office in DB, a new file or an empty one:\ncount-office town.db init"),
     order!(Election "ward" [WARD, SEATS, NAME, ID], "Adds a ward, its nominations open:\ncount-office town.db ward 7 2 Harbour --id w1"),
     order!(Election "candidate" [WARD, CANDIDATE, NAME, ID], "Adds a candidate to a ward:\ncount-office town.db candidate 7 1 Ann --id c1"),
@@ -62,6 +62,12 @@ const ORDERS: [Entry; 36] = [
     order!(Election "again" [BATCH, ID], "Opens the next round of a batch whose keyings differ:\ncount-office town.db again 13 --id r1"),
     order!(Election "third" [BATCH, CLERK, ID], "Gives a batch whose keyings differ to a third clerk too:\ncount-office town.db third 13 5 --id t1"),
     order!(Election "judge" [BATCH, PAPER, VERDICT, ID], "Keeps the verdict on a doubtful paper of a batch that is taken:\ncount-office town.db judge 12 6 accept:1,,, --id v1"),
+];
+
+/// The others, from the seal on in the same sequence; then the one that brings an older office over, those for the office
+/// alone, and those for everyone.
+#[rattlefmt::skip]
+const ORDERS_FROM_SEAL: [Entry; 24] = [
     order!(Election "seal" [WARD, ID], "Seals a ward whose papers are all agreed and judged:\ncount-office town.db seal 7 --id s1"),
     order!(Election "advance" [WARD, ID], "Counts the one stage that is due in a sealed ward:\ncount-office town.db advance 7 --id a1"),
     order!(Election "count" [WARD, ID], "Counts a sealed ward up to a lot or the end, its first stage under ID-1:\ncount-office town.db count 7 --id a"),
@@ -88,11 +94,18 @@ const ORDERS: [Entry; 36] = [
     order!(Everyone "index" [TITLE], "Prints how all wards stand, and who is elected, as a page to hang at the door:\ncount-office town.db index"),
 ];
 
-/// The table of orders.
-pub(crate) fn entries() -> &'static [Entry]
-    ensures { map words_of result.now ≡ map (λ e. e.typed) orders }
+/// The orders up to the seal, which are the first 12 of all.
+pub(crate) fn entries_to_seal() -> &'static [Entry]
+    ensures { map words_of result.now ≡ map (λ e. e.typed) (take 12 orders) }
 {
-    &ORDERS
+    &ORDERS_TO_SEAL
+}
+
+/// The orders from the seal on.
+pub(crate) fn entries_from_seal() -> &'static [Entry]
+    ensures { map words_of result.now ≡ map (λ e. e.typed) (drop 12 orders) }
+{
+    &ORDERS_FROM_SEAL
 }
 
 // ---- what matched words mean

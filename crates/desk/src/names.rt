@@ -1,8 +1,8 @@
 //! The names of a ward's candidates, by their numbers.
 
-ghost use Rattle.std.specs.Prelude.{◌≡◌, map, IfOk};
+ghost use Rattle.std.specs.Prelude.{◌≡◌, map, option_map, IfOk};
 ghost use Rattle.register.specs.Offices.{candidate_entry};
-ghost use Rattle.desk.specs.Names.{name_of, names_of, name_in, names_told};
+ghost use Rattle.desk.specs.Names.{candidate_in, name_of, names_of, name_in, names_told};
 
 use paper::MAX_CANDIDATES;
 use register::Candidate;
@@ -17,16 +17,26 @@ pub(crate) struct Names<'a> {
     places: Vec<&'a str>,
 }
 
-/// The name of the candidate of a number; nothing where there is none.
-fn name_of<'a>(candidates: &'a [Candidate], number: u32) -> &'a str
-    ensures { result.now ≡ name_of (map candidate_entry candidates.now) number }
+/// The candidate of a number.
+pub(crate) fn candidate_in<'a>(candidates: &'a [Candidate], number: u32) -> Option<&'a Candidate>
+    ensures { option_map (λ c. candidate_entry c.now) result ≡ candidate_in (map candidate_entry candidates.now) number }
 {
     for candidate in candidates {
         if candidate.number == number {
-            return candidate.name.as_str();
+            return Some(candidate);
         }
     }
-    ""
+    None
+}
+
+/// The name of the candidate of a number; nothing where there is none.
+pub(crate) fn name_of<'a>(candidates: &'a [Candidate], number: u32) -> &'a str
+    ensures { result.now ≡ name_of (map candidate_entry candidates.now) number }
+{
+    match candidate_in(candidates, number) {
+        Some(candidate) => candidate.name.as_str(),
+        None => "",
+    }
 }
 
 impl<'a> Names<'a> {

@@ -7,6 +7,7 @@ ghost use Rattle.desk.specs.Requests.{advance_at, advances, id_at, keying_by, mo
 
 use crate::orders::KeyingFile;
 use keyfile::CandidateRow;
+use register::ranges::LAST_LOT_STAGE;
 use register::{CandidateCommand, Command, CountCommand, KeyingCommand, Request};
 use std::alloc::{AllocError, Global};
 
@@ -101,8 +102,12 @@ fn advance_at(alloc: Global, ward: u32, id: &str, number: usize) -> Result<Reque
     Ok(by_office(id, Command::Count(CountCommand::Advance { ward })))
 }
 
-/// The most requests of an order that counts: one more than a count can have stages.
-const MOST_ADVANCES: usize = 32;
+/// The highest stage that a count can have. At most 30 candidates stand, and each stage behind the first one transfers
+/// the papers of one of them, who is done with then. So that is the last stage for which a lot may be drawn.
+const LAST_STAGE: u32 = LAST_LOT_STAGE;
+
+/// The most requests of an order that counts: one more than that, which is refused.
+const MOST_ADVANCES: usize = LAST_STAGE as usize + 1;
 
 /// The requests that count the stages of a ward, from the first on, as many as an order may send.
 pub(crate) fn advances(alloc: Global, ward: u32, id: &str) -> Result<Vec<Request>, AllocError>

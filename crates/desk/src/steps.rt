@@ -1,6 +1,6 @@
 //! What comes next in the election of a ward, told in a line with its candidates' names.
 
-ghost use Rattle.std.specs.Prelude.{◌≡◌, ◌++◌, IfOk, map, option_map, string_bytes};
+ghost use Rattle.std.specs.Prelude.{◌≡◌, ◌++◌, IfOk, map, string_bytes};
 ghost use Rattle.sqlite.specs.Held.{state};
 ghost use Rattle.register.specs.Offices.{candidate_entry};
 ghost use Rattle.register.specs.Standings.{status_entry};
@@ -10,9 +10,10 @@ ghost use Rattle.office.specs.Reads.{next_told};
 ghost use Rattle.office.specs.Answers.{WhenOpenAt};
 ghost use Rattle.desk.specs.Parts.{IsFound};
 ghost use Rattle.desk.specs.Pages.{page_of, replied};
-ghost use Rattle.desk.specs.Steps.{action_words, all_named, candidate_in, due_words, lot_words, named, named_behind, nominations_words, papers_words, step_text, step_words};
+ghost use Rattle.desk.specs.Steps.{action_words, all_named, due_words, lot_words, named, named_behind, nominations_words, papers_words, seal_words, step_text, step_words, taken_words};
 
 use crate::lines::Outcome;
+use crate::names::candidate_in;
 use count::{Action, Due, TiedFor};
 use office::{Office, Stop};
 use paper::Columns;
@@ -23,24 +24,12 @@ use store::Fault;
 
 // ---- candidates
 
-/// The candidate of a number.
-fn candidate_in<'a>(candidates: &'a [Candidate], number: u8) -> Option<&'a Candidate>
-    ensures { option_map (λ c. candidate_entry c.now) result ≡ candidate_in (map candidate_entry candidates.now) number }
-{
-    for candidate in candidates {
-        if candidate.number == u32::from(number) {
-            return Some(candidate);
-        }
-    }
-    None
-}
-
 #[tactic(auto, unfolding(crate::specs::Steps::named))]
 /// A number, and the name of the candidate who has it: `3 Cy`.
 fn named(alloc: Global, candidates: &[Candidate], number: u8) -> Result<String, AllocError>
     ensures { IfOk result (λ text. string_bytes text ≡ named (map candidate_entry candidates.now) number) }
 {
-    match candidate_in(candidates, number) {
+    match candidate_in(candidates, u32::from(number)) {
         Some(candidate) => {
             let name = candidate.name.as_str();
             format!(in alloc; "{number} {name}")
@@ -157,16 +146,37 @@ fn nominations_words(alloc: Global, candidates: usize, seats: u32) -> Result<Str
     )
 }
 
+#[tactic(auto, unfolding(crate::specs::Steps::seal_words))]
+/// What the seal of a ward waits for: it is due once all batches are taken, and all their doubtful papers are judged.
+fn seal_words(status: &Status) -> &'static str
+    ensures { result.now ≡ seal_words (status_entry status.now) }
+{
+    if status.batches == 0 {
+        "no batch is given out yet"
+    } else if status.taken == status.batches && status.doubtful_open == 0 {
+        "the seal comes next"
+    } else {
+        "the seal comes once all are taken and judged"
+    }
+}
+
+#[tactic(auto, unfolding(crate::specs::Steps::taken_words))]
+/// How many batches of a ward are taken, and how many differ.
+fn taken_words(alloc: Global, status: &Status) -> Result<String, AllocError>
+    ensures { IfOk result (λ text. string_bytes text ≡ taken_words (status_entry status.now)) }
+{
+    let (taken, batches, differing) = (status.taken, status.batches, status.differing);
+    format!(in alloc; "{taken} of {batches} batches taken, {differing} differing")
+}
+
 #[tactic(auto, unfolding(crate::specs::Steps::papers_words))]
 /// How the papers of a ward stand, before its seal.
 fn papers_words(alloc: Global, status: &Status) -> Result<String, AllocError>
     ensures { IfOk result (λ text. string_bytes text ≡ papers_words (status_entry status.now)) }
 {
-    let (taken, batches) = (status.taken, status.batches);
-    let (differing, open) = (status.differing, status.doubtful_open);
-    format!(in alloc;
-        "{taken} of {batches} batches taken, {differing} differing, {open} doubtful open, the seal comes once all are taken and judged"
-    )
+    let taken = taken_words(alloc, status)?;
+    let (open, seal) = (status.doubtful_open, seal_words(status));
+    format!(in alloc; "{taken}, {open} doubtful open, {seal}")
 }
 
 #[tactic(auto, unfolding(crate::specs::Steps::step_words))]

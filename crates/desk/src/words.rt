@@ -5,10 +5,10 @@ ghost use Rattle.clap.specs.Words.{app_of, rule_of, subcommand_of, takes, with_r
 ghost use Rattle.clap.specs.declared.builder.command.Command.TheViews.{out-Command as fields_of};
 ghost use Rattle.desk.specs.Orders.{no_digest, no_origin, no_verdict, told, words_of};
 ghost use Rattle.desk.specs.Versions.{version_text};
-ghost use Rattle.desk.specs.Words.{IsOwnText, IsToldOf, TellsOwnText, TellsRefusal, meaning, status_of_kind, wrong_with};
+ghost use Rattle.desk.specs.Words.{IsNoneMeant, IsOwnText, IsToldOf, TellsOwnText, TellsRefusal, meaning, status_of_kind, wrong_with};
 ghost use Rattle.desk.specs.Words.{office_words, order_words, rule_of_kind, start_words, with_orders};
 
-use crate::matched::{NoOrder, entries, order_in};
+use crate::matched::{NoOrder, entries_from_seal, entries_to_seal, order_in};
 use crate::orders::Order;
 use crate::table::{Entry, Heading, Kind, MAX_CONNECTIONS, MAX_PORT, Word};
 use crate::version::{VERSION, version_text};
@@ -185,7 +185,8 @@ fn office_command<'a>(alloc: Global) -> Result<Command<'a>, AllocError>
     ensures app { IfOk result (λ c. app_of c ≡ office_words) }
     ensures local { IfOk result (λ c. (fields_of c).has_globals ≡ false) }
 {
-    with_orders(alloc, named(start_command(alloc))?, entries())
+    let command = with_orders(alloc, named(start_command(alloc))?, entries_to_seal())?;
+    with_orders(alloc, command, entries_from_seal())
 }
 
 /// The status that the program ends with where words ask for help or the version, or are not understood.
@@ -265,6 +266,7 @@ fn denied(alloc: Global, kind: ErrorKind, error: &Error) -> WordsFault
 pub fn order<'a>(alloc: Global, words: &'a [&'a str]) -> Result<Order<'a>, WordsFault>
     ensures accepts { IfOk result (λ _. wrong_with (map (λ s. s.now) words.entry.now) ≡ []) }
     ensures denies { IfErr result (IsToldOf (wrong_with (map (λ s. s.now) words.entry.now))) }
+    ensures none { IfErr result (IsNoneMeant (meaning (subcommand_of office_words (map (λ s. s.now) words.entry.now)))) }
     ensures version { wrong_with (map (λ s. s.now) words.entry.now) ≡ ErrorKind.DisplayVersion ∷ [] → IfErr result (TellsOwnText (Some version_text)) }
     ensures ok { IfOk result (λ o. meaning (subcommand_of office_words (map (λ s. s.now) words.entry.now)) ≡ Some (told o)) }
     ensures err { takes office_words (map (λ s. s.now) words.entry.now) ≡ true → IfErr result (λ e. (e ≡ WordsFault.Memory)

@@ -26,7 +26,8 @@ returns-in-Ok-clause-told g c =
       page = told.page;
       cut = told.cut;
       shown = told.shown;
-      is = λ clean db rests s left. (told.is clean (memory_is_clean c.journal_office-status.result.1)).in_office db rests s left (memory_is_blank c.in-Ok.blank c.in-Ok.ensures.empty);
+      is = λ clean. let is = told.is clean in
+          (λ db rests s left. is.in_office db rests s left (memory_is_blank c.in-Ok.blank c.in-Ok.ensures.empty) (memory_is_clean c.journal_office-status.result.1), is.elsewhere);
     }
 
 -- no memory for it: that is told, as far as the error output takes it
@@ -34,4 +35,4 @@ pub returns-in-Err-clause-told : goal.returns-in-Err-clause-told
 returns-in-Err-clause-told g c =
     let page = failed (Office Memory) in
     let told = error_shown g.O.Sink.taken g.O.Sink.failed g.E.Sink.taken g.E.Sink.failed c.args.out.now c.args.err.now c.tell_failure-status.new.err page c.tell_failure-status.result refl c.tell_failure-status.ensures in
-    record { page = page; cut = told.0; shown = told.1; is = λ clean db rests s left. inr (inr (Memory, refl, inl refl)) }
+    record { page = page; cut = told.0; shown = told.1; is = λ clean. (λ db rests s left. inr (inr (Memory, refl, inl refl)), λ db ours rests none. (Memory, refl, (tt, λ store. absurd (cc store)))) }

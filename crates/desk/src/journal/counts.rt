@@ -3,12 +3,12 @@
 ghost use Rattle.register.specs.Offices.{MapsRise};
 ghost use Rattle.rowcheck.specs.States.{state_of};
 
-use crate::journal::nominations::name_of;
 use crate::journal::receipts::Kept;
 use crate::journal::words::{put_comment, put_heading, put_order};
+use crate::names::name_of;
 use register::ranges::LAST_LOT_STAGE;
 use register::{DrawnLot, Receipt, Ward};
-use rowcheck::finding::lots_of;
+use rowcheck::finding::{candidates_of, lots_of};
 use std::alloc::{AllocError, Global};
 
 /// Puts an order below what it was replied, since its words say nothing of that; nothing where there is no receipt.
@@ -30,7 +30,7 @@ fn put_lot(
     requires { MapsRise (state_of kept.now.rows.now) }
 {
     let (ward, stage, candidate) = (lot.ward, lot.stage, lot.candidate);
-    let name = name_of(kept, ward, candidate);
+    let name = name_of(candidates_of(kept.rows, ward), candidate);
     let says = format!(in alloc; "the lot names candidate {candidate}, {name}")?;
     put_comment(text, says.as_str())?;
     let subject = format!(in alloc; "lot {ward} {stage}")?;

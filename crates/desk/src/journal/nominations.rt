@@ -5,22 +5,11 @@ ghost use Rattle.rowcheck.specs.States.{state_of};
 
 use crate::journal::receipts::Kept;
 use crate::journal::words::{put_heading, put_named, put_order};
+use crate::names::name_of;
 use register::Ward;
 use register::ranges::LAST_CANDIDATE;
 use rowcheck::finding::candidates_of;
 use std::alloc::{AllocError, Global};
-
-/// The name of the candidate who has this number in a ward; the empty text, where none has it.
-pub(crate) fn name_of<'a>(kept: &Kept<'a>, ward: u32, number: u32) -> &'a str
-    requires { MapsRise (state_of kept.now.rows.now) }
-{
-    for candidate in candidates_of(kept.rows, ward) {
-        if candidate.number == number {
-            return candidate.name.as_str();
-        }
-    }
-    ""
-}
 
 /// Puts each adding of a candidate under a number, and its withdrawal, if it was withdrawn. No table keeps the name of
 /// a candidate who is withdrawn: another one stands for it.
@@ -40,7 +29,7 @@ fn put_candidate(
         let gone = kept.numbered(withdrawal.as_str(), time);
         let name = match gone {
             Some(_) => withdrawn.as_str(),
-            None => name_of(kept, ward, number),
+            None => name_of(candidates_of(kept.rows, ward), number),
         };
         let added = kept.numbered(adding.as_str(), time);
         put_named(text, adding.as_str(), name, added)?;

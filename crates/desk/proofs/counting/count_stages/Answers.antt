@@ -24,24 +24,24 @@ loop-request-preserved g c =
     let i = c.loop-request.request-index in
     let within : i < length rs = omega arith in
     let so_far = c.loop-request.invariant.so_far in
-    let page = page_of c.stage_of-more.result.0 in
+    let page = page_of c.stage_of-outcome.result.0 in
     let told = c.tell-status.ensures in
     let zero : c.tell-status.result ≡ 0 = c.if-status-ne0.false in
     let fine = shown_zero told.0 _ _ (fronted line page) c.tell-status.result told.1 zero in
     let first = state g.S.Store c.args.office.now.held in
     let mid = state g.S.Store c.loop-request.office.held in
-    let next = state g.S.Store c.stage_of-more.new.office.held in
-    let closed = c.stage_of-more.new.office.closed in
+    let next = state g.S.Store c.stage_of-outcome.new.office.held in
+    let closed = c.stage_of-outcome.new.office.closed in
     record {
-      wears = wears_then first mid next c.stage_of-more.ensures.clean c.loop-request.invariant.wears c.stage_of-more.ensures.wears;
-      clean = λ clean. c.loop-request.invariant.clean (c.stage_of-more.ensures.clean clean);
+      wears = wears_then first mid next c.stage_of-outcome.ensures.clean c.loop-request.invariant.wears c.stage_of-outcome.ensures.wears;
+      clean = λ clean. c.loop-request.invariant.clean (c.stage_of-outcome.ensures.clean clean);
       so_far = record {
         said = below so_far.said (fronted line page);
         shown = rw zero at (whole_more _ _ _ so_far.said (fronted line page) 0 c.tell-status.result so_far.shown
             (shown_whole false told.0 _ _ (fronted line page) c.tell-status.result told.1 (goes_after_zero false c.tell-status.result zero)));
         is = λ clean is_open s at keep ward id are.
-            let so = so_far.is (c.stage_of-more.ensures.clean clean) is_open s at keep ward id are in
-            let it = c.stage_of-more.ensures.told clean so.open_at.is_open so.end so.open_at.at in
+            let so = so_far.is (c.stage_of-outcome.ensures.clean clean) is_open s at keep ward id are in
+            let it = c.stage_of-outcome.ensures.told clean so.open_at.is_open so.end so.open_at.at in
             let known_is = rw (c.as_str.ensures.value, c.first_id-first.ensures ward id are) at c.eq-is_first.ensures in
             stage_more first keep line s ward id rs mid i c.request-item.result so_far.said c.loop-request.office.closed mid page closed next within c.request-item.is so c.eq-is_first.result known_is
             (subst (IsStage mid closed next c.eq-is_first.result so.end c.request-item.result page) c.if-not-more.false it) (sym (fronted_status line page) ∙ fine.1);
@@ -56,31 +56,31 @@ returns-then-status-ne0-clause-counted g c =
     let i = c.loop-request.request-index in
     let within : i < length rs = omega arith in
     let so_far = c.loop-request.invariant.so_far in
-    let page = page_of c.stage_of-more.result.0 in
+    let page = page_of c.stage_of-outcome.result.0 in
     let told = c.tell-status.ensures in
     let other : c.tell-status.result ≢ 0 = c.if-status-ne0.true in
     let first = state g.S.Store c.args.office.now.held in
     let mid = state g.S.Store c.loop-request.office.held in
-    let next = state g.S.Store c.stage_of-more.new.office.held in
-    let closed = c.stage_of-more.new.office.closed in
+    let next = state g.S.Store c.stage_of-outcome.new.office.held in
+    let closed = c.stage_of-outcome.new.office.closed in
     record {
       page = below so_far.said (fronted line page);
       cut = cut_below so_far.said.out told.0;
       shown = shown_last told.0 _ _ _ so_far.said (fronted line page) 0 c.tell-status.result so_far.shown told.1 other;
       is = λ clean is_open s at keep ward id are.
-          let honest = c.stage_of-more.ensures.clean clean in
+          let honest = c.stage_of-outcome.ensures.clean clean in
           let so = so_far.is honest is_open s at keep ward id are in
-          let tells = since first mid next honest c.loop-request.invariant.wears c.stage_of-more.ensures.wears in
+          let tells = since first mid next honest c.loop-request.invariant.wears c.stage_of-outcome.ensures.wears in
           let known_is = rw (c.as_str.ensures.value, c.first_id-first.ensures ward id are) at c.eq-is_first.ensures in
-          let it = stage_since first mid closed next c.eq-is_first.result so.end c.request-item.result page c.stage_of-more.result.1 tells (c.stage_of-more.ensures.told clean so.open_at.is_open so.end so.open_at.at) in
-          let counted = stage_last first keep line s ward id rs i c.request-item.result so_far.said c.loop-request.office.closed mid page told.0 c.stage_of-more.result.1 closed next within c.request-item.is so c.eq-is_first.result known_is it
+          let it = stage_since first mid closed next c.eq-is_first.result so.end c.request-item.result page c.stage_of-outcome.result.1 tells (c.stage_of-outcome.ensures.told clean so.open_at.is_open so.end so.open_at.at) in
+          let counted = stage_last first keep line s ward id rs i c.request-item.result so_far.said c.loop-request.office.closed mid page told.0 c.stage_of-outcome.result.1 closed next within c.request-item.is so c.eq-is_first.result known_is it
           (λ yes zero. shown_else told.0 _ _ (fronted line page) c.tell-status.result told.1 other (fronted_status line page ∙ zero)) in
           (_, _, counted.2);
     }
 
 pub returns-then-status-ne0-clause-wears : goal.returns-then-status-ne0-clause-wears
-returns-then-status-ne0-clause-wears g c = wears_then (state g.S.Store c.args.office.now.held) (state g.S.Store c.loop-request.office.held) (state g.S.Store c.stage_of-more.new.office.held) c.stage_of-more.ensures.clean c.loop-request.invariant.wears
-    c.stage_of-more.ensures.wears
+returns-then-status-ne0-clause-wears g c = wears_then (state g.S.Store c.args.office.now.held) (state g.S.Store c.loop-request.office.held) (state g.S.Store c.stage_of-outcome.new.office.held) c.stage_of-outcome.ensures.clean c.loop-request.invariant.wears
+    c.stage_of-outcome.ensures.wears
 
 -- the count rests, which was told whole
 pub returns-then-not-more-clause-counted : goal.returns-then-not-more-clause-counted
@@ -90,33 +90,33 @@ returns-then-not-more-clause-counted g c =
     let i = c.loop-request.request-index in
     let within : i < length rs = omega arith in
     let so_far = c.loop-request.invariant.so_far in
-    let page = page_of c.stage_of-more.result.0 in
+    let page = page_of c.stage_of-outcome.result.0 in
     let told = c.tell-status.ensures in
     let zero : c.tell-status.result ≡ 0 = c.if-status-ne0.false in
     let fine = shown_zero told.0 _ _ (fronted line page) c.tell-status.result told.1 zero in
     let first = state g.S.Store c.args.office.now.held in
     let mid = state g.S.Store c.loop-request.office.held in
-    let next = state g.S.Store c.stage_of-more.new.office.held in
-    let closed = c.stage_of-more.new.office.closed in
+    let next = state g.S.Store c.stage_of-outcome.new.office.held in
+    let closed = c.stage_of-outcome.new.office.closed in
     record {
       page = below so_far.said (fronted line page);
       cut = cut_below so_far.said.out told.0;
       shown = rw fine.0 (rw zero at (whole_more _ _ _ so_far.said (fronted line page) 0 c.tell-status.result so_far.shown
           (shown_whole false told.0 _ _ (fronted line page) c.tell-status.result told.1 (goes_after_zero false c.tell-status.result zero))));
       is = λ clean is_open s at keep ward id are.
-          let honest = c.stage_of-more.ensures.clean clean in
+          let honest = c.stage_of-outcome.ensures.clean clean in
           let so = so_far.is honest is_open s at keep ward id are in
-          let tells = since first mid next honest c.loop-request.invariant.wears c.stage_of-more.ensures.wears in
+          let tells = since first mid next honest c.loop-request.invariant.wears c.stage_of-outcome.ensures.wears in
           let known_is = rw (c.as_str.ensures.value, c.first_id-first.ensures ward id are) at c.eq-is_first.ensures in
-          let it = stage_since first mid closed next c.eq-is_first.result so.end c.request-item.result page c.stage_of-more.result.1 tells (c.stage_of-more.ensures.told clean so.open_at.is_open so.end so.open_at.at) in
-          let counted = stage_last first keep line s ward id rs i c.request-item.result so_far.said c.loop-request.office.closed mid page told.0 c.stage_of-more.result.1 closed next within c.request-item.is so c.eq-is_first.result known_is it
+          let it = stage_since first mid closed next c.eq-is_first.result so.end c.request-item.result page c.stage_of-outcome.result.1 tells (c.stage_of-outcome.ensures.told clean so.open_at.is_open so.end so.open_at.at) in
+          let counted = stage_last first keep line s ward id rs i c.request-item.result so_far.said c.loop-request.office.closed mid page told.0 c.stage_of-outcome.result.1 closed next within c.request-item.is so c.eq-is_first.result known_is it
           (λ yes none. absurd (true≢false (sym yes ∙ c.if-not-more.true))) in
           (_, _, counted.2);
     }
 
 pub returns-then-not-more-clause-wears : goal.returns-then-not-more-clause-wears
-returns-then-not-more-clause-wears g c = wears_then (state g.S.Store c.args.office.now.held) (state g.S.Store c.loop-request.office.held) (state g.S.Store c.stage_of-more.new.office.held) c.stage_of-more.ensures.clean c.loop-request.invariant.wears
-    c.stage_of-more.ensures.wears
+returns-then-not-more-clause-wears g c = wears_then (state g.S.Store c.args.office.now.held) (state g.S.Store c.loop-request.office.held) (state g.S.Store c.stage_of-outcome.new.office.held) c.stage_of-outcome.ensures.clean c.loop-request.invariant.wears
+    c.stage_of-outcome.ensures.wears
 
 pub returns-clause-counted : goal.returns-clause-counted
 returns-clause-counted g c =

@@ -9,5 +9,5 @@ returns-clause-journalled g c =
       page = page_of c.journalled-outcome.result.0;
       cut = told.0;
       shown = told.1;
-      is = λ clean also. c.journalled-outcome.ensures.told clean also;
+      is = λ clean. c.journalled-outcome.ensures.told clean;
     }

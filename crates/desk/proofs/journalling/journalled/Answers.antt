@@ -14,11 +14,11 @@ pub journal_of-requires : goal.journal_of-requires
 journal_of-requires g c = c.in-Ok.ensures.is.rise
 
 pub returns-in-Ok-clause-told : goal.returns-in-Ok-clause-told
-returns-in-Ok-clause-told g c clean also =
+returns-in-Ok-clause-told g c clean =
     let old = state g.S.Store c.args.conn.now in
     let new = state g.S.Store c.rows.new.conn in
     record {
-      in_office = λ db rests s left blank.
+      in_office = λ db rests s left blank also.
           subst (λ (x : OfficeState). IsJournalTold x (page_of c.journal_of.result.0)) (c.in-Ok.ensures.left clean db rests s left) (c.journal_of.ensures also blank);
       elsewhere = λ db ours rests none. absurd (none (state_of c.in-Ok.rows) (c.in-Ok.ensures.found clean db ours rests));
       reads = c.rows.ensures.reads;
@@ -27,13 +27,13 @@ returns-in-Ok-clause-told g c clean also =
     }
 
 pub returns-in-Err-clause-told : goal.returns-in-Err-clause-told
-returns-in-Err-clause-told g c clean also =
+returns-in-Err-clause-told g c clean =
     let old = state g.S.Store c.args.conn.now in
     let new = state g.S.Store c.rows.new.conn in
     record {
-      in_office = λ db rests s left blank.
+      in_office = λ db rests s left blank also.
           inr (inr (c.in-Err.fault, refl, elim (c.in-Err.ensures.cause clean db rests s left) [ inl memory ↦ inl memory | inr store ↦ inr store.0 ]));
-      elsewhere = λ db ours rests none. (c.in-Err.fault, refl, c.in-Err.ensures.told clean db ours rests, c.in-Err.ensures.fails clean db ours rests);
+      elsewhere = λ db ours rests none. (c.in-Err.fault, refl, (c.in-Err.ensures.told clean db ours rests, c.in-Err.ensures.fails clean db ours rests));
       reads = c.rows.ensures.reads;
       leaves = λ db rests earlier left.
           read_leaves (after empty_office earlier) db old new (λ trees is_open may. g.met.S.Store.settled c.args.conn.now.store trees is_open may) c.rows.ensures.reads clean rests left;

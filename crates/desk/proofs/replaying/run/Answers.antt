@@ -36,8 +36,8 @@ returns-in-Ok-clause-ran g c =
           (it.0, it.1, (_, c.opened-file.ensures, rw c.in-ImportCandidates.is (inl (c.in-Ok.requests.items, c.in-Ok.ensures.rows, rw c.deref.ensures.value at it.2))));
     }
 
-pub returns-in-Err-clause-ran : goal.returns-in-Err-clause-ran
-returns-in-Err-clause-ran g c =
+pub returns-in-ImportCandidates-clause-ran : goal.returns-in-ImportCandidates-clause-ran
+returns-in-ImportCandidates-clause-ran g c =
     let told = c.tell.ensures in
     let page = page_of c.in-Err.outcome in
     let st = state g.S.Store c.args.office.now.held in
@@ -78,8 +78,8 @@ returns-in-Ok-keying_of-clause-ran g c =
           (it.0, it.1, (_, c.opened-file.ensures, rw c.in-ImportKeying.is (inl (c.in-Ok-keying_of.request ∷ [], read.0, sent))));
     }
 
-pub returns-in-Err-keying_of-clause-ran : goal.returns-in-Err-keying_of-clause-ran
-returns-in-Err-keying_of-clause-ran g c =
+pub returns-in-ImportKeying-clause-ran : goal.returns-in-ImportKeying-clause-ran
+returns-in-ImportKeying-clause-ran g c =
     let told = c.tell-in-Err-keying_of.ensures in
     let page = page_of c.in-Err-keying_of.outcome in
     record {
@@ -110,8 +110,8 @@ returns-in-Ok-advances-clause-ran g c =
           (it.0, it.1, (_, c.opened-file.ensures, rw c.in-Count.is (inl it.2)));
     }
 
-pub returns-in-Err-advances-clause-ran : goal.returns-in-Err-advances-clause-ran
-returns-in-Err-advances-clause-ran g c =
+pub returns-in-Count-clause-ran : goal.returns-in-Count-clause-ran
+returns-in-Count-clause-ran g c =
     let told = c.tell-in-Err-advances.ensures in
     let st = state g.S.Store c.args.office.now.held in
     let page = failed (Office Memory) in
@@ -208,8 +208,8 @@ returns-in-PrintIndex-clause-ran g c =
       );
     }
 
-pub returns-in-Ask-clause-ran : goal.returns-in-Ask-clause-ran
-returns-in-Ask-clause-ran g c =
+pub returns-clause-ran : goal.returns-clause-ran
+returns-clause-ran g c =
     let told = c.tell-in-Ask.ensures in
     record {
       page = fronted c.args.line (page_of c.answer_to.result);

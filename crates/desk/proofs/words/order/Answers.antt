@@ -3,7 +3,7 @@ use Rattle.std.proofs.lemmas.Bool.{false≢true}
 use Rattle.clap.specs.Words.{kind_of}
 use Rattle.desk.specs.Words.{meaning}
 use Rattle.desk.proofs.OrdersNamed.{matches_are_the_words, matches_name_an_order}
-use Rattle.desk.proofs.WordsRefused.{refusal_told, refused_is_wrong, none_asked, taken_is_right, version_asked}
+use Rattle.desk.proofs.WordsRefused.{refusal_means_no_none, refusal_told, refused_is_wrong, none_asked, taken_is_right, version_asked}
 use Rattle.desk.proofs.words.order.Goals as goal
 
 pub returns-in-Err-try_get_matches_from-clause-version : goal.returns-in-Err-try_get_matches_from-clause-version
@@ -18,6 +18,10 @@ returns-in-Err-try_get_matches_from-clause-denies c =
     let parse = c.in-Err-try_get_matches_from in
     refusal_told (kind_of parse.error) c.kind.result _ c.denied.result c.kind.ensures c.denied.ensures.told
     (refused_is_wrong c.in-Ok.command (map (λ s. s.now) c.args.words.now) parse.error c.in-Ok.ensures.app parse.ensures.kinds)
+
+-- what `clap` refuses is told by its own text
+pub returns-in-Err-try_get_matches_from-clause-none : goal.returns-in-Err-try_get_matches_from-clause-none
+returns-in-Err-try_get_matches_from-clause-none c = refusal_means_no_none c.kind.result _ c.denied.result c.denied.ensures.told
 
 pub returns-in-Ok-order_in-clause-accepts : goal.returns-in-Ok-order_in-clause-accepts
 returns-in-Ok-order_in-clause-accepts c = taken_is_right c.in-Ok.command (map (λ s. s.now) c.args.words.now) c.in-Ok.ensures.app c.in-Ok-try_get_matches_from.ensures.kinds
@@ -83,3 +87,21 @@ returns-in-Err-BadDigest-clause-version c =
 
 pub returns-clause-version : goal.returns-clause-version
 returns-clause-version c = λ asked. absurd (none_asked _ (taken_is_right c.in-Ok.command (map (λ s. s.now) c.args.words.now) c.in-Ok.ensures.app c.in-Ok-try_get_matches_from.ensures.kinds) asked)
+
+pub returns-in-Err-BadVerdict-clause-none : goal.returns-in-Err-BadVerdict-clause-none
+returns-in-Err-BadVerdict-clause-none c =
+    let parse = c.in-Ok-try_get_matches_from in
+    let same = matches_are_the_words c.in-Ok.command parse.matches (map (λ s. s.now) c.args.words.now) c.in-Ok.ensures.app parse.ensures.matches in
+    ap meaning (sym same) ∙ c.in-Err-BadVerdict.ensures.bad (ap Err c.in-Err-BadVerdict.field-0-is)
+
+pub returns-in-Err-BadOrigin-clause-none : goal.returns-in-Err-BadOrigin-clause-none
+returns-in-Err-BadOrigin-clause-none c =
+    let parse = c.in-Ok-try_get_matches_from in
+    let same = matches_are_the_words c.in-Ok.command parse.matches (map (λ s. s.now) c.args.words.now) c.in-Ok.ensures.app parse.ensures.matches in
+    ap meaning (sym same) ∙ c.in-Err-BadOrigin.ensures.bad_origin (ap Err c.in-Err-BadOrigin.field-0-is)
+
+pub returns-in-Err-BadDigest-clause-none : goal.returns-in-Err-BadDigest-clause-none
+returns-in-Err-BadDigest-clause-none c =
+    let parse = c.in-Ok-try_get_matches_from in
+    let same = matches_are_the_words c.in-Ok.command parse.matches (map (λ s. s.now) c.args.words.now) c.in-Ok.ensures.app parse.ensures.matches in
+    ap meaning (sym same) ∙ c.in-Err-BadDigest.ensures.bad_digest (ap Err c.in-Err-BadDigest.field-0-is)
