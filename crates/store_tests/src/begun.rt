@@ -1,6 +1,6 @@
 //! How far offices have come that tests go on with, and what clients send to them.
 
-use super::disks::Act;
+use super::machine::Act;
 
 /// Ward 7 with three candidates and two seats.
 pub const NOMINATED: &str = "$ init

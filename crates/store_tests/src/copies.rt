@@ -1,7 +1,8 @@
 //! A copy of the office in other files: nothing or the whole of it, whenever its own files stop.
 
 use super::begun::{DIFFERING, GIVEN_OUT, NOMINATED};
-use super::disks::{Act, Disks, File, are_same, play_acts};
+use super::disks::Disks;
+use super::machine::{Act, File, Machine, are_same, hear_unchanged, lasting, play_acts, rows};
 use super::steps::{Case, Step};
 use std::process::Abort;
 use std::test::Fail;
@@ -27,12 +28,12 @@ const NOTHING: Case<'static> = (
 
 /// Copies an office onto files that may stop, and judges what is found of the copy: the whole, or nothing where it wasn't
 /// answered. Tells whether it was.
-fn copy_once(
+fn copy_once<M: Machine + Drop>(
     rt: &(impl Abort + AllocGlobal),
-    office: Disks,
-    onto: Disks,
+    office: M,
+    onto: M,
     whole: &str,
-) -> Result<(bool, Disks), Fail> {
+) -> Result<(bool, M), Fail> {
     let (said, office, copy) = office.copy_onto(rt.alloc(), onto)?;
     let is_told = match &said {
         Some(said) if said.is_done() => true,
@@ -42,9 +43,9 @@ fn copy_once(
         }
         None => false,
     };
-    let (found, copy) = copy.restarted().rows(rt.alloc())?;
+    let (found, copy) = rows(rt.alloc(), copy.restarted())?;
     if found.as_str().is_empty() {
-        copy.hear_unchanged(rt, &[NOTHING])?;
+        hear_unchanged(rt, copy, &[NOTHING])?;
     }
     let is_none = !is_told && found.as_str().is_empty();
     assert!(rt;
@@ -55,15 +56,15 @@ fn copy_once(
 }
 
 /// Stops a copy at each call of one of its files, until a run meets no stop. The office stays as it is.
-fn copy_each(rt: &(impl Abort + AllocGlobal), file: File) -> Result<(), Fail> {
-    let office = play_acts(rt, &OFFICE)?;
-    let (whole, mut office) = office.rows(rt.alloc())?;
+fn copy_each<M: Machine + Drop>(rt: &(impl Abort + AllocGlobal), file: File) -> Result<(), Fail> {
+    let (whole, mut office): (String, M) = rows(rt.alloc(), play_acts(rt, &OFFICE)?)?;
+    let blank: M = lasting(rt.alloc());
     for calls in 0..CALLS {
-        let onto = Disks::lasting(rt.alloc()).copied(rt.alloc(), file, calls)?;
+        let onto = blank.copied(rt.alloc(), file, calls)?;
         let (is_told, back) = copy_once(rt, office, onto, whole.as_str())?;
         office = back;
         if is_told {
-            let (left, _) = office.rows(rt.alloc())?;
+            let (left, _) = rows(rt.alloc(), office)?;
             assert_eq!(rt; left.as_str(), whole.as_str());
             return Ok(());
         }
@@ -73,6 +74,6 @@ fn copy_each(rt: &(impl Abort + AllocGlobal), file: File) -> Result<(), Fail> {
 
 #[test]
 fn a_copy_stops_whole(rt: HostRuntime) -> Result<(), Fail> {
-    copy_each(&rt, File::Log)?;
-    copy_each(&rt, File::Database)
+    copy_each::<Disks>(&rt, File::Log)?;
+    copy_each::<Disks>(&rt, File::Database)
 }

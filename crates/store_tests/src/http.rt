@@ -2,7 +2,8 @@
 
 use super::begun::{BEGUN, KEYED, KEYING};
 use super::clients::Client;
-use super::disks::{Disks, play_acts};
+use super::disks::Disks;
+use super::machine::{Machine, hear, hear_unchanged, play_acts};
 use super::steps::Step;
 use office::texts_are_there;
 use register::elections::elections_are_fair;
@@ -17,7 +18,10 @@ const NO_CLERK: &str = "refused 3: number out of range\n";
 
 /// Connections break at each byte of the request, of which nothing is kept; and at each byte of the answer, which
 /// the first of those clients is told of his keying, and the others again.
-fn breaks_at_each_byte(rt: &(impl Abort + AllocGlobal), disks: Disks) -> Result<Disks, Fail> {
+fn breaks_at_each_byte<M: Machine + Drop>(
+    rt: &(impl Abort + AllocGlobal),
+    machine: M,
+) -> Result<M, Fail> {
     let keying = Client::whole(KEYING.as_bytes());
     let mut unheard = Vec::new(rt.alloc());
     for heard in 0..KEYING.len() {
@@ -33,19 +37,21 @@ fn breaks_at_each_byte(rt: &(impl Abort + AllocGlobal), disks: Disks) -> Result<
     let answers = u32::try_from(untold.len())?;
     let unheard = (Step::Serve(&unheard, requests), (0, "", "Ok(())"));
     let untold = (Step::Serve(&untold, answers), (0, page.as_str(), "Ok(())"));
-    disks.hear_unchanged(rt, &[unheard])?.hear(rt, &[untold])
+    let machine = hear_unchanged(rt, machine, &[unheard])?;
+    hear(rt, machine, &[untold])
 }
 
-#[test]
-fn clients_break_or_are_not_let_in(rt: HostRuntime) -> Result<(), Fail> {
-    texts_are_there();
-    elections_are_fair();
-    breaks_at_each_byte(&rt, play_acts(&rt, BEGUN)?)?;
+/// Clients aren't let in, behind others and before them.
+fn some_are_not_let_in<M: Machine + Drop>(
+    rt: &(impl Abort + AllocGlobal),
+    machine: M,
+) -> Result<(), Fail> {
     let keying = Some(Client::whole(KEYING.as_bytes()));
     let (nobody, one) = ([], [keying]);
     let (late, between) = ([None, keying], [keying, None, keying]);
-    let disks = play_acts(&rt, BEGUN)?.hear_unchanged(
-        &rt,
+    let machine = hear_unchanged(
+        rt,
+        machine,
         &[
             // A client fewer, one who can't be let in, and none that is wanted.
             (Step::Serve(&nobody, 1), (0, "", "Err(Output)")),
@@ -54,8 +60,9 @@ fn clients_break_or_are_not_let_in(rt: HostRuntime) -> Result<(), Fail> {
         ],
     )?;
     // What was answered before such a one stands.
-    let disks = disks.hear(
-        &rt,
+    let machine = hear(
+        rt,
+        machine,
         &[
             (Step::Serve(&between, 3), (0, KEYED, "Err(Output)")),
             (Step::Work(4), (0, FOUR_KEYED, "")),
@@ -63,6 +70,24 @@ fn clients_break_or_are_not_let_in(rt: HostRuntime) -> Result<(), Fail> {
             (Step::Work(u32::MAX), (0, NO_CLERK, "")),
         ],
     )?;
-    disks.hear_unchanged(&rt, &[(Step::Serve(&one, 2), (0, KEYED, "Err(Output)"))])?;
+    hear_unchanged(
+        rt,
+        machine,
+        &[(Step::Serve(&one, 2), (0, KEYED, "Err(Output)"))],
+    )?;
     Ok(())
+}
+
+fn break_or_are_not_let_in<M: Machine + Drop>(rt: &(impl Abort + AllocGlobal)) -> Result<(), Fail> {
+    let machine: M = play_acts(rt, BEGUN)?;
+    breaks_at_each_byte(rt, machine)?;
+    let machine: M = play_acts(rt, BEGUN)?;
+    some_are_not_let_in(rt, machine)
+}
+
+#[test]
+fn clients_break_or_are_not_let_in(rt: HostRuntime) -> Result<(), Fail> {
+    texts_are_there();
+    elections_are_fair();
+    break_or_are_not_let_in::<Disks>(&rt)
 }

@@ -12,6 +12,9 @@ mod steps;
 // What is typed and told, as a text.
 #[cfg(test)]
 mod transcripts;
+// What is done with an office on any machine.
+#[cfg(test)]
+mod machine;
 // The one store of these tests.
 #[cfg(test)]
 mod disks;

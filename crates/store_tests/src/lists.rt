@@ -1,9 +1,11 @@
 //! A list of requests, handed to an office at once.
 
 use super::disks::Disks;
+use super::machine::{Machine, hear, lasting};
 use super::steps::Step;
 use register::{Command, Request, WardCommand};
 use std::alloc::{AllocError, Global};
+use std::process::Abort;
 use std::test::Fail;
 
 /// What comes from an actor under an id.
@@ -36,8 +38,7 @@ refused 12: no candidates
 const STATUS: &str =
     "ward 7 nominations: 0 candidates, 0 batches, 0 taken, 0 differing, 0 doubtful open, 0 stages\n";
 
-#[test]
-fn a_list_is_answered_in_turn(rt: HostRuntime) -> Result<(), Fail> {
+fn is_answered_in_turn<M: Machine + Drop>(rt: &(impl Abort + AllocGlobal)) -> Result<(), Fail> {
     let alloc = rt.alloc();
     let requests = vec![in alloc;
         asked(alloc, 0, "w1", harbour(alloc)?)?,
@@ -50,6 +51,12 @@ fn a_list_is_answered_in_turn(rt: HostRuntime) -> Result<(), Fail> {
         (Step::List(requests.as_slice()), (0, ANSWERS, "")),
         (Step::Order(&["DB", "status", "7"]), (0, STATUS, "")),
     ];
-    Disks::lasting(alloc).hear(&rt, &cases)?;
+    let machine: M = lasting(alloc);
+    hear(rt, machine, &cases)?;
     Ok(())
+}
+
+#[test]
+fn a_list_is_answered_in_turn(rt: HostRuntime) -> Result<(), Fail> {
+    is_answered_in_turn::<Disks>(&rt)
 }

@@ -3,7 +3,8 @@
 use super::begun::{
     DIFFERING, FOUR_COMES_LATE, GIVEN_OUT, NOMINATED, PAPER_BY_PAPER, SEALED, SET, TWO_STAGES,
 };
-use super::disks::{Act, Disks, play_acts};
+use super::disks::Disks;
+use super::machine::{Act, Machine, do_act, follow, hear, play_acts};
 use super::steps::{Said, Step};
 use sqlite::{Alter, Connection};
 use std::alloc::Global;
@@ -130,49 +131,63 @@ const LATE: &[Act] = &[
 ];
 
 /// Hears what is read of ward 7, before it is sealed and after: the papers are walked in another way then.
-fn read_twice(
+fn read_twice<M: Machine + Drop>(
     rt: &(impl Abort + AllocGlobal),
-    disks: Disks,
+    machine: M,
     seal: &str,
     told: &str,
 ) -> Result<(), Fail> {
     let read = [(Step::Loads(7), (0, told, ""))];
-    disks.hear(rt, &read)?.follow(rt, seal)?.hear(rt, &read)?;
+    let machine = hear(rt, machine, &read)?;
+    let machine = follow(rt, machine, seal)?;
+    hear(rt, machine, &read)?;
     Ok(())
 }
 
 /// Both clerks of both batches key the same list on each paper.
-fn thousand_papers(rt: &(impl Abort + AllocGlobal)) -> Result<Disks, Fail> {
+fn thousand_papers<M: Machine + Drop>(rt: &(impl Abort + AllocGlobal)) -> Result<M, Fail> {
     let mut rows = String::from_str(rt.alloc(), "< paper,1,2,3\n")?;
     for paper in 1..=500 {
         writeln!(rows, "< {paper},1,2,")?;
     }
-    let mut disks = play_acts(rt, &[Act::Typed(NOMINATED), Act::Typed(TWO_BATCHES)])?;
+    let mut machine: M = play_acts(rt, &[Act::Typed(NOMINATED), Act::Typed(TWO_BATCHES)])?;
     for (clerk, batch) in [(4, 12), (9, 12), (4, 13), (9, 13)] {
         let keyed = format!(in rt.alloc();
             "$ import-keying {clerk} {batch} 1 FILE --id k{batch}\n{rows}batch {batch} round 1 keyed\n"
         )?;
-        disks = disks.follow(rt, keyed.as_str())?;
+        machine = follow(rt, machine, keyed.as_str())?;
     }
-    Ok(disks)
+    Ok(machine)
+}
+
+/// Hears what is read of the worked ward before its first stage, and after its second.
+fn read_in_count<M: Machine + Drop>(rt: &(impl Abort + AllocGlobal)) -> Result<(), Fail> {
+    let machine: M = play_acts(rt, SEALED)?;
+    let machine = hear(rt, machine, &[(Step::Loads(7), (0, SEALED_LOADS, ""))])?;
+    let machine = do_act(rt, machine, &TWO_STAGES)?;
+    hear(rt, machine, &[(Step::Loads(7), (0, STAGED_LOADS, ""))])?;
+    Ok(())
+}
+
+fn are_read_back<M: Machine + Drop>(rt: &(impl Abort + AllocGlobal)) -> Result<(), Fail> {
+    read_in_count::<M>(rt)?;
+    let late: M = play_acts(rt, LATE)?;
+    read_twice(
+        rt,
+        late,
+        "$ seal 7 --id s1\nward 7 sealed: 2 valid, 0 rejected, quota 1.00000\n",
+        LATE_LOADS,
+    )?;
+    let equal: M = thousand_papers(rt)?;
+    read_twice(
+        rt,
+        equal,
+        "$ seal 7 --id s1\nward 7 sealed: 1000 valid, 0 rejected, quota 334.00000\n",
+        EQUAL_LOADS,
+    )
 }
 
 #[test]
 fn papers_and_counts_are_read_back(rt: HostRuntime) -> Result<(), Fail> {
-    play_acts(&rt, SEALED)?
-        .hear(&rt, &[(Step::Loads(7), (0, SEALED_LOADS, ""))])?
-        .act(&rt, &TWO_STAGES)?
-        .hear(&rt, &[(Step::Loads(7), (0, STAGED_LOADS, ""))])?;
-    read_twice(
-        &rt,
-        play_acts(&rt, LATE)?,
-        "$ seal 7 --id s1\nward 7 sealed: 2 valid, 0 rejected, quota 1.00000\n",
-        LATE_LOADS,
-    )?;
-    read_twice(
-        &rt,
-        thousand_papers(&rt)?,
-        "$ seal 7 --id s1\nward 7 sealed: 1000 valid, 0 rejected, quota 334.00000\n",
-        EQUAL_LOADS,
-    )
+    are_read_back::<Disks>(&rt)
 }

@@ -3,7 +3,8 @@
 
 use super::begun::{BEGUN, KEYED, KEYING};
 use super::clients::Client;
-use super::disks::{Disks, play_acts};
+use super::disks::Disks;
+use super::machine::{Machine, hear, play_acts, rows};
 use super::steps::Step;
 use rand_core::utils::NextWord;
 use rand_pcg::Pcg32;
@@ -29,13 +30,17 @@ const NINE: &str =
     "POST /clerks/9/batches/12/keying HTTP/1.1\r\nContent-Length: 43\r\n\r\n{\"id\":\"h1\",\"round\":1,\"papers\":[\"1,2,\",\"D\"]}";
 
 /// Both clerks key the batch, so that nothing more is taken of it.
-fn keyed_by_both(rt: &(impl Abort + AllocGlobal)) -> Result<Disks, Fail> {
-    let mut disks = play_acts(rt, BEGUN)?;
+fn keyed_by_both<M: Machine + Drop>(rt: &(impl Abort + AllocGlobal)) -> Result<M, Fail> {
+    let mut machine: M = play_acts(rt, BEGUN)?;
     for keying in [KEYING, NINE] {
         let client = [Some(Client::whole(keying.as_bytes()))];
-        disks = disks.hear(rt, &[(Step::Serve(&client, 1), (0, KEYED, "Ok(())"))])?;
+        machine = hear(
+            rt,
+            machine,
+            &[(Step::Serve(&client, 1), (0, KEYED, "Ok(())"))],
+        )?;
     }
-    Ok(disks)
+    Ok(machine)
 }
 
 /// A number below a bound, or 0 where there is none.
@@ -120,8 +125,9 @@ fn first_answer(page: &str) -> Option<(&str, &str)> {
     Some((status, behind.get(length.parse().ok()?..)?))
 }
 
-#[test]
-fn ten_thousand_clients_are_answered_as_they_ask(rt: HostRuntime) -> Result<(), Fail> {
+fn clients_are_answered_as_they_ask<M: Machine + Drop>(
+    rt: &(impl Abort + AllocGlobal),
+) -> Result<(), Fail> {
     let alloc = rt.alloc();
     let mut numbers = Pcg32::new(7, 1);
     let mut all = Vec::new(alloc);
@@ -132,15 +138,20 @@ fn ten_thousand_clients_are_answered_as_they_ask(rt: HostRuntime) -> Result<(), 
         .iter()
         .map(|bytes| Some(Client::whole(bytes)))
         .collect(alloc)?;
-    let (before, disks) = keyed_by_both(&rt)?.rows(alloc)?;
-    let (said, disks) = disks.play(alloc, &[Step::Serve(&clients, CLIENTS)])?;
+    let (before, machine): (String, M) = rows(alloc, keyed_by_both(rt)?)?;
+    let (said, machine) = machine.play(alloc, &[Step::Serve(&clients, CLIENTS)])?;
     let mut page = said.first().ok_or("nothing was said")?.told().1;
     for bytes in &all {
         let (status, behind) = first_answer(page).ok_or("an answer is missing")?;
         assert!(rt; may_be_told(alloc, bytes, status), "{bytes:?}: {status}");
         page = behind;
     }
-    let (after, _) = disks.rows(alloc)?;
+    let (after, _) = rows(alloc, machine)?;
     assert!(rt; page.is_empty() && before == after, "{page} {after}");
     Ok(())
+}
+
+#[test]
+fn ten_thousand_clients_are_answered_as_they_ask(rt: HostRuntime) -> Result<(), Fail> {
+    clients_are_answered_as_they_ask::<Disks>(&rt)
 }

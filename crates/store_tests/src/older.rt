@@ -3,7 +3,8 @@
 
 mod rows;
 
-use super::disks::{Act, File};
+use super::disks::Disks;
+use super::machine::{Act, File};
 use super::stops::stop_orders;
 use rows::{OLDER_ROWS, OLDER_TABLES, ROWS_OF_ONE_WARD};
 use std::test::Fail;
@@ -17,10 +18,10 @@ const OLDER: [Act; 2] = [Act::Typed(OLDER_TABLES), Act::Typed(OLDER_ROWS)];
 #[test]
 fn a_migration_stops_whole_at_its_log(rt: HostRuntime) -> Result<(), Fail> {
     let one_ward = [Act::Typed(OLDER_TABLES), Act::Typed(ROWS_OF_ONE_WARD)];
-    stop_orders(&rt, &one_ward, MIGRATED, File::Log)
+    stop_orders::<Disks>(&rt, &one_ward, MIGRATED, File::Log)
 }
 
 #[test]
 fn a_migration_stops_whole_at_its_database(rt: HostRuntime) -> Result<(), Fail> {
-    stop_orders(&rt, &OLDER, MIGRATED, File::Database)
+    stop_orders::<Disks>(&rt, &OLDER, MIGRATED, File::Database)
 }

@@ -1,8 +1,10 @@
 //! Outputs that fail: a beginning is taken, what was answered stands, nothing more is sent, and the same order given
 //! again is told whole. (That it is so at every byte is proved; here it is seen at one of each kind.)
 
-use super::disks::{Act, play_acts};
+use super::disks::Disks;
+use super::machine::{Act, Machine, hear, play_acts};
 use super::steps::{Rooms, Step};
+use std::process::Abort;
 use std::test::Fail;
 
 /// What is told of an output that fails.
@@ -30,8 +32,7 @@ const ONE: &str =
 
 const STATUS: &[&str] = &["DB", "status", "7"];
 
-#[test]
-fn an_output_that_breaks_has_taken_a_beginning(rt: HostRuntime) -> Result<(), Fail> {
+fn has_taken_a_beginning<M: Machine + Drop>(rt: &(impl Abort + AllocGlobal)) -> Result<(), Fail> {
     let every = usize::MAX;
     let cases = [
         // A reply: the ward is added.
@@ -62,6 +63,12 @@ fn an_output_that_breaks_has_taken_a_beginning(rt: HostRuntime) -> Result<(), Fa
         // An order that needs a socket.
         (Step::Order(&["DB", "serve", "8080", "2"]), (3, "", BROKEN)),
     ];
-    play_acts(&rt, &[Act::Typed("$ init\noffice ready\n")])?.hear(&rt, &cases)?;
+    let machine: M = play_acts(rt, &[Act::Typed("$ init\noffice ready\n")])?;
+    hear(rt, machine, &cases)?;
     Ok(())
+}
+
+#[test]
+fn an_output_that_breaks_has_taken_a_beginning(rt: HostRuntime) -> Result<(), Fail> {
+    has_taken_a_beginning::<Disks>(&rt)
 }

@@ -1,7 +1,8 @@
 //! Scripts over files that stop: what is kept is a beginning of their requests. (What else comes of them is played in
 //! examples/transcripts/replays.txt.)
 
-use super::disks::{Act, Disks, File, play_acts};
+use super::disks::Disks;
+use super::machine::{Act, File, Machine, hear, play_acts, rows};
 use super::steps::{Case, STOPPED, Shelf, Step};
 use super::stops::CALLS;
 use super::transcripts::read;
@@ -84,17 +85,17 @@ candidate 2 of ward 7 added
 ];
 
 /// The rows behind each beginning of so many requests, the first of none.
-fn beginnings(
+fn beginnings<M: Machine + Drop>(
     rt: &(impl Abort + AllocGlobal),
-    disks: Disks,
+    machine: M,
     requests: usize,
 ) -> Result<Vec<String>, Fail> {
-    let (none, mut disks) = disks.rows(rt.alloc())?;
+    let (none, mut machine) = rows(rt.alloc(), machine)?;
     let mut all = vec![in rt.alloc(); none]?;
     for typed in read(rt.alloc(), REQUESTS)?.iter().take(requests) {
-        let (rows, behind) = disks.hear(rt, &[typed.case()])?.rows(rt.alloc())?;
-        all.push(rows)?;
-        disks = behind;
+        let (found, behind) = rows(rt.alloc(), hear(rt, machine, &[typed.case()])?)?;
+        all.push(found)?;
+        machine = behind;
     }
     Ok(all)
 }
@@ -102,14 +103,14 @@ fn beginnings(
 /// Sends a script over disks of which one stops after so many calls, restarts them, and judges what is found: the rows
 /// behind the requests that got replies, or behind one more. Sent again, it is told whole, and ends as without the
 /// stop. Tells whether it met no stop.
-fn stop_script(
+fn stop_script<M: Machine + Drop>(
     rt: &(impl Abort + AllocGlobal),
-    disks: Disks,
+    machine: M,
     case: Case<'_>,
     beginnings: &[String],
 ) -> Result<bool, Fail> {
     let (script, whole) = case;
-    let (said, left) = disks.play(rt.alloc(), &[script])?;
+    let (said, left) = machine.play(rt.alloc(), &[script])?;
     let told = match said.as_slice() {
         [] => STOPPED,
         [said] => said.told(),
@@ -122,26 +123,29 @@ fn stop_script(
         "{told:?}"
     );
     let replies = out.lines().count();
-    let (found, left) = left.restarted().rows(rt.alloc())?;
+    let (found, left) = rows(rt.alloc(), left.restarted())?;
     let mut may_stand = beginnings.iter().skip(replies).take(2);
     assert!(rt;
         may_stand.any(|rows| *rows == found),
         "{told:?} left other rows"
     );
-    let (end, _) = left.hear(rt, &[case])?.rows(rt.alloc())?;
+    let (end, _) = rows(rt.alloc(), hear(rt, left, &[case])?)?;
     assert!(rt; beginnings.last() == Some(&end), "{told:?} sent again");
     Ok(told == whole)
 }
 
 /// Stops each of the scripts at each call of one file.
-fn stop_scripts(rt: &(impl Abort + AllocGlobal), file: File) -> Result<(), Fail> {
+fn stop_scripts<M: Machine + Drop>(
+    rt: &(impl Abort + AllocGlobal),
+    file: File,
+) -> Result<(), Fail> {
     for case in STOPPED_SCRIPTS {
-        let disks = play_acts(rt, MADE)?;
-        let copy = disks.copied(rt.alloc(), file, u64::MAX)?;
+        let machine: M = play_acts(rt, MADE)?;
+        let copy = machine.copied(rt.alloc(), file, u64::MAX)?;
         let beginnings = beginnings(rt, copy, case.1.1.lines().count())?;
         let mut ended = false;
         for calls in 0..CALLS {
-            let stopping = disks.copied(rt.alloc(), file, calls)?;
+            let stopping = machine.copied(rt.alloc(), file, calls)?;
             if stop_script(rt, stopping, case, &beginnings)? {
                 ended = true;
                 break;
@@ -154,10 +158,10 @@ fn stop_scripts(rt: &(impl Abort + AllocGlobal), file: File) -> Result<(), Fail>
 
 #[test]
 fn a_script_stops_between_requests_at_its_log(rt: HostRuntime) -> Result<(), Fail> {
-    stop_scripts(&rt, File::Log)
+    stop_scripts::<Disks>(&rt, File::Log)
 }
 
 #[test]
 fn a_script_stops_between_requests_at_its_database(rt: HostRuntime) -> Result<(), Fail> {
-    stop_scripts(&rt, File::Database)
+    stop_scripts::<Disks>(&rt, File::Database)
 }

@@ -2,7 +2,8 @@
 
 use super::begun::{BAD_REQUEST, BEGUN, KEYED, KEYING};
 use super::clients::{Dripping, Jumping};
-use super::disks::play_acts;
+use super::disks::Disks;
+use super::machine::{Machine, hear, play_acts};
 use super::steps::Step;
 use desk::patience::{Limits, Patient};
 use std::cell::Cell;
@@ -27,15 +28,28 @@ fn received(rt: &HostRuntime, mut stream: TcpStream) -> Result<String, Fail> {
     Ok(String::from_utf8(text)?)
 }
 
+/// Serves three connections.
+fn serve_three<M: Machine + Drop>(
+    rt: &(impl Abort + AllocGlobal),
+    listener: &TcpListener,
+) -> Result<(), Fail> {
+    let machine: M = play_acts(rt, BEGUN)?;
+    hear(
+        rt,
+        machine,
+        &[(Step::Listen(listener, 3), (0, "Ok(())", ""))],
+    )?;
+    Ok(())
+}
+
 /// The second of three is silent, and is let go.
 #[test]
 fn connections_are_answered_in_turn(rt: HostRuntime) -> Result<(), Fail> {
-    let disks = play_acts(&rt, BEGUN)?;
     let listener = TcpListener::bind(&rt, "127.0.0.1:0")?;
     let first = connected(&rt, &listener, "X\r\n\r\n")?;
     let silent = TcpStream::connect(&rt, listener.local_addr()?)?;
     let third = connected(&rt, &listener, KEYING)?;
-    disks.hear(&rt, &[(Step::Listen(&listener, 3), (0, "Ok(())", ""))])?;
+    serve_three::<Disks>(&rt, &listener)?;
     assert_eq!(rt; received(&rt, first)?.as_str(), BAD_REQUEST);
     assert_eq!(rt; received(&rt, silent)?.as_str(), "");
     assert_eq!(rt; received(&rt, third)?.as_str(), KEYED);

@@ -6,7 +6,8 @@ mod counts;
 
 use super::begun::{BEGUN, KEYED, KEYING, NOMINATED};
 use super::clients::Client;
-use super::disks::{Act, Disks, File, play_acts};
+use super::disks::Disks;
+use super::machine::{Act, File, Machine, hear, hear_unchanged, play_acts, rows};
 use super::steps::{Case, STOPPED, STOPPED_ANSWER, Step, Told};
 use super::transcripts::read;
 use std::process::Abort;
@@ -46,16 +47,16 @@ const SHEET: Step<'static> = Step::Order(&["DB", "sheet", "7"]);
 
 /// Does an order over disks that last: both sides of it, and the disks behind it. Sent three times more it leaves the
 /// rows as they are.
-fn sides_of(
+fn sides_of<M: Machine + Drop>(
     rt: &(impl Abort + AllocGlobal),
-    disks: Disks,
+    machine: M,
     case: Case<'_>,
-) -> Result<(Sides, Disks), Fail> {
-    let (before, disks) = disks.rows(rt.alloc())?;
-    let (after, disks) = disks.hear(rt, &[case])?.rows(rt.alloc())?;
+) -> Result<(Sides, M), Fail> {
+    let (before, machine) = rows(rt.alloc(), machine)?;
+    let (after, machine) = rows(rt.alloc(), hear(rt, machine, &[case])?)?;
     let again = (case.0, told_again(case, true));
-    let disks = disks.hear_unchanged(rt, &[again, again, again])?;
-    let (said, disks) = disks.play(rt.alloc(), &[SHEET])?;
+    let machine = hear_unchanged(rt, machine, &[again, again, again])?;
+    let (said, machine) = machine.play(rt.alloc(), &[SHEET])?;
     let sheet = match said.as_slice() {
         [said] if said.is_done() => Some(String::from_str(rt.alloc(), said.told().1)?),
         _ => None,
@@ -65,17 +66,17 @@ fn sides_of(
         after,
         sheet,
     };
-    Ok((sides, disks))
+    Ok((sides, machine))
 }
 
 /// Does an order over disks of which one stops after so many calls: whether it was answered, and the disks.
-fn stop_under(
+fn stop_under<M: Machine + Drop>(
     rt: &(impl Abort + AllocGlobal),
-    disks: Disks,
+    machine: M,
     case: Case<'_>,
-) -> Result<(bool, Disks), Fail> {
+) -> Result<(bool, M), Fail> {
     let (order, reply) = case;
-    let (said, left) = disks.play(rt.alloc(), &[order])?;
+    let (said, left) = machine.play(rt.alloc(), &[order])?;
     let answered = match said.as_slice() {
         [] => false,
         [said] if said.is_stopped() => false,
@@ -91,14 +92,14 @@ fn stop_under(
 /// Does an order over disks of which one stops after so many calls, restarts them, and judges what is
 /// found: the rows before it, or those after it if it was answered or may have been. Sent again it ends as without
 /// the stop, and so does the ward's sheet. Tells whether the order was answered.
-fn stop_once(
+fn stop_once<M: Machine + Drop>(
     rt: &(impl Abort + AllocGlobal),
-    disks: Disks,
+    machine: M,
     case: Case<'_>,
     sides: &Sides,
 ) -> Result<bool, Fail> {
     let (order, _) = case;
-    let (answered, left) = stop_under(rt, disks, case)?;
+    let (answered, left) = stop_under(rt, machine, case)?;
     let again = [Step::Contents, order, Step::Contents, SHEET];
     let steps = if sides.sheet.is_some() { 4 } else { 3 };
     let (said, _) = left.restarted().play(rt.alloc(), &again[..steps])?;
@@ -133,16 +134,16 @@ fn stop_once(
 }
 
 /// Stops an order at each call of one file, until a run meets no stop. Gives the disks after the order.
-fn stop_each(
+fn stop_each<M: Machine + Drop>(
     rt: &(impl Abort + AllocGlobal),
-    disks: Disks,
+    machine: M,
     case: Case<'_>,
     file: File,
-) -> Result<Disks, Fail> {
-    let lasting = disks.copied(rt.alloc(), file, u64::MAX)?;
+) -> Result<M, Fail> {
+    let lasting = machine.copied(rt.alloc(), file, u64::MAX)?;
     let (sides, done) = sides_of(rt, lasting, case)?;
     for calls in 0..CALLS {
-        let stopping = disks.copied(rt.alloc(), file, calls)?;
+        let stopping = machine.copied(rt.alloc(), file, calls)?;
         if stop_once(rt, stopping, case, &sides)? {
             return Ok(done);
         }
@@ -203,29 +204,33 @@ batch 12 round 2 open
 ";
 
 /// Stops a keying over HTTP at each call of one file.
-fn stop_client(rt: &(impl Abort + AllocGlobal), file: File) -> Result<(), Fail> {
+fn stop_client<M: Machine + Drop>(rt: &(impl Abort + AllocGlobal), file: File) -> Result<(), Fail> {
     let client = [Some(Client::whole(KEYING.as_bytes()))];
     let case = (Step::Serve(&client, 1), (0, KEYED, "Ok(())"));
-    stop_each(rt, play_acts(rt, BEGUN)?, case, file)?;
+    let machine: M = play_acts(rt, BEGUN)?;
+    stop_each(rt, machine, case, file)?;
     Ok(())
 }
 
 /// Stops the orders of a new round at each call of one file.
-fn stop_new_round(rt: &(impl Abort + AllocGlobal), file: File) -> Result<(), Fail> {
+fn stop_new_round<M: Machine + Drop>(
+    rt: &(impl Abort + AllocGlobal),
+    file: File,
+) -> Result<(), Fail> {
     let before = [Act::Typed(NOMINATED), Act::Typed(DIFFERING)];
-    stop_orders(rt, &before, NEW_ROUND, file)
+    stop_orders::<M>(rt, &before, NEW_ROUND, file)
 }
 
 /// Stops orders, each at each call of one file.
-pub fn stop_orders(
+pub fn stop_orders<M: Machine + Drop>(
     rt: &(impl Abort + AllocGlobal),
     before: &[Act],
     orders: &str,
     file: File,
 ) -> Result<(), Fail> {
-    let mut disks = play_acts(rt, before)?;
+    let mut machine: M = play_acts(rt, before)?;
     for order in &read(rt.alloc(), orders)? {
-        disks = stop_each(rt, disks, order.case(), file)?;
+        machine = stop_each(rt, machine, order.case(), file)?;
     }
     Ok(())
 }
@@ -233,38 +238,38 @@ pub fn stop_orders(
 // Each test has a minute: the many calls of the log are parted.
 #[test]
 fn the_first_orders_stop_whole_at_their_log(rt: HostRuntime) -> Result<(), Fail> {
-    stop_orders(&rt, &[], FIRST, File::Log)
+    stop_orders::<Disks>(&rt, &[], FIRST, File::Log)
 }
 
 #[test]
 fn an_order_stops_whole_at_its_log(rt: HostRuntime) -> Result<(), Fail> {
-    stop_new_round(&rt, File::Log)?;
-    stop_client(&rt, File::Log)
+    stop_new_round::<Disks>(&rt, File::Log)?;
+    stop_client::<Disks>(&rt, File::Log)
 }
 
 #[test]
 fn orders_to_a_batch_stop_whole_at_their_log(rt: HostRuntime) -> Result<(), Fail> {
-    stop_orders(&rt, &[Act::Typed(NOMINATED)], TO_BATCH, File::Log)
+    stop_orders::<Disks>(&rt, &[Act::Typed(NOMINATED)], TO_BATCH, File::Log)
 }
 
 #[test]
 fn orders_to_a_verdict_stop_whole_at_their_log(rt: HostRuntime) -> Result<(), Fail> {
     let before = [Act::Typed(NOMINATED), Act::Typed(TO_BATCH)];
-    stop_orders(&rt, &before, TO_VERDICT, File::Log)
+    stop_orders::<Disks>(&rt, &before, TO_VERDICT, File::Log)
 }
 
 #[test]
 fn an_order_stops_whole_at_its_database(rt: HostRuntime) -> Result<(), Fail> {
-    stop_orders(&rt, &[], FIRST, File::Database)?;
-    stop_new_round(&rt, File::Database)?;
-    stop_client(&rt, File::Database)
+    stop_orders::<Disks>(&rt, &[], FIRST, File::Database)?;
+    stop_new_round::<Disks>(&rt, File::Database)?;
+    stop_client::<Disks>(&rt, File::Database)
 }
 
 #[test]
 fn orders_stop_whole_at_their_database(rt: HostRuntime) -> Result<(), Fail> {
-    stop_orders(&rt, &[Act::Typed(NOMINATED)], TO_BATCH, File::Database)?;
+    stop_orders::<Disks>(&rt, &[Act::Typed(NOMINATED)], TO_BATCH, File::Database)?;
     let batch = [Act::Typed(NOMINATED), Act::Typed(TO_BATCH)];
-    stop_orders(&rt, &batch, TO_VERDICT, File::Database)
+    stop_orders::<Disks>(&rt, &batch, TO_VERDICT, File::Database)
 }
 
 /// A batch of as many papers as one may have.
@@ -286,7 +291,7 @@ fn a_large_keying_stops_whole(rt: HostRuntime) -> Result<(), Fail> {
     keying.push_str("batch 12 round 1 keyed\n")?;
     let before = [Act::Typed(NOMINATED), Act::Typed(GIVEN_OUT_WHOLE)];
     for file in [File::Log, File::Database] {
-        stop_orders(&rt, &before, keying.as_str(), file)?;
+        stop_orders::<Disks>(&rt, &before, keying.as_str(), file)?;
     }
     Ok(())
 }
@@ -304,9 +309,13 @@ enum Stop {
 
 /// Two clients key over disks whose log stops after so many calls. Where the first is told of the stop, the
 /// second is told that the office is closed.
-fn stop_twice(rt: &(impl Abort + AllocGlobal), disks: &Disks, calls: u64) -> Result<Stop, Fail> {
+fn stop_twice<M: Machine + Drop>(
+    rt: &(impl Abort + AllocGlobal),
+    machine: &M,
+    calls: u64,
+) -> Result<Stop, Fail> {
     let keying = Client::whole(KEYING.as_bytes());
-    let stopping = disks.copied(rt.alloc(), File::Log, calls)?;
+    let stopping = machine.copied(rt.alloc(), File::Log, calls)?;
     let clients = [Some(keying), Some(keying)];
     let (said, _) = stopping.play(rt.alloc(), &[Step::Serve(&clients, 2)])?;
     let Some(said) = said.first() else {
@@ -324,12 +333,11 @@ fn stop_twice(rt: &(impl Abort + AllocGlobal), disks: &Disks, calls: u64) -> Res
     Ok(Stop::AtTheFirst)
 }
 
-#[test]
-fn a_closed_office_says_so(rt: HostRuntime) -> Result<(), Fail> {
-    let disks = play_acts(&rt, BEGUN)?;
+fn closed_says_so<M: Machine + Drop>(rt: &(impl Abort + AllocGlobal)) -> Result<(), Fail> {
+    let machine: M = play_acts(rt, BEGUN)?;
     let mut closed = false;
     for calls in 0..CALLS {
-        match stop_twice(&rt, &disks, calls)? {
+        match stop_twice(rt, &machine, calls)? {
             Stop::AtTheOpening => {}
             Stop::AtTheFirst => closed = true,
             Stop::BehindTheFirst => break,
@@ -337,4 +345,9 @@ fn a_closed_office_says_so(rt: HostRuntime) -> Result<(), Fail> {
     }
     assert!(rt; closed, "the store never stopped under a client");
     Ok(())
+}
+
+#[test]
+fn a_closed_office_says_so(rt: HostRuntime) -> Result<(), Fail> {
+    closed_says_so::<Disks>(&rt)
 }

@@ -5,7 +5,8 @@ use super::super::begun::{
     OPENED_FOR_FIVE as FIVE, PAPERS as NINE_PAPERS, POLLING, SEAL, SEALED, TWO_STAGES,
     WAITING_FOR_A_LOT,
 };
-use super::super::disks::{Act, File};
+use super::super::disks::Disks;
+use super::super::machine::{Act, File, Machine};
 use super::stop_orders;
 use std::process::Abort;
 use std::test::Fail;
@@ -71,58 +72,58 @@ const COUNTS: [(&[Act], &str); 7] = [
 ];
 
 /// Stops the orders of some counts, each at each call of one file.
-fn stop_counts(
+fn stop_counts<M: Machine + Drop>(
     rt: &(impl Abort + AllocGlobal),
     counts: &[(&[Act], &str)],
     file: File,
 ) -> Result<(), Fail> {
     for (before, orders) in counts {
-        stop_orders(rt, before, orders, file)?;
+        stop_orders::<M>(rt, before, orders, file)?;
     }
     Ok(())
 }
 
 #[test]
 fn a_count_is_begun_whole_at_its_log(rt: HostRuntime) -> Result<(), Fail> {
-    stop_counts(&rt, &COUNTS[..2], File::Log)
+    stop_counts::<Disks>(&rt, &COUNTS[..2], File::Log)
 }
 
 #[test]
 fn a_surplus_stops_whole_at_its_log(rt: HostRuntime) -> Result<(), Fail> {
-    stop_counts(&rt, &COUNTS[2..3], File::Log)
+    stop_counts::<Disks>(&rt, &COUNTS[2..3], File::Log)
 }
 
 #[test]
 fn a_declaration_stops_whole_at_its_log(rt: HostRuntime) -> Result<(), Fail> {
-    stop_counts(&rt, &COUNTS[3..4], File::Log)
+    stop_counts::<Disks>(&rt, &COUNTS[3..4], File::Log)
 }
 
 #[test]
 fn a_lot_stops_whole_at_its_log(rt: HostRuntime) -> Result<(), Fail> {
-    stop_counts(&rt, &COUNTS[4..5], File::Log)
+    stop_counts::<Disks>(&rt, &COUNTS[4..5], File::Log)
 }
 
 #[test]
 fn a_stage_behind_a_lot_stops_whole_at_its_log(rt: HostRuntime) -> Result<(), Fail> {
-    stop_counts(&rt, &COUNTS[5..6], File::Log)
+    stop_counts::<Disks>(&rt, &COUNTS[5..6], File::Log)
 }
 
 #[test]
 fn a_second_surplus_stops_whole_at_its_log(rt: HostRuntime) -> Result<(), Fail> {
-    stop_counts(&rt, &COUNTS[6..], File::Log)
+    stop_counts::<Disks>(&rt, &COUNTS[6..], File::Log)
 }
 
 #[test]
 fn a_count_is_begun_whole_at_its_database(rt: HostRuntime) -> Result<(), Fail> {
-    stop_counts(&rt, &COUNTS[..3], File::Database)
+    stop_counts::<Disks>(&rt, &COUNTS[..3], File::Database)
 }
 
 #[test]
 fn a_count_goes_on_whole_at_its_database(rt: HostRuntime) -> Result<(), Fail> {
-    stop_counts(&rt, &COUNTS[3..5], File::Database)
+    stop_counts::<Disks>(&rt, &COUNTS[3..5], File::Database)
 }
 
 #[test]
 fn a_count_ends_whole_at_its_database(rt: HostRuntime) -> Result<(), Fail> {
-    stop_counts(&rt, &COUNTS[5..], File::Database)
+    stop_counts::<Disks>(&rt, &COUNTS[5..], File::Database)
 }
