@@ -175,7 +175,7 @@ const TO_VERDICT: &str = "$ import-keying 4 12 1 FILE --id k1
 < paper,1,2,3
 < 1,D,,
 batch 12 round 1 keyed
-$ key 9 12 1 --id k1 D,,
+$ key 9 12 1 --id k1 D
 batch 12 round 1 keyed
 $ judge 12 1 reject:3 --id j1
 batch 12 paper 1 rejected 3
