@@ -29,22 +29,25 @@ mod traces;
 use desk::perform::perform;
 use desk::{
     CopyState, Failure, Folder, Order, Progress, Task, WordsFault, copy_office, journal_office,
-    order, serve_on, tell_failure, tell_words,
+    order, tell_failure, tell_words,
 };
 use fresh::Fresh;
+use hall::serve_hall;
+use mio::net::TcpListener;
 use office::Office;
+use sockets::Watch;
 use sqlite::{Alter, Connection, ErrorCode, FileStore, Files, Wary};
 use sqlite_disk::Disk;
 use std::alloc::Global;
 use std::fs::File;
 use std::io::{ErrorKind, IsTerminal};
-use std::net::{Ipv4Addr, TcpListener};
+use std::net::{Ipv4Addr, SocketAddr};
 use std::process::ExitCode;
 use std::{env, io};
 use store::Fault;
 use store::fault::fault_of;
 use traces::{Found, Site};
-use votes::{Counted, Sink};
+use votes::{Broken, Counted, Sink};
 use wire::Origin;
 
 /// The files of this machine.
@@ -129,19 +132,21 @@ fn perform_on<S: Alter, O: Sink, E: Sink>(
     }
 }
 
-/// Listens on a port of this machine.
-fn listen(rt: &HostRuntime, port: u32) -> Option<TcpListener> {
+/// Listens on a port of this machine: the doors to which clients come.
+fn listen(rt: &HostRuntime, port: u32) -> Option<Watch> {
     let port = u16::try_from(port).ok()?;
-    TcpListener::bind(rt, (Ipv4Addr::LOCALHOST, port)).ok()
+    let address = SocketAddr::from((Ipv4Addr::LOCALHOST, port));
+    let listener = TcpListener::bind(rt, address).ok()?;
+    Watch::new(rt, rt.alloc(), listener).ok()
 }
 
-/// Answers so many connections on a port of this machine, over an opened connection to the database, and pages of an
-/// origin through a proxy, if one is given.
+/// Answers so many connections on a port of this machine, or without end, over an opened connection to the database, and
+/// pages of an origin through a proxy, if one is given.
 fn serve<S: Alter, E: Sink>(
     rt: &HostRuntime,
     conn: Connection<S>,
     port: u32,
-    connections: u32,
+    connections: Option<u32>,
     origin: Option<Origin<'_>>,
     err: &mut E,
 ) -> (u8, Connection<S>)
@@ -151,13 +156,14 @@ fn serve<S: Alter, E: Sink>(
         Ok(office) => office,
         Err((fault, conn)) => return (tell_failure(Failure::Office(fault), err), conn),
     };
+    let most = connections.map(u64::from);
     let served = match listen(rt, port) {
-        Some(listener) => serve_on(rt.alloc(), rt, &listener, connections, origin, &mut office),
-        None => Err(Failure::Output),
+        Some(mut doors) => serve_hall(rt.alloc(), rt, &mut doors, origin, most, &mut office),
+        None => Err(Broken),
     };
     let status = match served {
         Ok(()) => 0,
-        Err(failure) => tell_failure(failure, err),
+        Err(Broken) => tell_failure(Failure::Output, err),
     };
     (status, office.into_connection())
 }
