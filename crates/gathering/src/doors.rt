@@ -1,0 +1,36 @@
+//! Where clients come in, and what tells which of them may go on.
+
+ghost use Rattle.gathering.specs.Rooms.{IsFresh};
+
+use crate::line::Line;
+use std::time::Duration;
+use votes::Broken;
+
+/// What a door gave.
+#[derive(Drop)]
+pub enum Admitted<L> {
+    /// The next who waited: his line.
+    One(L),
+    /// Nobody waits.
+    Nobody,
+    /// Somebody may wait, and can't be let in now.
+    NotNow,
+}
+
+/// Where clients come in, and what tells who may go on. What it tells is no promise: a client who can't go on is tried in vain.
+pub trait Doors {
+    type Line: Line + Drop;
+
+    /// Waits until somebody may go on or come in, so long at most.
+    fn wait(&mut self, most: Duration) -> Result<(), Broken>;
+
+    /// The number of the next who may go on; none, once all were told.
+    fn next_ready(&mut self) -> Option<u64>;
+
+    /// Lets in the next who waits, and tells of him by this number from then on.
+    fn admit(&mut self, number: u64) -> Admitted<Self::Line>
+        ensures { IsFresh Self.Line.taken result };
+
+    /// Whether somebody may wait to be let in.
+    fn is_waited_at(&self) -> bool;
+}
