@@ -185,6 +185,8 @@ impl<'c, 'p> Coming<'c, 'p> {
 impl<'c, 'p> Doors for Coming<'c, 'p> {
     type Line = Talk<'c, 'p>;
 
+    ghost came = { λ _. None };
+
     fn wait(&mut self, _most: Duration) -> Result<(), Broken> {
         if self.waits == 0 {
             return Err(Broken);
