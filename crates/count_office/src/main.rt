@@ -133,14 +133,38 @@ fn perform_on<S: Alter, O: Sink, E: Sink>(
 }
 
 /// Listens on a port of this machine: the doors to which clients come.
-fn listen(rt: &HostRuntime, port: u32) -> Option<Watch> {
-    let port = u16::try_from(port).ok()?;
+fn listen(rt: &HostRuntime, port: u32) -> io::Result<Watch> {
+    let Ok(port) = u16::try_from(port) else {
+        return Err(io::Error::from(ErrorKind::InvalidInput));
+    };
     let address = SocketAddr::from((Ipv4Addr::LOCALHOST, port));
-    let listener = TcpListener::bind(rt, address).ok()?;
-    Watch::new(rt, rt.alloc(), listener).ok()
+    let listener = TcpListener::bind(rt, address)?;
+    Watch::new(rt, rt.alloc(), listener)
 }
 
-/// Answers so many connections on a port of this machine, or without end, over an opened connection to the database, and
+/// Answers connections on a port of this machine, over an open office.
+fn serve_in<S: Alter>(
+    rt: &HostRuntime,
+    office: &mut Office<S>,
+    port: u32,
+    connections: Option<u32>,
+    origin: Option<Origin<'_>>,
+) -> Result<(), Failure> {
+    let mut doors = match listen(rt, port) {
+        Ok(doors) => doors,
+        Err(error) if error.kind() == ErrorKind::OutOfMemory => {
+            return Err(Failure::Office(Fault::Memory));
+        }
+        Err(_) => return Err(Failure::Output),
+    };
+    let most = connections.map(u64::from);
+    match serve_hall(rt.alloc(), rt, &mut doors, origin, most, office) {
+        Ok(()) => Ok(()),
+        Err(Broken) => Err(Failure::Output),
+    }
+}
+
+/// Opens the office that a connection has, and answers so many connections on a port of this machine, or without end; and
 /// pages of an origin through a proxy, if one is given.
 fn serve<S: Alter, E: Sink>(
     rt: &HostRuntime,
@@ -156,14 +180,9 @@ fn serve<S: Alter, E: Sink>(
         Ok(office) => office,
         Err((fault, conn)) => return (tell_failure(Failure::Office(fault), err), conn),
     };
-    let most = connections.map(u64::from);
-    let served = match listen(rt, port) {
-        Some(mut doors) => serve_hall(rt.alloc(), rt, &mut doors, origin, most, &mut office),
-        None => Err(Broken),
-    };
-    let status = match served {
+    let status = match serve_in(rt, &mut office, port, connections, origin) {
         Ok(()) => 0,
-        Err(Broken) => tell_failure(Failure::Output, err),
+        Err(failure) => tell_failure(failure, err),
     };
     (status, office.into_connection())
 }
