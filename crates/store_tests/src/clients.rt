@@ -6,11 +6,10 @@ use gathering::{Admitted, Came, Doors, Line};
 use sockets::Watch;
 use std::alloc::Global;
 use std::cell::{Cell, RefCell};
-use std::fmt;
-use std::io;
 use std::io::{ErrorKind, Write};
 use std::test::Fail;
 use std::time::{Clock, Duration};
+use std::{fmt, io};
 use votes::Broken;
 
 /// A client: what he sends, and whether he ends his side behind it; how many bytes come at once before nothing more has

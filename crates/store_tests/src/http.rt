@@ -20,16 +20,21 @@ const NO_CLERK: &str = "refused 3: number out of range\n";
 
 /// The work of clerk 4 and of clerk 9 is asked for, and a sheet that isn't there yet.
 const FOUR: &[u8] = b"GET /clerks/4/work HTTP/1.1\r\n\r\n";
+
 const NINE: &[u8] = b"GET /clerks/9/work HTTP/1.1\r\n\r\n";
+
 const SHEET: &[u8] = b"GET /wards/7/sheet HTTP/1.1\r\n\r\n";
 
 /// What is told of them.
 const FOUR_TO_KEY: &str =
     "HTTP/1.1 200 OK\r\nContent-Type: application/json\r\nContent-Length: 93\r\nConnection: close\r\n\r\n{\"clerk\":4,\"work\":[{\"batch\":12,\"columns\":[1,2,3],\"keyed\":false,\"round\":1,\"size\":2,\"ward\":7}]}";
+
 const FOUR_HAS_KEYED: &str =
     "HTTP/1.1 200 OK\r\nContent-Type: application/json\r\nContent-Length: 92\r\nConnection: close\r\n\r\n{\"clerk\":4,\"work\":[{\"batch\":12,\"columns\":[1,2,3],\"keyed\":true,\"round\":1,\"size\":2,\"ward\":7}]}";
+
 const NINE_TO_KEY: &str =
     "HTTP/1.1 200 OK\r\nContent-Type: application/json\r\nContent-Length: 93\r\nConnection: close\r\n\r\n{\"clerk\":9,\"work\":[{\"batch\":12,\"columns\":[1,2,3],\"keyed\":false,\"round\":1,\"size\":2,\"ward\":7}]}";
+
 const WRONG_PHASE: &str =
     "HTTP/1.1 409 Conflict\r\nContent-Type: application/json\r\nContent-Length: 34\r\nConnection: close\r\n\r\n{\"refusal\":9,\"text\":\"wrong phase\"}";
 
@@ -200,6 +205,7 @@ fn are_not_let_in<M: Machine + Drop>(
 
 /// How many come at once, and how many may be in.
 const CROWD: usize = 600;
+
 const MOST: usize = 512;
 
 /// A crowd of silent clients, among whom these places ask for a clerk's work, two bytes a second.
