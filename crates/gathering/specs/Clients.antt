@@ -5,6 +5,7 @@ use Rattle.std.specs.List.{All}
 use Rattle.gathering.specs.Lines.{HasTaken, Line}
 use Rattle.gathering.specs.declared.client.Answer.{Answer}
 use Rattle.gathering.specs.declared.client.Client.{Client}
+use Rattle.gathering.specs.declared.client.Comer.{Comer}
 use Rattle.gathering.specs.declared.gathered.Gathered.{Gathered}
 use Rattle.gathering.specs.declared.writing.Writing.{Writing}
 
@@ -35,9 +36,10 @@ abbrev pub IsServedSo : {L : Type 0} → Line L → L → L → List ℕ → Opt
 IsServedSo line start now got None = IsHeard line start now got
 IsServedSo line start now got (Some answer) = IsTold line now answer.bytes.items answer.sent
 
--- A client comes in over this line, under this number and at this moment: nothing was heard of him, and he has no answer.
-pub record IsNew {L : Type 0} (line : L) (number now : ℕ) (client : Client L) : Type 0 where
-  pub over : client.line ≡ line
+-- A client comes in at this door and over this line, under this number and at this moment: nothing was heard of him, and he has no answer.
+pub record IsNew {L : Type 0} (comer : Comer L) (number now : ℕ) (client : Client L) : Type 0 where
+  pub at : client.door ≡ comer.door
+  pub over : client.line ≡ comer.line
   pub numbered : client.number ≡ number
   pub since : client.since ≡ now
   pub unheard : client.got.items ≡ []

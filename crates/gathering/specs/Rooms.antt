@@ -1,9 +1,12 @@
 -- The clients who are in a room at one time.
-use Rattle.std.specs.Prelude.{◌≡◌, ◌≤◌, ◌+◌, ◌∷◌, ◌++◌, ◌==◌, ⊤, ℕ, List, [], Option, Some, None, length, option_map, position, sum_by}
+use Rattle.std.specs.Prelude.{◌≡◌, ◌≤◌, ◌+◌, ◌∷◌, ◌++◌, ◌==◌, ⊤, ℕ, Bool, true, List, [], Option, Some, None, length, option_map, position, sum_by}
 use Rattle.std.specs.List.{All}
 use Rattle.gathering.specs.Lines.{HasTaken}
 use Rattle.gathering.specs.declared.client.Answer.{Answer}
 use Rattle.gathering.specs.declared.client.Client.{Client}
+use Rattle.gathering.specs.declared.client.Comer.{Comer}
+use Rattle.gathering.specs.declared.client.Door.{Door}
+use Rattle.gathering.specs.declared.client.Door.TheVariants.{Clients, Orders}
 use Rattle.gathering.specs.declared.doors.Admitted.{Admitted}
 use Rattle.gathering.specs.declared.doors.Admitted.TheVariants.{One, Nobody, NotNow}
 
@@ -28,14 +31,34 @@ IsLongest clients client = All (λ other. client.since ≤ other.since) clients
 abbrev pub place_in : {L : Type 0} → List (Client L) → ℕ → Option ℕ
 place_in clients number = position (λ client. client.number == number) clients
 
+-- how many who come in at a door count as clients
+abbrev pub count_at : Door → ℕ
+count_at Clients = 1
+count_at Orders = 0
+
+-- how many of those who came count as clients
+abbrev pub clients_among : {L : Type 0} → List (Comer L) → ℕ
+clients_among comers = sum_by (λ comer. count_at comer.door) comers
+
 -- whoever is let in was told nothing yet, as far as his line tells what it took
 abbrev pub IsFresh : {L : Type 0} → (L → Option (List ℕ)) → Admitted L → Type 0
-IsFresh taken (One line) = HasTaken (taken line) []
+IsFresh taken (One comer) = HasTaken (taken comer.line) []
 IsFresh taken Nobody = ⊤
 IsFresh taken NotNow = ⊤
 
--- the lines that came in grow by that of whoever is let in
-abbrev pub LetsIn : {L : Type 0} → Option (List L) → Option (List L) → Admitted L → Type 0
-LetsIn old new (One line) = new ≡ option_map (λ lines. lines ++ line ∷ []) old
+-- whoever comes at a door may come there: an order always, and a client where he is wanted
+abbrev pub MayCome : Bool → Door → Type 0
+MayCome clients_too Clients = clients_too ≡ true
+MayCome clients_too Orders = ⊤
+
+-- nobody is let in who may not come
+abbrev pub IsWanted : {L : Type 0} → Bool → Admitted L → Type 0
+IsWanted clients_too (One comer) = MayCome clients_too comer.door
+IsWanted clients_too Nobody = ⊤
+IsWanted clients_too NotNow = ⊤
+
+-- those who came in grow by whoever is let in
+abbrev pub LetsIn : {L : Type 0} → Option (List (Comer L)) → Option (List (Comer L)) → Admitted L → Type 0
+LetsIn old new (One comer) = new ≡ option_map (λ comers. comers ++ comer ∷ []) old
 LetsIn old new Nobody = new ≡ old
 LetsIn old new NotNow = new ≡ old

@@ -12,6 +12,22 @@ use votes::Broken;
 /// How many bytes are read of a line at once.
 const CHUNK: usize = 16384;
 
+/// At which door a client came in, which says what he sends.
+#[derive(Clone, Copy)]
+pub enum Door {
+    /// Where clients come, who send a request over HTTP.
+    Clients,
+    /// Where orders are handed over.
+    Orders,
+}
+
+/// Who comes in: at which door, and over which line.
+#[derive(Drop)]
+pub struct Comer<L> {
+    pub door: Door,
+    pub line: L,
+}
+
 /// An answer, and how many of its bytes were taken.
 #[derive(Drop)]
 pub struct Answer {
@@ -19,10 +35,11 @@ pub struct Answer {
     pub sent: usize,
 }
 
-/// A client: his line, his number in the order of coming, and since when his present half minute runs, in milliseconds. Then
-/// what was gathered of him, and his answer once he has one.
+/// A client, or an order that is handed over: at which door he came in, his line, his number in the order of coming, and since
+/// when his present half minute runs, in milliseconds. Then what was gathered of him, and his answer once he has one.
 #[derive(Drop)]
 pub struct Client<L> {
+    pub door: Door,
     pub line: L,
     pub number: u64,
     pub since: u64,
@@ -124,12 +141,14 @@ pub fn deliver<L: Line>(line: &mut L, answer: &mut Answer) -> Result<bool, Broke
 
 impl<L: Line> Client<L> {
     /// One who comes in now, of whom nothing was heard yet.
-    pub fn new(alloc: Global, line: L, number: u64, since: u64) -> Client<L>
-        requires { HasTaken (L.taken line) [] }
-        ensures new { IsNew line number since result }
-        ensures is { IsOf (line_of L.held L.taken) line result }
+    pub fn new(alloc: Global, comer: Comer<L>, number: u64, since: u64) -> Client<L>
+        requires { HasTaken (L.taken comer.line) [] }
+        ensures new { IsNew comer number since result }
+        ensures is { IsOf (line_of L.held L.taken) comer.line result }
     {
+        let Comer { door, line } = comer;
         Client {
+            door,
             line,
             number,
             since,
@@ -143,7 +162,7 @@ impl<L: Line> Client<L> {
         requires { self.old.answer ≡ None }
         ensures gathers { Gathers (line_of L.held L.taken) self.old.line self.new.line self.old.got.items self.new.got.items }
         ensures is { (start : L) → IsOf (line_of L.held L.taken) start self.old → IsOf (line_of L.held L.taken) start self.new }
-        ensures same { (self.new.number ≡ self.old.number) × (self.new.since ≡ self.old.since) × (self.new.answer ≡ None) }
+        ensures same { (self.new.door ≡ self.old.door) × (self.new.number ≡ self.old.number) × (self.new.since ≡ self.old.since) × (self.new.answer ≡ None) }
         ensures enough { result ≡ Ok Heard.Enough → wanted ≤ length self.new.got.items }
         ensures waits { result ≡ Ok Heard.Waits → length self.new.got.items < wanted }
         ensures ended { result ≡ Ok Heard.Ended → IsAtEnd (L.held self.new.line) }

@@ -3,10 +3,10 @@
 ghost use Rattle.std.specs.Prelude.{◌≡◌, ◌⊎◌, ◌<◌, ◌+◌, ◌-◌, ◌^◌, [], ◌∷◌, ◌++◌, IfNone, IfSome, length, min, slice_index_or};
 ghost use Rattle.gathering.specs.Lines.{HasTaken, line_of};
 ghost use Rattle.gathering.specs.Clients.{IsNew, IsOf};
-ghost use Rattle.gathering.specs.Rooms.{IsLongest, answer_bytes, bytes_held, place_in};
+ghost use Rattle.gathering.specs.Rooms.{IsLongest, answer_bytes, bytes_held, count_at, place_in};
 ghost use Rattle.gathering.specs.declared.client.Client.{Client};
 
-use crate::client::{Answer, Client};
+use crate::client::{Answer, Client, Comer, Door};
 use crate::line::Line;
 use std::alloc::Global;
 
@@ -61,35 +61,43 @@ pub fn place_of<L>(clients: &[Client<L>], number: u64) -> Option<usize>
     clients.iter().position(|client| client.number == number)
 }
 
-/// The clients who are in, in the order of coming; and how many came.
+/// Those who are in, in the order of coming; how many came, and how many of them at the door of clients.
 #[derive(Drop)]
 pub struct Room<L> {
     pub clients: Vec<Client<L>>,
     pub came: u64,
+    pub counted: u64,
 }
 
 impl<L: Line> Room<L> {
     /// A room with nobody in it.
     pub fn new(alloc: Global) -> Room<L>
-        ensures { (result.clients.items ≡ []) × (result.came ≡ 0) }
+        ensures { (result.clients.items ≡ []) × (result.came ≡ 0) × (result.counted ≡ 0) }
     {
         Room {
             clients: Vec::new(alloc),
             came: 0,
+            counted: 0,
         }
     }
 
     /// Somebody comes in, and has the next number. Where memory is wanting for him, he is let go.
-    pub fn enter(&mut self, alloc: Global, line: L, now: u64)
+    pub fn enter(&mut self, alloc: Global, comer: Comer<L>, now: u64)
     where
         L: Drop,
         requires came { self.old.came < 2 ^ 64 - 1 }
-        requires fresh { HasTaken (L.taken line) [] }
+        requires counted { self.old.counted + count_at comer.door < 2 ^ 64 }
+        requires fresh { HasTaken (L.taken comer.line) [] }
         ensures came { self.new.came ≡ self.old.came + 1 }
+        ensures counted { self.new.counted ≡ self.old.counted + count_at comer.door }
         ensures entered { (self.new.clients.items ≡ self.old.clients.items) ⊎ ((client : Client L) × (self.new.clients.items ≡ self.old.clients.items ++ client ∷ [])
-            × IsNew line self.old.came now client × IsOf (line_of L.held L.taken) line client) }
+            × IsNew comer self.old.came now client × IsOf (line_of L.held L.taken) comer.line client) }
     {
-        let client = Client::new(alloc, line, self.came, now);
+        match comer.door {
+            Door::Clients => self.counted += 1,
+            Door::Orders => {}
+        }
+        let client = Client::new(alloc, comer, self.came, now);
         self.came += 1;
         let _ = self.clients.push(client);
     }

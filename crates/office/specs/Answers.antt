@@ -68,6 +68,11 @@ pub record IsKeptOpen (s : OfficeState) (f : Fault) (closed : Bool) (st : State)
   pub memory : f ≡ Memory
   pub open_at : IsOpenAt s closed st
 
+-- What an order leaves that only read, whether or not it could be ended: the office is open at its state, or its store failed, which closed it; a stop
+-- leaves the state as it was.
+abbrev pub IsReadAt : OfficeState → Bool → State → Type 0
+IsReadAt s closed st = IsOpenAt s closed st ⊎ ((closed ≡ true) × LeavesState st (λ x. x ≡ s))
+
 -- What each exit of a request leaves. Answered: the state that the machine's step makes of the one before, which is the
 -- same unless the request was accepted. A fault: the state before, or, where it closed the office, that or the one after.
 abbrev pub Handled : OfficeState → Outcome → Result Answer Fault → Bool → State → Type 0

@@ -1,13 +1,22 @@
 -- What is watched.
+use Rattle.std.specs.Prelude.{◌≡◌, ⊤, Option}
 use Rattle.mio.specs.declared.net.listener.TcpListener.{TcpListener}
-use Rattle.mio.specs.declared.net.stream.TcpStream.{TcpStream}
-use Rattle.sockets.specs.declared.socket.Socket.{Socket}
+use Rattle.mio.specs.declared.net.uds.listener.UnixListener.{UnixListener}
+use Rattle.gathering.specs.declared.client.Door.{Door}
+use Rattle.gathering.specs.declared.doors.Admitted.{Admitted}
+use Rattle.gathering.specs.declared.doors.Admitted.TheVariants.{One, Nobody, NotNow}
 use Rattle.sockets.specs.declared.watch.Watch.{Watch}
 
 -- the listener at which clients come in
-abbrev pub listener_of : Watch → TcpListener
-listener_of watch = watch.listener
+abbrev pub clients_of : Watch → TcpListener
+clients_of watch = watch.clients
 
--- the stream of a client's socket
-abbrev pub stream_of : Socket → TcpStream
-stream_of socket = socket.stream
+-- the listener at which orders are handed over, if there is one
+abbrev pub orders_of : Watch → Option UnixListener
+orders_of watch = watch.orders
+
+-- whoever was let in came at this door
+abbrev pub IsAtDoor : {L : Type 0} → Door → Admitted L → Type 0
+IsAtDoor door (One comer) = comer.door ≡ door
+IsAtDoor door Nobody = ⊤
+IsAtDoor door NotNow = ⊤

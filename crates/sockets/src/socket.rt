@@ -3,15 +3,16 @@
 ghost use Rattle.std.specs.Prelude.{◌≡◌, ◌⊎◌, ◌<◌, ℕ, None, Ok, IfOk};
 
 use gathering::{Came, Line};
-use mio::net::TcpStream;
+use mio::net::{TcpStream, UnixStream};
 use std::io;
 use std::io::{ErrorKind, Read, Write};
 use votes::Broken;
 
-/// A client's socket.
+/// A client's socket, or that of an order.
 #[derive(Drop)]
-pub struct Socket {
-    pub(crate) stream: TcpStream,
+pub enum Socket {
+    Client(TcpStream),
+    Order(UnixStream),
 }
 
 /// What a read came to.
@@ -43,10 +44,16 @@ impl Line for Socket {
     ghost taken = { λ _. None };
 
     fn fetch(&mut self, room: &mut [u8]) -> Result<Came, Broken> {
-        came(self.stream.read(room))
+        match self {
+            Socket::Client(stream) => came(stream.read(room)),
+            Socket::Order(stream) => came(stream.read(room)),
+        }
     }
 
     fn put(&mut self, bytes: &[u8]) -> Result<usize, Broken> {
-        took(self.stream.write(bytes))
+        match self {
+            Socket::Client(stream) => took(stream.write(bytes)),
+            Socket::Order(stream) => took(stream.write(bytes)),
+        }
     }
 }
