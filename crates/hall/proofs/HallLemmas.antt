@@ -206,6 +206,20 @@ module _ {L : Type 0} (given : Option (List ℕ)) (line : Line L) where
       goes_on = goes_then a.visits b.visits let_in let_in_mid let_in_later old mid new a.goes_on b.goes_on;
     }
 
+    pub serving_same : (let_in let_in_mid let_in_later : Option (List L)) (old new : Room L) (before later : OfficeValue S) → let_in_later ≡ let_in_mid
+        → GoesOnServing given line state_of let_in let_in_mid old new before later → GoesOnServing given line state_of let_in let_in_later old new before later
+    serving_same let_in let_in_mid let_in_later old new before later same it =
+        subst (λ (lines : Option (List L)). GoesOnServing given line state_of let_in lines old new before later) (sym same) it
+
+    -- those who were in went on, some were let go, and more came in
+    pub serving_round : (let_in let_in_mid let_in_later : Option (List L)) (old went left new : Room L) (before later : OfficeValue S) (least now : ℕ)
+        → GoesOnServing given line state_of let_in let_in_mid old went before later → AreLetGo least now went left → GoesOn given line [] let_in_mid let_in_later left new
+        → GoesOnServing given line state_of let_in let_in_later old new before later
+    serving_round let_in let_in_mid let_in_later old went left new before later least now on gone more =
+        serving_then let_in let_in_mid let_in_later old went new before later later on
+        (serving_none let_in_mid let_in_later went new later
+        (goes_then [] [] let_in_mid let_in_mid let_in_later went left new (goes_without least now let_in_mid let_in_mid went left refl gone) more))
+
     -- a closed office stays as it is
     pub serving_closed : (let_in let_in_later : Option (List L)) (old new : Room L) (before later : OfficeValue S) → GoesOnServing given line state_of let_in let_in_later old new before later
         → before.closed ≡ true → later ≡ before
