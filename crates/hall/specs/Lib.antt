@@ -1,3 +1,5 @@
+pub mod Terms
+pub mod Handings
 pub mod Visits
 pub mod Turns
 pub mod Guests

@@ -1,4 +1,4 @@
--- Clients who have their turns in one office, one after the other, and what is kept of them.
+-- Clients and orders who have their turns in one office, one after the other, and what is kept of them.
 use Rattle.std.specs.Prelude.{◌≡◌, ◌⊎◌, ⊤, Bool, true, false, List, [], ◌∷◌, ◌++◌, Option, Some, length, ℕ}
 use Rattle.sqlite.specs.Held.{Held}
 use Rattle.sqlite.specs.State.{HasCleanDisk, State}
@@ -8,29 +8,43 @@ use Rattle.register.specs.declared.command.Request.{Request}
 use Rattle.office.specs.Answers.{IsOpenAt, WhenOpenAt}
 use Rattle.office.specs.Runs.{Keeps}
 use Rattle.office.specs.Values.{OfficeValue}
+use Rattle.gathering.specs.declared.client.Door.{Door}
+use Rattle.gathering.specs.declared.client.Door.TheVariants.{Clients, Orders}
 use Rattle.wire.specs.Bodies.{KeyingEntry}
 use Rattle.wire.specs.Asking.{Asks, keying}
 use Rattle.wire.specs.Serving.{IsHandedOn, IsServed, ReadiesClosed, ReadiesFor, TellsFault, TellsFor}
 use Rattle.wire.specs.declared.response.Response.{Response}
 use Rattle.wire.specs.declared.serving.Served.{Served}
+use Rattle.hall.specs.Handings.{FollowsOrder, IsTurnedAway, TellsOrder}
+use Rattle.hall.specs.Terms.{Given}
 
--- a client who had his turn: his number in the order of coming, what was gathered of him, and the answer that was put for him
+-- Who had a turn, a client or an order that was handed over: at which door he came in, his number in the order of coming, what was gathered of him, and the
+-- answer that was put for him.
 pub record Visit : Type 0 where
+  pub door : Door
   pub number : ℕ
   pub got : List ℕ
   pub answer : List ℕ
 
--- ---- one turn, in an office that was given the origin of a proxy or none
+-- ---- one turn, in an office that was given the origin of a proxy or none, and its file
 
 -- an answer that was ready so was put for a visit, from its first byte on: whole, or, where memory was wanting, a beginning of it
 abbrev pub EndsSo : Visit → (Response → Type 0) → Type 0
 EndsSo visit IsReady = (served : Served) × IsServed IsReady (Some []) (Some visit.answer) served
 
 -- a client was served: what he is told and what that left, if the office was open; and that it is closed, if it was
-pub record ServesVisit {S : Type 0} (given : Option (List ℕ)) (state_of : Held S → State) (old : OfficeValue S) (visit : Visit) (new : OfficeValue S) : Type 0 where
+pub record ServesClient {S : Type 0} (given : Option (List ℕ)) (state_of : Held S → State) (old : OfficeValue S) (visit : Visit) (new : OfficeValue S) : Type 0 where
   pub serves : WhenOpenAt state_of old new (λ s. EndsSo visit (λ response. ReadiesFor given (Some visit.got) s response new.closed (state_of new.held)))
   pub turned_away : old.closed ≡ true → EndsSo visit (ReadiesClosed given (Some visit.got)) × (new ≡ old)
   pub clean : HasCleanDisk (state_of new.held) → HasCleanDisk (state_of old.held)
+
+-- who came in at a door had his turn: a client is served, and an order is followed
+abbrev pub ServesAt : {S : Type 0} → Door → Given → (Held S → State) → OfficeValue S → Visit → OfficeValue S → Type 0
+ServesAt Clients given state_of old visit new = ServesClient given.origin state_of old visit new
+ServesAt Orders given state_of old visit new = FollowsOrder given.file state_of old visit.got visit.answer new
+
+abbrev pub ServesVisit : {S : Type 0} → Given → (Held S → State) → OfficeValue S → Visit → OfficeValue S → Type 0
+ServesVisit given state_of old visit new = ServesAt visit.door given state_of old visit new
 
 -- ---- one turn after the other
 
@@ -40,25 +54,39 @@ IsLastFor given bytes last =
     (last ≡ [])
     ⊎ ((clerk batch : ℕ) × (entry : KeyingEntry) × (request : Request) × Asks given bytes (keying clerk batch entry) × IsHandedOn clerk batch entry request × (last ≡ request ∷ []))
 
--- clients who find the office closed: each is told so, where he asks it anything
-abbrev pub AreTurnedAway : Option (List ℕ) → List Visit → Type 0
-AreTurnedAway given [] = ⊤
-AreTurnedAway given (visit ∷ visits) = EndsSo visit (ReadiesClosed given (Some visit.got)) × AreTurnedAway given visits
+-- who finds the office closed is told so, where he asks it anything
+abbrev pub IsToldClosed : Door → Given → Visit → Type 0
+IsToldClosed Clients given visit = EndsSo visit (ReadiesClosed given.origin (Some visit.got))
+IsToldClosed Orders given visit = IsTurnedAway given.file visit.got visit.answer
 
--- Clients are answered in turn, each as the office's machine says where his turn comes, and these keyings were handed on for them: none or
--- one for each, and one for each who is told what the office says to his keying. Or a fault, which is told, closed the office at one of them
--- (his keying may be kept, or not), and everyone behind him is told that it is closed.
-abbrev pub AnswersInTurn : Option (List ℕ) → OfficeState → List Visit → List Request → List Request → Type 0
+-- so is each of these
+abbrev pub AreTurnedAway : Given → List Visit → Type 0
+AreTurnedAway given [] = ⊤
+AreTurnedAway given (visit ∷ visits) = IsToldClosed visit.door given visit × AreTurnedAway given visits
+
+-- Who has his turn at a state is answered, and these requests were answered for him: of a client none or one keying, and one where he is told what the office says
+-- to it; of an order those that its page tells.
+abbrev pub IsAnsweredAt : Door → Given → OfficeState → Visit → List Request → Type 0
+IsAnsweredAt Clients given s visit sent = EndsSo visit (TellsFor given.origin (Some visit.got) s sent)
+IsAnsweredAt Orders given s visit sent = (last : List Request) × TellsOrder given.file s visit.got visit.answer sent last
+
+-- A fault, which he is told, closed the office in his turn: these requests were answered, and one more may be kept or not.
+abbrev pub IsStoppedAt : Door → Given → OfficeState → Visit → List Request → List Request → Type 0
+IsStoppedAt Clients given s visit answered last = EndsSo visit TellsFault × (answered ≡ []) × IsLastFor given.origin visit.got last
+IsStoppedAt Orders given s visit answered last = TellsOrder given.file s visit.got visit.answer answered last
+
+-- All are answered in turn, each as the office's machine says where his turn comes, and these requests were answered for them. Or a fault closed the office in
+-- the turn of one of them, and everyone behind him is told that it is closed.
+abbrev pub AnswersInTurn : Given → OfficeState → List Visit → List Request → List Request → Type 0
 AnswersInTurn given s [] answered last = (answered ≡ []) × (last ≡ [])
 AnswersInTurn given s (visit ∷ visits) answered last =
-    ((sent : List Request) × (others : List Request) × EndsSo visit (TellsFor given (Some visit.got) s sent) × (answered ≡ sent ++ others)
-    × AnswersInTurn given (after s sent) visits others last)
-    ⊎ (EndsSo visit TellsFault × (answered ≡ []) × IsLastFor given visit.got last × AreTurnedAway given visits)
+    ((sent : List Request) × (others : List Request) × IsAnsweredAt visit.door given s visit sent × (answered ≡ sent ++ others) × AnswersInTurn given (after s sent) visits others last)
+    ⊎ (IsStoppedAt visit.door given s visit answered last × AreTurnedAway given visits)
 
--- What is kept of clients who had their turns, after earlier requests. An open office is at the state after all that were answered.
--- Whatever a stop leaves is the state after the accepted requests of a beginning, which contains every earlier one, every keying that was
+-- What is kept of those who had their turns, after earlier requests. An open office is at the state after all that were answered.
+-- Whatever a stop leaves is the state after the accepted requests of a beginning, which contains every earlier one, every one that was
 -- answered, and at most one more.
-pub record IsKeptOf (given : Option (List ℕ)) (earlier : List Request) (visits : List Visit) (closed : Bool) (st : State) : Type 0 where
+pub record IsKeptOf (given : Given) (earlier : List Request) (visits : List Visit) (closed : Bool) (st : State) : Type 0 where
   pub answered : List Request
   pub last : List Request
   pub in_turn : AnswersInTurn given (after empty_office earlier) visits answered last

@@ -1,21 +1,26 @@
-//! A client who goes on: he is heard, served once what he asks has come to its end, and told his answer.
+//! Who goes on, a client or an order: he is heard, has his turn once what he asks has come to its end, and is told his answer.
 
-ghost use Rattle.std.specs.Prelude.{◌≡◌, ℕ, None, Ok, Some, true};
-ghost use Rattle.sqlite.specs.State.{HasCleanDisk};
+ghost use Rattle.std.specs.Prelude.{◌≡◌, ℕ, [], None, Ok, Some, true};
 ghost use Rattle.sqlite.specs.Held.{state};
-ghost use Rattle.gathering.specs.Lines.{Gathers, line_of};
-ghost use Rattle.gathering.specs.Clients.{IsHeard, IsOf};
+ghost use Rattle.gathering.specs.Lines.{Gathers, HasTaken, line_of};
+ghost use Rattle.gathering.specs.Clients.{IsHeard, IsOf, IsTold};
 ghost use Rattle.wire.specs.Origins.{given_by};
-ghost use Rattle.hall.specs.Turns.{HasCome, IsSameClient, MayHaveTurn, answer_of};
-ghost use Rattle.hall.specs.Visits.{ServesVisit, Visit};
+ghost use Rattle.hall.specs.Handings.{HasCameWhole};
+ghost use Rattle.hall.specs.Terms.{Given, given_in};
+ghost use Rattle.hall.specs.Turns.{HasCome, HasComeAt, IsSameClient, IsUntold, MayHaveTurn, answer_of};
+ghost use Rattle.hall.specs.Visits.{ServesClient, ServesVisit, Visit};
 
-use gathering::{Answer, Client, Gathered, Heard, Line, Lost, Writing, deliver};
+use crate::aside::Aside;
+use crate::message::hear_message;
+use crate::ordering::answer_order;
+use crate::terms::Terms;
+use gathering::{Answer, Client, Door, Gathered, Heard, Line, Lost, Writing, deliver};
 use office::Office;
 use sqlite::Alter;
 use std::alloc::Global;
 use wire::{Lacks, MAX_HEAD_BYTES, Origin, lacks, serve_one};
 
-/// What became of a client who went on.
+/// What became of who went on.
 #[derive(Clone, Copy)]
 pub enum Attended {
     /// More is to come of him, or he has more to take.
@@ -72,6 +77,23 @@ fn hear_out<L: Line>(
     }
 }
 
+/// Hears who has no answer yet; whether what he asks has come to its end.
+fn hear<L: Line>(
+    alloc: Global,
+    origin: Option<Origin<'_>>,
+    client: &mut Client<L>,
+) -> Result<bool, Lost>
+    requires { client.old.answer ≡ None }
+    ensures gathers { Gathers (line_of L.held L.taken) client.old.line client.new.line client.old.got.items client.new.got.items }
+    ensures same { IsSameClient client.old client.new × (client.new.answer ≡ None) }
+    ensures come { result ≡ Ok true → (given : Given) → given.origin ≡ given_by origin.entry → HasComeAt client.old.door given (L.held client.new.line) client.new.got.items }
+{
+    match client.door {
+        Door::Clients => hear_out(alloc, origin, client),
+        Door::Orders => hear_message(client),
+    }
+}
+
 /// Serves a client of whom these bytes were gathered, and gives his answer, of which nothing was told yet. Where memory is
 /// wanting for it, it is a beginning.
 fn answered<S: Alter>(
@@ -80,7 +102,8 @@ fn answered<S: Alter>(
     got: &[u8],
     office: &mut Office<S>,
 ) -> Answer
-    ensures served { (number : ℕ) → ServesVisit (given_by origin.entry) (state S.Store) office.old (record { number = number; got = got.now; answer = result.bytes.items }) office.new }
+    ensures served { (number : ℕ) → ServesClient (given_by origin.entry) (state S.Store) office.old
+        (record { door = Door.Clients; number = number; got = got.now; answer = result.bytes.items }) office.new }
     ensures untold { result.sent ≡ 0 }
 {
     let mut reader = Gathered::new(got);
@@ -89,6 +112,29 @@ fn answered<S: Alter>(
     Answer {
         bytes: writer.into_bytes(),
         sent: 0,
+    }
+}
+
+/// The answer to who came in at a door, of whom all was heard: of a client nothing was told yet, and an order was told what its
+/// line took.
+fn answer_to<L: Line, A: Aside, S: Alter>(
+    alloc: Global,
+    terms: Terms<'_>,
+    aside: &A,
+    client: &mut Client<L>,
+    office: &mut Office<S>,
+) -> Answer
+    requires fresh { HasTaken (L.taken client.old.line) [] }
+    requires whole { client.old.door ≡ Door.Orders → HasCameWhole client.old.got.items }
+    ensures told { IsTold (line_of L.held L.taken) client.new.line result.bytes.items result.sent }
+    ensures same { IsSameClient client.old client.new × (client.new.got.items ≡ client.old.got.items) }
+    ensures served { ServesVisit (given_in terms.entry) (state S.Store) office.old
+        (record { door = client.old.door; number = client.old.number; got = client.old.got.items; answer = result.bytes.items }) office.new }
+{
+    let got = client.got.as_slice();
+    match client.door {
+        Door::Clients => answered(alloc, terms.origin, got, office),
+        Door::Orders => answer_order(alloc, terms.file, aside, got, &mut client.line, office),
     }
 }
 
@@ -108,19 +154,22 @@ fn tell_more<L: Line>(client: &mut Client<L>) -> Attended
     }
 }
 
-/// A client has his turn of whom all was heard: he is served from that alone, and told of his answer what he takes now.
-fn take_turn<L: Line, S: Alter>(
+/// Who was heard to the end has his turn: he is served, or followed, from that alone, and told of his answer what he takes now.
+fn take_turn<L: Line, A: Aside, S: Alter>(
     alloc: Global,
-    origin: Option<Origin<'_>>,
+    terms: Terms<'_>,
+    aside: &A,
     client: &mut Client<L>,
     office: &mut Office<S>,
 ) -> Attended
+    requires fresh { HasTaken (L.taken client.old.line) [] }
+    requires whole { client.old.door ≡ Door.Orders → HasCameWhole client.old.got.items }
     ensures is { (start : L) → IsHeard (line_of L.held L.taken) start client.old.line client.old.got.items → IsOf (line_of L.held L.taken) start client.new }
     ensures same { IsSameClient client.old client.new }
-    ensures turn { (visit : Visit) × (visit.number ≡ client.old.number) × (visit.got ≡ client.old.got.items)
-        × ServesVisit (given_by origin.entry) (state S.Store) office.old visit office.new × (answer_of client.new ≡ Some visit.answer) }
+    ensures turn { (visit : Visit) × (visit.door ≡ client.old.door) × (visit.number ≡ client.old.number) × (visit.got ≡ client.old.got.items)
+        × ServesVisit (given_in terms.entry) (state S.Store) office.old visit office.new × (answer_of client.new ≡ Some visit.answer) }
 {
-    let answer = answered(alloc, origin, client.got.as_slice(), office);
+    let answer = answer_to(alloc, terms, aside, client, office);
     client.answer = Some(answer);
     client.got = Vec::new(alloc);
     match tell_more(client) {
@@ -129,26 +178,28 @@ fn take_turn<L: Line, S: Alter>(
     }
 }
 
-/// A client goes on, as far as his line lets him now: he is heard; once what he asks has come to its end, this is his turn,
-/// and he is served; and he is told his answer.
+/// A client, or an order that is handed over, goes on, as far as his line lets him now: he is heard; once what he asks has come
+/// to its end, this is his turn, and he is served; and he is told his answer.
 ///
 /// What is gathered of him are his own bytes, from his first one on, and what he is told is the answer to just these. Nobody
 /// else is touched.
-pub fn attend<L: Line, S: Alter>(
+pub fn attend<L: Line, A: Aside, S: Alter>(
     alloc: Global,
-    origin: Option<Origin<'_>>,
+    terms: Terms<'_>,
+    aside: &A,
     client: &mut Client<L>,
     office: &mut Office<S>,
 ) -> Attended
+    requires untold { IsUntold (line_of L.held L.taken) client.old }
     ensures is { (start : L) → IsOf (line_of L.held L.taken) start client.old → IsOf (line_of L.held L.taken) start client.new }
     ensures same { IsSameClient client.old client.new }
-    ensures turn { MayHaveTurn (given_by origin.entry) (line_of L.held L.taken) (state S.Store) client.old client.new office.old office.new }
+    ensures turn { MayHaveTurn (given_in terms.entry) (line_of L.held L.taken) (state S.Store) client.old client.new office.old office.new }
 {
     if client.answer.is_some() {
         return tell_more(client);
     }
-    match hear_out(alloc, origin, client) {
-        Ok(true) => take_turn(alloc, origin, client, office),
+    match hear(alloc, terms.origin, client) {
+        Ok(true) => take_turn(alloc, terms, aside, client, office),
         Ok(false) => Attended::Waits,
         Err(_) => Attended::Lost,
     }

@@ -1,4 +1,4 @@
-//! Clients who are let go.
+//! Who is let go.
 
 ghost use Rattle.std.specs.Prelude.{◌≡◌, ◌≤◌, ◌<◌, ◌+◌, [], false, length, true};
 ghost use Rattle.gathering.specs.Rooms.{bytes_held};
