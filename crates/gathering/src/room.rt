@@ -61,6 +61,16 @@ pub fn place_of<L>(clients: &[Client<L>], number: u64) -> Option<usize>
     clients.iter().position(|client| client.number == number)
 }
 
+/// How many who come in at a door count as clients.
+fn count_at(door: Door) -> u64
+    ensures { result ≡ count_at door }
+{
+    match door {
+        Door::Clients => 1,
+        Door::Orders => 0,
+    }
+}
+
 /// Those who are in, in the order of coming; how many came, and how many of them at the door of clients.
 #[derive(Drop)]
 pub struct Room<L> {
@@ -93,12 +103,10 @@ impl<L: Line> Room<L> {
         ensures entered { (self.new.clients.items ≡ self.old.clients.items) ⊎ ((client : Client L) × (self.new.clients.items ≡ self.old.clients.items ++ client ∷ [])
             × IsNew comer self.old.came now client × IsOf (line_of L.held L.taken) comer.line client) }
     {
-        match comer.door {
-            Door::Clients => self.counted += 1,
-            Door::Orders => {}
-        }
+        let counted = count_at(comer.door);
         let client = Client::new(alloc, comer, self.came, now);
         self.came += 1;
+        self.counted += counted;
         let _ = self.clients.push(client);
     }
 }
