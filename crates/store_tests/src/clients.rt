@@ -1,8 +1,9 @@
-//! Clients over HTTP who come to doors, and what their lines give and take. Which bytes come of them is known, also to clauses.
+//! Clients over HTTP, and orders that are handed over, who come to doors; and what their lines give and take. Which bytes come of
+//! them is known, also to clauses.
 
 ghost use Rattle.std.specs.Prelude.{None, Some};
 
-use gathering::{Admitted, Came, Doors, Line};
+use gathering::{Admitted, Came, Comer, Door, Doors, Line};
 use sockets::Watch;
 use std::alloc::Global;
 use std::cell::{Cell, RefCell};
@@ -12,11 +13,12 @@ use std::time::{Clock, Duration};
 use std::{fmt, io};
 use votes::Broken;
 
-/// A client: what he sends, and whether he ends his side behind it; how many bytes come at once before nothing more has
+/// A client, or an order: what he sends, and whether he ends his side behind it; how many bytes come at once before nothing more has
 /// come, and how many he takes of his answer before he takes no more now; after how many that came reading him fails, and
 /// after how many that he took writing to him fails.
 #[derive(Clone, Copy, Debug)]
 pub struct Client<'a> {
+    pub is_order: bool,
     pub sends: &'a [u8],
     pub ends: bool,
     pub at_once: usize,
@@ -29,12 +31,31 @@ impl<'a> Client<'a> {
     /// One who sends all of this at once, and takes his answer so. His line doesn't break.
     pub fn whole(sends: &'a [u8]) -> Client<'a> {
         Client {
+            is_order: false,
             sends,
             ends: true,
             at_once: usize::MAX,
             sips: usize::MAX,
             heard: usize::MAX,
             takes: usize::MAX,
+        }
+    }
+
+    /// An order whose message is this, and who stays.
+    pub fn order(message: &'a [u8]) -> Client<'a> {
+        Client {
+            is_order: true,
+            ends: false,
+            ..Client::whole(message)
+        }
+    }
+
+    /// The door at which he comes in.
+    fn door(&self) -> Door {
+        if self.is_order {
+            Door::Orders
+        } else {
+            Door::Clients
         }
     }
 
@@ -204,19 +225,24 @@ impl<'c, 'p> Doors for Coming<'c, 'p> {
         Some(number)
     }
 
-    fn admit(&mut self, number: u64) -> Admitted<Talk<'c, 'p>> {
+    fn admit(&mut self, number: u64, clients_too: bool) -> Admitted<Talk<'c, 'p>> {
         let (Some(next), Some(page)) = (self.comers.get(self.next), self.pages.get(self.next))
         else {
             return Admitted::Nobody;
         };
-        self.next = self.next.saturating_add(1);
-        match next {
-            Some(client) => {
-                self.came = number.saturating_add(1);
-                Admitted::One(Talk::new(*client, page))
-            }
-            None => Admitted::NotNow,
+        let Some(client) = next else {
+            self.next = self.next.saturating_add(1);
+            return Admitted::NotNow;
+        };
+        if !client.is_order && !clients_too {
+            return Admitted::Nobody;
         }
+        self.next = self.next.saturating_add(1);
+        self.came = number.saturating_add(1);
+        Admitted::One(Comer {
+            door: client.door(),
+            line: Talk::new(*client, page),
+        })
     }
 
     fn is_waited_at(&self) -> bool {

@@ -38,6 +38,8 @@ mod noise;
 #[cfg(test)]
 mod older;
 #[cfg(test)]
+mod orders;
+#[cfg(test)]
 mod outputs;
 #[cfg(test)]
 mod ports;

@@ -40,7 +40,7 @@ fn connections_are_answered_side_by_side(rt: HostRuntime) -> Result<(), Fail> {
     let listener = TcpListener::bind(&rt, SocketAddr::from((Ipv4Addr::LOCALHOST, 0)))?;
     let office = listener.local_addr()?;
     let port = Port {
-        watch: RefCell::new(Watch::new(&rt, rt.alloc(), listener)?),
+        watch: RefCell::new(Watch::new(&rt, rt.alloc(), listener, None)?),
         connections: 3,
     };
     let silent = connected(&rt, office, "")?;

@@ -6,12 +6,13 @@ use super::clients::{Coming, Evening, Jumping, Port, Taking, joined, pages_of};
 use super::loads::loads;
 use desk::perform::perform;
 use desk::{Failure, Folder, Order, copy_office, order, tell_failure, tell_words};
-use hall::serve_hall;
+use hall::{Aside, FileNumbers, Terms, serve_hall};
 use office::{Answer, Office, Run, Stop, Work};
 use register::Request;
 use sqlite::{Alter, Connection};
 use std::alloc::{AllocError, Global};
 use std::test::Fail;
+use store::Fault;
 use votes::{Broken, Counted, Sink};
 
 /// One step of a script.
@@ -227,6 +228,40 @@ fn work<S: Alter + Drop>(
     Ok((Said::quietly(alloc, text), conn))
 }
 
+/// The file that is served, and no proxy.
+pub const TERMS: Terms<'static> = Terms {
+    origin: None,
+    file: FileNumbers {
+        device: 7,
+        inode: 12,
+    },
+};
+
+/// An office that has nothing beside it: no copy and no journal can be made.
+struct Unaided;
+
+impl Aside for Unaided {
+    fn copy<S: Alter, O: Sink, E: Sink>(
+        &self,
+        _office: &mut Office<S>,
+        _folder: &str,
+        _path: &str,
+        _out: &mut O,
+        err: &mut E,
+    ) -> u8 {
+        tell_failure(Failure::CopyFailed, err)
+    }
+
+    fn journal<S: Alter, O: Sink, E: Sink>(
+        &self,
+        _office: &mut Office<S>,
+        _out: &mut O,
+        err: &mut E,
+    ) -> u8 {
+        tell_failure(Failure::Office(Fault::Memory), err)
+    }
+}
+
 /// Serves the clients of an evening: all that they took, and what came of it.
 fn serve<S: Alter + Drop>(
     alloc: Global,
@@ -256,7 +291,8 @@ fn serve<S: Alter + Drop>(
             alloc,
             &clock,
             &mut coming,
-            None,
+            TERMS,
+            &Unaided,
             evening.connections,
             &mut office,
         )
@@ -285,7 +321,9 @@ fn listen<S: Alter + Drop>(
     let clock = Jumping::by(31);
     let most = Some(port.connections);
     let served = match port.watch.try_borrow_mut() {
-        Ok(mut watch) => serve_hall(alloc, &clock, &mut *watch, None, most, &mut office),
+        Ok(mut watch) => {
+            serve_hall(alloc, &clock, &mut *watch, TERMS, &Unaided, most, &mut office)
+        },
         Err(_) => Err(Broken),
     };
     let conn = office.into_connection();

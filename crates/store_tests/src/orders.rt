@@ -1,0 +1,274 @@
+//! Orders that are handed over to an office while it serves clients. They come whole or byte by byte, their lines break, they
+//! are for another file or from another program, or they are no orders at all.
+
+use super::begun::{BEGUN, KEYED, KEYING};
+use super::clients::{Client, Evening};
+use super::disks::Disks;
+use super::machine::{Machine, hear, hear_unchanged, play_acts};
+use super::steps::{Step, TERMS};
+use desk::version::VERSION;
+use handover::{Handed, Piece, put_over, put_said, write};
+use std::alloc::Global;
+use std::process::Abort;
+use std::test::Fail;
+
+/// The papers of a keying, as a file.
+const PAPERS: &[u8] = b"paper,1,2,3\n1,1,2,\n2,,,1\n";
+
+/// Orders that are handed over.
+const STATUS: &[&str] = &["DB", "status", "7"];
+
+const IMPORT: &[&str] = &[
+    "DB",
+    "import-keying",
+    "9",
+    "12",
+    "1",
+    "FILE",
+    "--id",
+    "k1",
+];
+
+const SCRIPT: &[&str] = &["DB", "replay", "SCRIPT"];
+
+/// A script whose first line names a file, and whose last is refused.
+const LINES: &[u8] =
+    b"import-keying 9 12 1 FILE --id k1\ncandidate 7 4 Dee --id d1\nseal 7 --id s1\n";
+
+/// What is told of them.
+const IMPORTED: &[&str] = &["batch 12 round 1 keyed", "\n"];
+
+/// An order, the file for which it is given, and the program that gives it.
+#[derive(Clone, Copy)]
+struct Given<'a> {
+    version: &'a str,
+    inode: u64,
+    words: &'a [&'a str],
+    files: &'a [(&'a str, &'a [u8])],
+}
+
+impl<'a> Given<'a> {
+    /// An order as this program gives it, for the file that is served.
+    fn of(words: &'a [&'a str]) -> Given<'a> {
+        Given {
+            version: VERSION,
+            inode: TERMS.file.inode,
+            words,
+            files: &[],
+        }
+    }
+
+    /// Its message.
+    fn message(&self, alloc: Global) -> Result<Vec<u8>, Fail> {
+        let mut words = Vec::new(alloc);
+        for word in self.words {
+            words.push(Piece {
+                name: word.as_bytes(),
+                bytes: None,
+            })?;
+        }
+        let mut files = Vec::new(alloc);
+        for (path, bytes) in self.files {
+            files.push(Piece {
+                name: path.as_bytes(),
+                bytes: Some(*bytes),
+            })?;
+        }
+        let spelling = write(
+            alloc,
+            &Handed {
+                version: self.version.as_bytes(),
+                device: TERMS.file.device,
+                inode: self.inode,
+                folder: b"/tmp",
+                words,
+                files,
+            },
+        )?;
+        let mut message = Vec::from_slice(alloc, &(spelling.len() as u64).to_be_bytes())?;
+        message.extend_from_slice(&spelling)?;
+        Ok(message)
+    }
+}
+
+/// What an order is told in frames: each of these, and at the end its status with what goes to the error output.
+fn frames(alloc: Global, told: &[&str], status: u8, err: &str) -> Result<String, Fail> {
+    let mut bytes = Vec::new(alloc);
+    for text in told {
+        put_said(&mut bytes, text.as_bytes())?;
+    }
+    put_over(&mut bytes, status, err.as_bytes())?;
+    Ok(String::from_utf8(bytes)?)
+}
+
+/// One order comes, and is told this.
+fn is_told<M: Machine + Drop>(
+    rt: &(impl Abort + AllocGlobal),
+    machine: M,
+    order: Client<'_>,
+    told: &str,
+) -> Result<M, Fail> {
+    let comers = [Some(order)];
+    let evening = Evening {
+        connections: Some(0),
+        ..Evening::of(&comers)
+    };
+    hear(rt, machine, &[(Step::Serve(evening), (0, told, "Ok(())"))])
+}
+
+/// One order comes that changes nothing, and is told why.
+fn is_refused<M: Machine + Drop>(
+    rt: &(impl Abort + AllocGlobal),
+    machine: M,
+    given: Given<'_>,
+    status: u8,
+    err: &str,
+) -> Result<M, Fail> {
+    let message = given.message(rt.alloc())?;
+    let told = frames(rt.alloc(), &[], status, err)?;
+    let comers = [Some(Client::order(message.as_slice()))];
+    let evening = Evening {
+        connections: Some(0),
+        ..Evening::of(&comers)
+    };
+    let step = Step::Serve(evening);
+    hear_unchanged(rt, machine, &[(step, (0, told.as_str(), "Ok(())"))])
+}
+
+/// Orders that aren't followed: of another program, for another file, which no office does while it is served, and those
+/// that aren't understood.
+fn are_refused<M: Machine + Drop>(rt: &(impl Abort + AllocGlobal), machine: M) -> Result<M, Fail> {
+    let older = Given {
+        version: "1.2.0-older",
+        ..Given::of(STATUS)
+    };
+    let elsewhere = Given {
+        inode: TERMS.file.inode + 1,
+        ..Given::of(STATUS)
+    };
+    let judge = ["DB", "judge", "12", "1", "maybe", "--id", "j1"];
+    let mut machine = machine;
+    for (given, status, err) in [
+        (older, 3, "fault 102: store\n"),
+        (elsewhere, 3, "fault 102: store\n"),
+        (Given::of(&["DB", "init"]), 3, "fault 111: office is being served\n"),
+        (Given::of(&["DB", "migrate"]), 3, "fault 111: office is being served\n"),
+        (Given::of(&["DB", "serve", "8080"]), 3, "fault 111: office is being served\n"),
+        (Given::of(&["DB", "copy", "NEW"]), 3, "fault 110: copy not written\n"),
+        (Given::of(&judge), 2, "bad verdict word\n"),
+        (Given::of(&["DB", "status", "8"]), 1, "refused 4: no such ward\n"),
+        (Given::of(SCRIPT), 3, "file fault 8 at record 0: read failed\n"),
+    ] {
+        machine = is_refused(rt, machine, given, status, err)?;
+    }
+    Ok(machine)
+}
+
+/// Messages that are no orders: one that is too long and one that ends too early are let go, and one that spells nothing is
+/// told what a file is told that another program holds.
+fn are_none<M: Machine + Drop>(rt: &(impl Abort + AllocGlobal), machine: M) -> Result<M, Fail> {
+    let told = frames(rt.alloc(), &[], 3, "fault 102: store\n")?;
+    let machine = is_told(rt, machine, Client::order(b"\0\0\0\0\0\0\0\x03abc"), told.as_str())?;
+    let machine = is_told(rt, machine, Client::order(b"\0\0\0\0\x7f\0\0\0abc"), "")?;
+    let early = Client {
+        ends: true,
+        ..Client::order(b"\0\0\0\0\0\0\0\x04abc")
+    };
+    is_told(rt, machine, early, "")
+}
+
+/// Orders have their turns among clients: one before a keying and one behind it tell how the ward stood. They come a few bytes
+/// at a time, and don't count.
+fn come_among_clients<M: Machine + Drop>(
+    rt: &(impl Abort + AllocGlobal),
+    machine: M,
+) -> Result<M, Fail> {
+    let alloc = rt.alloc();
+    let status = Given::of(STATUS).message(alloc)?;
+    let import = Given {
+        files: &[("FILE", PAPERS)],
+        ..Given::of(IMPORT)
+    };
+    let import = import.message(alloc)?;
+    let before = "ward 7 keying: 3 candidates, 1 batches, 0 taken, 0 differing, 0 doubtful open, 0 stages";
+    let told = frames(alloc, &[before, "\n"], 0, "")?;
+    let keyed = frames(alloc, IMPORTED, 0, "")?;
+    let comers = [
+        Some(Client::order(status.as_slice())),
+        Some(Client::whole(KEYING.as_bytes())),
+        Some(Client {
+            at_once: 3,
+            sips: 3,
+            ..Client::order(import.as_slice())
+        }),
+    ];
+    let mut out = String::new(alloc);
+    for text in [told.as_str(), "\n", KEYED, "\n", keyed.as_str()] {
+        out.push_str(text)?;
+    }
+    let evening = Evening {
+        connections: Some(1),
+        ..Evening::of(&comers)
+    };
+    let step = Step::Serve(evening);
+    hear(rt, machine, &[(step, (0, out.as_str(), "Ok(())"))])
+}
+
+/// A script has one turn. Its refusal is told behind the number of its line, and what was done before stands.
+fn follow_scripts<M: Machine + Drop>(
+    rt: &(impl Abort + AllocGlobal),
+    machine: M,
+) -> Result<M, Fail> {
+    let given = Given {
+        files: &[("SCRIPT", LINES), ("FILE", PAPERS)],
+        ..Given::of(SCRIPT)
+    };
+    let message = given.message(rt.alloc())?;
+    let told = frames(
+        rt.alloc(),
+        IMPORTED,
+        1,
+        "line 2: refused 9: wrong phase\n",
+    )?;
+    is_told(rt, machine, Client::order(message.as_slice()), told.as_str())
+}
+
+/// The line of an order breaks at each byte that it takes. Its keying is kept from the first of them on, and told again.
+fn break_at_each_byte<M: Machine + Drop>(
+    rt: &(impl Abort + AllocGlobal),
+    machine: M,
+) -> Result<M, Fail> {
+    let given = Given {
+        files: &[("FILE", PAPERS)],
+        ..Given::of(IMPORT)
+    };
+    let message = given.message(rt.alloc())?;
+    let told = frames(rt.alloc(), IMPORTED, 0, "")?;
+    let mut machine = machine;
+    for takes in 0..told.len() {
+        let order = Client {
+            takes,
+            ..Client::order(message.as_slice())
+        };
+        let front = told.get(..takes).unwrap_or("");
+        machine = is_told(rt, machine, order, front)?;
+    }
+    is_told(rt, machine, Client::order(message.as_slice()), told.as_str())
+}
+
+fn are_handed_over<M: Machine + Drop>(rt: &(impl Abort + AllocGlobal)) -> Result<(), Fail> {
+    let machine: M = play_acts(rt, BEGUN)?;
+    let machine = are_refused(rt, machine)?;
+    let machine = are_none(rt, machine)?;
+    come_among_clients(rt, machine)?;
+    let machine: M = play_acts(rt, BEGUN)?;
+    follow_scripts(rt, machine)?;
+    let machine: M = play_acts(rt, BEGUN)?;
+    break_at_each_byte(rt, machine)?;
+    Ok(())
+}
+
+#[test]
+fn orders_are_handed_over(rt: HostRuntime) -> Result<(), Fail> {
+    are_handed_over::<Disks>(&rt)
+}
