@@ -8,6 +8,7 @@ pub mod TellingLemmas
 pub mod CourseLemmas
 pub mod StageLemmas
 pub mod KeptLemmas
+pub mod OpenLemmas
 pub mod ScriptLemmas
 pub mod ScriptEnds
 pub mod CopyingLemmas

@@ -9,7 +9,9 @@ use Rattle.gathering.specs.Lines.{HasTaken, Line}
 use Rattle.gathering.specs.Clients.{IsOf, IsServedSo, IsTold}
 use Rattle.gathering.specs.declared.client.Answer.{Answer}
 use Rattle.gathering.specs.declared.client.Client.{Client}
+use Rattle.gathering.specs.declared.client.Comer.{Comer}
 use Rattle.hall.specs.Guests.{AreIn, Guest, HadFor, IsGathered, Stands, WentSo, WentSoWithAll, visits_of}
+use Rattle.hall.specs.Terms.{Given}
 use Rattle.hall.specs.Turns.{answer_of}
 use Rattle.hall.specs.Visits.{Visit}
 
@@ -34,25 +36,25 @@ pub first_under : (number : ℕ) (visits : List Visit) (visit : Visit) → visit
 first_under number visits visit none is =
     filter-append (λ (v : Visit). v.number == number) visits (visit ∷ []) ∙ ap (λ (vs : List Visit). vs ++ visits_of number (visit ∷ [])) none ∙ one_under number visit is
 
-module _ {L : Type 0} (given : Option (List ℕ)) (line : Line L) where
+module _ {L : Type 0} (given : Given) (line : Line L) where
   -- ---- one client
 
   -- how it went with him so far, by what was gathered of him and his answer
-  pub went_so : (came now : L) (got : List ℕ) (answer : Option Answer) (his : List Visit) → IsServedSo line came now got answer → HadFor (option_map (λ (a : Answer). a.bytes.items) answer) his
-      → ((visit : Visit) → his ≡ visit ∷ [] → IsGathered given line came visit.got) → WentSo given line (record { came = came; last = now }) his
+  pub went_so : (came : Comer L) (now : L) (got : List ℕ) (answer : Option Answer) (his : List Visit) → IsServedSo line came.line now got answer → HadFor (option_map (λ (a : Answer). a.bytes.items) answer) his
+      → ((visit : Visit) → his ≡ visit ∷ [] → IsGathered given line came visit) → WentSo given line (record { came = came; last = now }) his
   went_so came now got None his own had gathered = subst (λ (vs : List Visit). WentSo given line (record { came = came; last = now }) vs) (sym had) own.untold
   went_so came now got (Some answer) his own (visit, is, same) gathered =
       subst (λ (vs : List Visit). WentSo given line (record { came = came; last = now }) vs) (sym is)
       (gathered visit is, (answer.sent, subst (λ (bytes : List ℕ). IsTold line now bytes answer.sent) (sym same) own))
 
-  pub gathered_for : (guest : Guest L) (his : List Visit) (visit : Visit) → WentSo given line guest his → his ≡ visit ∷ [] → IsGathered given line guest.came visit.got
+  pub gathered_for : (guest : Guest L) (his : List Visit) (visit : Visit) → WentSo given line guest his → his ≡ visit ∷ [] → IsGathered given line guest.came visit
   gathered_for guest his visit went is = let it = subst (λ (vs : List Visit). WentSo given line guest vs) is went in it.0
 
   -- he is as he was, whatever visits others had
   stands_still : (visits more : List Visit) (guest : Guest L) (client : Client L) → All (λ (v : Visit). v.number ≡ client.number → ⊥) more → Stands line visits guest client
       → Stands line (visits ++ more) guest client
   stands_still visits more guest client others it =
-      record { last = it.last; own = it.own; his = subst (HadFor (answer_of client)) (sym (same_under client.number visits more others)) it.his }
+      record { door = it.door; last = it.last; own = it.own; his = subst (HadFor (answer_of client)) (sym (same_under client.number visits more others)) it.his }
 
   -- ---- one went on
 
@@ -91,7 +93,7 @@ module _ {L : Type 0} (given : Option (List ℕ)) (line : Line L) where
 
     -- who he is, of those who came
     abbrev pub his_guest : Guest L
-    his_guest = get_or guests old.number (record { came = old.line; last = old.line })
+    his_guest = get_or guests old.number (record { came = record { door = old.door; line = old.line }; last = old.line })
 
     -- all who came, with his line as it is now
     abbrev pub all_now : List (Guest L)
@@ -108,9 +110,9 @@ module _ {L : Type 0} (given : Option (List ℕ)) (line : Line L) where
 
     pub all_came : map (λ (g : Guest L). g.came) all_now ≡ map (λ (g : Guest L). g.came) guests
     all_came =
-        let came_at = get_or-map (λ (g : Guest L). g.came) guests old.number (record { came = old.line; last = old.line }) old.line low in
+        let came_at = get_or-map (λ (g : Guest L). g.came) guests old.number (record { came = record { door = old.door; line = old.line }; last = old.line }) (record { door = old.door; line = old.line }) low in
         map-set (λ (g : Guest L). g.came) guests old.number (record { came = his_guest.came; last = new.line })
-        ∙ ap (λ (l : L). set (map (λ (g : Guest L). g.came) guests) old.number l) (sym came_at) ∙ set-get_or (map (λ (g : Guest L). g.came) guests) old.number old.line
+        ∙ ap (λ (c : Comer L). set (map (λ (g : Guest L). g.came) guests) old.number c) (sym came_at) ∙ set-get_or (map (λ (g : Guest L). g.came) guests) old.number (record { door = old.door; line = old.line })
 
     -- how it went with all of them, where it went so with him
     pub went_still : WentSoWithAll given line guests visits → WentSo given line (record { came = his_guest.came; last = new.line }) (visits_of old.number (visits ++ more))
@@ -165,14 +167,14 @@ module _ {L : Type 0} (given : Option (List ℕ)) (line : Line L) where
 
   -- one went on: all who came are there as before, and those who are in
   pub one_went_on : (guests : List (Guest L)) (visits more : List Visit) (came : ℕ) (clients : List (Client L)) (place : ℕ) (old new : Client L) → AreIn given line guests visits came clients
-      → place < length clients → old ≡ get_or clients place old → new.number ≡ old.number → All (λ (v : Visit). v.number ≡ old.number) more
+      → place < length clients → old ≡ get_or clients place old → new.door ≡ old.door → new.number ≡ old.number → All (λ (v : Visit). v.number ≡ old.number) more
       → ((guest : Guest L) → Stands line visits guest old → WentSo given line guest (visits_of old.number visits)
-      → IsOf line guest.came new × HadFor (answer_of new) (visits_of old.number (visits ++ more))
-      × ((visit : Visit) → visits_of old.number (visits ++ more) ≡ visit ∷ [] → IsGathered given line guest.came visit.got))
+      → IsOf line guest.came.line new × HadFor (answer_of new) (visits_of old.number (visits ++ more))
+      × ((visit : Visit) → visits_of old.number (visits ++ more) ≡ visit ∷ [] → IsGathered given line guest.came visit))
       → (all : List (Guest L)) × (map (λ (g : Guest L). g.came) all ≡ map (λ (g : Guest L). g.came) guests) × AreIn given line all (visits ++ more) came (set clients place new)
-  one_went_on guests visits more came clients place old new are within is number mine goes =
+  one_went_on guests visits more came clients place old new are within is door number mine goes =
       let here = get_or_read clients place old within is in
-      let some_guest : Guest L = record { came = old.line; last = old.line } in
+      let some_guest : Guest L = record { came = record { door = old.door; line = old.line }; last = old.line } in
       let less : old.number < length guests = subst (λ (c : Client L). c.number < length guests) (sym (here old)) (are.known place old within) in
       let guest = get_or guests old.number some_guest in
       let stood : Stands line visits guest old =
@@ -181,7 +183,7 @@ module _ {L : Type 0} (given : Option (List ℕ)) (line : Line L) where
       let his : WentSo given line (record { came = guest.came; last = new.line }) (visits_of old.number (visits ++ more)) =
           went_so guest.came new.line new.got.items new.answer (visits_of old.number (visits ++ more)) own had gathered in
       let stands : Stands line (visits ++ more) (record { came = guest.came; last = new.line }) new =
-          record { last = refl; own = own; his = subst (λ (n : ℕ). HadFor (answer_of new) (visits_of n (visits ++ more))) (sym number) had } in
+          record { door = door ∙ stood.door; last = refl; own = own; his = subst (λ (n : ℕ). HadFor (answer_of new) (visits_of n (visits ++ more))) (sym number) had } in
       (
         all_now guests visits more clients place old new within is number are.apart are.known mine,
         all_came guests visits more clients place old new within is number are.apart are.known mine,
@@ -196,14 +198,14 @@ module _ {L : Type 0} (given : Option (List ℕ)) (line : Line L) where
 
   -- ---- one came in
 
-  abbrev pub with_one : List (Guest L) → L → List (Guest L)
-  with_one guests start = guests ++ record { came = start; last = start } ∷ []
+  abbrev pub with_one : List (Guest L) → Comer L → List (Guest L)
+  with_one guests start = guests ++ record { came = start; last = start.line } ∷ []
 
-  one_longer : (guests : List (Guest L)) (start : L) → length (with_one guests start) ≡ length guests + 1
-  one_longer guests start = length_push guests (record { came = start; last = start })
+  one_longer : (guests : List (Guest L)) (start : Comer L) → length (with_one guests start) ≡ length guests + 1
+  one_longer guests start = length_push guests (record { came = start; last = start.line })
 
   -- whoever comes has had no turn, and was told nothing
-  came_in : (guests : List (Guest L)) (visits : List Visit) (start : L) → WentSoWithAll given line guests visits → HasTaken (line.taken start) []
+  came_in : (guests : List (Guest L)) (visits : List Visit) (start : Comer L) → WentSoWithAll given line guests visits → HasTaken (line.taken start.line) []
       → WentSoWithAll given line (with_one guests start) visits
   came_in guests visits start went fresh = record {
     each = λ k d lt. by k d lt (cases_eq k (length guests));
@@ -213,26 +215,26 @@ module _ {L : Type 0} (given : Option (List ℕ)) (line : Line L) where
       by : (k : ℕ) (d : Guest L) → k < length (with_one guests start) → (k ≡ length guests) ⊎ (k ≡ length guests → ⊥) → WentSo given line (get_or (with_one guests start) k d) (visits_of k visits)
       by k d lt (inl e) =
           let none = none_under k visits (All-weaker (λ (v : Visit). v.number < length guests) (λ (v : Visit). v.number ≡ k → ⊥) (λ v less same. omega (arith, less, same, e)) visits went.known) in
-          subst (λ (g : Guest L). WentSo given line g (visits_of k visits)) (sym (get_or_push guests (record { came = start; last = start }) d k (sym e)))
-          (subst (λ (vs : List Visit). WentSo given line (record { came = start; last = start }) vs) (sym none) fresh)
+          subst (λ (g : Guest L). WentSo given line g (visits_of k visits)) (sym (get_or_push guests (record { came = start; last = start.line }) d k (sym e)))
+          (subst (λ (vs : List Visit). WentSo given line (record { came = start; last = start.line }) vs) (sym none) fresh)
       by k d lt (inr ne) =
           let less : k < length guests = omega (arith, lt, ne, one_longer guests start) in
-          subst (λ (g : Guest L). WentSo given line g (visits_of k visits)) (sym (get_or_append_left guests (record { came = start; last = start } ∷ []) d k less)) (went.each k d less)
+          subst (λ (g : Guest L). WentSo given line g (visits_of k visits)) (sym (get_or_append_left guests (record { came = start; last = start.line } ∷ []) d k less)) (went.each k d less)
 
-  known_on : (guests : List (Guest L)) (start : L) (clients : List (Client L)) → All (λ (c : Client L). c.number < length guests) clients
+  known_on : (guests : List (Guest L)) (start : Comer L) (clients : List (Client L)) → All (λ (c : Client L). c.number < length guests) clients
       → All (λ (c : Client L). c.number < length (with_one guests start)) clients
   known_on guests start clients known =
       All-weaker (λ (c : Client L). c.number < length guests) (λ (c : Client L). c.number < length (with_one guests start)) (λ c less. omega (arith, less, one_longer guests start)) clients known
 
-  stand_on : (guests : List (Guest L)) (start : L) (visits : List Visit) (clients : List (Client L)) → All (λ (c : Client L). c.number < length guests) clients
+  stand_on : (guests : List (Guest L)) (start : Comer L) (visits : List Visit) (clients : List (Client L)) → All (λ (c : Client L). c.number < length guests) clients
       → All (λ (c : Client L). (guest : Guest L) → Stands line visits (get_or guests c.number guest) c) clients
       → All (λ (c : Client L). (guest : Guest L) → Stands line visits (get_or (with_one guests start) c.number guest) c) clients
   stand_on guests start visits clients known stand = λ k d lt guest.
       subst (λ (g : Guest L). Stands line visits g (get_or clients k d))
-      (sym (get_or_append_left guests (record { came = start; last = start } ∷ []) guest (get_or clients k d).number (known k d lt))) (stand k d lt guest)
+      (sym (get_or_append_left guests (record { came = start; last = start.line } ∷ []) guest (get_or clients k d).number (known k d lt))) (stand k d lt guest)
 
   -- he came, and was let go at once
-  pub one_came : (guests : List (Guest L)) (visits : List Visit) (came : ℕ) (clients : List (Client L)) (start : L) → AreIn given line guests visits came clients → HasTaken (line.taken start) []
+  pub one_came : (guests : List (Guest L)) (visits : List Visit) (came : ℕ) (clients : List (Client L)) (start : Comer L) → AreIn given line guests visits came clients → HasTaken (line.taken start.line) []
       → AreIn given line (with_one guests start) visits (came + 1) clients
   one_came guests visits came clients start are fresh = record {
     count = omega (arith, one_longer guests start, are.count);
@@ -243,10 +245,10 @@ module _ {L : Type 0} (given : Option (List ℕ)) (line : Line L) where
   }
 
   -- he came in
-  pub one_entered : (guests : List (Guest L)) (visits : List Visit) (came : ℕ) (clients : List (Client L)) (start : L) (client : Client L) → AreIn given line guests visits came clients
-      → HasTaken (line.taken start) [] → client.line ≡ start → client.number ≡ came → client.answer ≡ None → IsOf line start client
+  pub one_entered : (guests : List (Guest L)) (visits : List Visit) (came : ℕ) (clients : List (Client L)) (start : Comer L) (client : Client L) → AreIn given line guests visits came clients
+      → HasTaken (line.taken start.line) [] → client.door ≡ start.door → client.line ≡ start.line → client.number ≡ came → client.answer ≡ None → IsOf line start.line client
       → AreIn given line (with_one guests start) visits (came + 1) (clients ++ client ∷ [])
-  one_entered guests visits came clients start client are fresh over number unanswered own =
+  one_entered guests visits came clients start client are fresh door over number unanswered own =
       let at : client.number ≡ length guests = number ∙ sym are.count in
       let none : visits_of client.number visits ≡ [] =
           none_under client.number visits (All-weaker (λ (v : Visit). v.number < length guests) (λ (v : Visit). v.number ≡ client.number → ⊥) (λ v less same. omega (arith, less, same, at)) visits are.went.known) in
@@ -258,7 +260,7 @@ module _ {L : Type 0} (given : Option (List ℕ)) (line : Line L) where
         apart = all_pairs_push (λ (a b : Client L). a.number < b.number) clients client are.apart (λ k d lt. let less = are.known k d lt in omega (arith, less, at));
         known = All-push (λ (c : Client L). c.number < length (with_one guests start)) clients client (known_on guests start clients are.known) (omega (arith, at, one_longer guests start));
         stand = All-push (λ (c : Client L). (g : Guest L) → Stands line visits (get_or (with_one guests start) c.number g) c) clients client (stand_on guests start visits clients are.known are.stand)
-            (λ g. subst (λ (x : Guest L). Stands line visits x client) (sym (get_or_push guests (record { came = start; last = start }) g client.number (sym at))) (record { last = sym over; own = own; his = had }));
+            (λ g. subst (λ (x : Guest L). Stands line visits x client) (sym (get_or_push guests (record { came = start; last = start.line }) g client.number (sym at))) (record { door = door; last = sym over; own = own; his = had }));
       }
 
   -- ---- one left

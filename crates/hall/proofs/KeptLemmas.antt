@@ -1,5 +1,5 @@
--- What clients who have their turns one after the other leave of an office.
-use Rattle.std.proofs.Common.{◌≡◌, ◌≤◌, ◌+◌, ◌∙◌, ◌⊎◌, ◌∷◌, ◌++◌, append_assoc, true, ℕ, Bool, List, [], Option, Some}
+-- What clients and orders who have their turns one after the other leave of an office.
+use Rattle.std.proofs.Common.{◌≡◌, ◌≤◌, ◌+◌, ◌∙◌, ◌⊎◌, ◌∷◌, ◌++◌, append_assoc, drop, true, ℕ, Bool, List, [], Option, Some}
 use Rattle.std.proofs.Common.{arith, inl, inr, length, length-append, refl, sym, subst, suc, take, ap}
 use Rattle.std.specs.Prelude.{false}
 use Rattle.std.specs.List.{FoldsTo}
@@ -12,14 +12,26 @@ use Rattle.register.specs.declared.command.Request.{Request}
 use Rattle.tables.specs.declared.fault.Fault.{Fault}
 use Rattle.tables.specs.declared.fault.Fault.TheVariants.{Memory}
 use Rattle.store.specs.Offices.{IsAt, LeavesState}
-use Rattle.office.specs.Answers.{IsOpenAt, told_of}
+use Rattle.office.specs.Answers.{IsOpenAt, IsReadAt, told_of}
 use Rattle.office.specs.Values.{OfficeValue}
 use Rattle.office.proofs.RunLemmas.{beginning}
 use Rattle.wire.specs.Asking.{AskedEntry, Asks, denied, keying, reading}
 use Rattle.wire.specs.Responses.{ResponseEntry}
 use Rattle.wire.specs.Serving.{FaultLeaves, IsAnswered, ReadiesFor, TellsFault, TellsFor, told_response}
 use Rattle.wire.specs.Told.{IsTold}
-use Rattle.hall.specs.Visits.{AnswersInTurn, AreTurnedAway, EndsSo, IsKeptOf, IsLastFor, ServesVisit, Visit}
+use Rattle.gathering.specs.declared.client.Door.{Door}
+use Rattle.gathering.specs.declared.client.Door.TheVariants.{Clients, Orders}
+use Rattle.handover.specs.Spelling.{PieceEntry}
+use Rattle.desk.specs.Folders.{Folder}
+use Rattle.desk.specs.Headline.{Course}
+use Rattle.desk.specs.Pages.{Cut, Page}
+use Rattle.desk.proofs.KeptLemmas.{kept_done}
+use Rattle.desk.proofs.OpenLemmas.{after_next, open_done}
+use Rattle.hall.specs.Handings.{ComesOf, FollowsOrder, IsFramed, TellsAsked, TellsOrder, TellsSo, folder_of}
+use Rattle.hall.specs.Terms.{Given}
+use Rattle.hall.specs.Visits.{AnswersInTurn, AreTurnedAway, EndsSo, IsAnsweredAt, IsKeptOf, IsLastFor, IsStoppedAt, IsToldClosed, ServesAt, ServesClient, ServesVisit, Visit}
+use Rattle.hall.specs.declared.handing.Asked.{Asked}
+use Rattle.hall.specs.declared.handing.Asked.TheVariants as asked
 
 -- after some of the requests: those that were answered, and at most one more
 abbrev pub IsAfterSome : OfficeState → List Request → ℕ → OfficeState → Type 0
@@ -104,21 +116,99 @@ client_leaves given s visit closed st (served, it) = elim (ready_leaves given vi
   | inr (last, fails, is_last, closes) ↦ inr (last, (served, record { response = it.response; ready = fails; put = it.put }), is_last, closes)
 ]
 
--- ---- all clients
+-- ---- one order in an open office
 
-module _ {S : Type 0} (given : Option (List ℕ)) (state_of : Held S → State) where
+-- what an order that was followed leaves: the office is open at the state after what was answered; or it is closed, and a stop leaves that, or the state after
+-- the next one
+abbrev OrderLeaves : Folder → OfficeState → Asked → Cut → Page → Bool → State → Type 0
+OrderLeaves folder s what cut page closed st =
+    ((sent : List Request) × (last : List Request) × TellsSo folder s what cut page sent last × IsOpenAt (after s sent) closed st)
+    ⊎ ((sent : List Request) × (last : List Request) × TellsSo folder s what cut page sent last × (closed ≡ true) × LeavesState st (IsAfterSome s (sent ++ last) (length sent)))
+
+-- nothing was sent, and the office is open at its state, or its store failed
+none_sent : (folder : Folder) (s : OfficeState) (what : Asked) (cut : Cut) (page : Page) (closed : Bool) (st : State) → TellsSo folder s what cut page [] [] → IsReadAt s closed st
+    → OrderLeaves folder s what cut page closed st
+none_sent folder s what cut page closed st tells (inl open_at) = inl ([], [], tells, open_at)
+none_sent folder s what cut page closed st tells (inr (is_closed, leaves)) = inr ([], [], tells, is_closed, leaves_as st _ _ (before_last s []) leaves)
+
+-- a job was done
+job_leaves : (old : State) (closed was : Bool) (st : State) → closed ≡ was → (folder : Folder) (s : OfficeState) (job : _) (cut : Cut) (page : Page) → ComesOf old closed st folder s (asked.Do job) cut page
+    → OrderLeaves folder s (asked.Do job) cut page closed st
+job_leaves old closed was st is folder s job cut page (requests, answered, done) = go was is
+  where
+    course : Course
+    abbrev course = record { requests = requests; answered = answered; page = page; cut = cut }
+
+    sent : List Request
+    abbrev sent = take answered requests
+
+    last : List Request
+    abbrev last = take 1 (drop answered requests)
+
+    tells : TellsSo folder s (asked.Do job) cut page sent last
+    tells = (old, closed, st, requests, answered, done, (refl, refl))
+
+    go : (b : Bool) → closed ≡ b → OrderLeaves folder s (asked.Do job) cut page closed st
+    go false is_open = inl (sent, last, tells, open_done old closed st folder s job course done is_open)
+    go true is_closed =
+        let kept = kept_done old closed st folder s job course done in
+        inr (sent, last, tells, is_closed, leaves_as st _ _ (λ x some. after_next s course x kept.within some) kept.leaves)
+
+order_leaves : (old : State) (closed : Bool) (st : State) (folder : Folder) (s : OfficeState) (what : Asked) (cut : Cut) (page : Page) → ComesOf old closed st folder s what cut page
+    → OrderLeaves folder s what cut page closed st
+order_leaves old closed st folder s (asked.Do job) cut page it = job_leaves old closed closed st refl folder s job cut page it
+order_leaves old closed st folder s (asked.Copy path) cut page it = none_sent folder s (asked.Copy path) cut page closed st (it.0, refl, refl) it.1
+order_leaves old closed st folder s asked.Journal cut page it = none_sent folder s asked.Journal cut page closed st (it.0, refl, refl) it.1
+order_leaves old closed st folder s (asked.Refused failure) cut page it = none_sent folder s (asked.Refused failure) cut page closed st (it.0, refl, refl) (inl it.1)
+order_leaves old closed st folder s (asked.Misread fault) cut page it = none_sent folder s (asked.Misread fault) cut page closed st (it.0, refl, refl) (inl it.1)
+
+-- ---- one after the other
+
+-- what one who had his turn leaves: what was answered for him, and the office open behind it; or a fault closed it
+abbrev TurnLeaves : Door → Given → OfficeState → Visit → Bool → State → Type 0
+TurnLeaves door given s visit closed st =
+    ((sent : List Request) × IsAnsweredAt door given s visit sent × IsOpenAt (after s sent) closed st)
+    ⊎ ((answered : List Request) × (last : List Request) × IsStoppedAt door given s visit answered last × (closed ≡ true) × LeavesState st (IsAfterSome s (answered ++ last) (length answered)))
+
+module _ {S : Type 0} (given : Given) (state_of : Held S → State) where
+  clean_at : (door : Door) (visit : Visit) (old new : OfficeValue S) → ServesAt door given state_of old visit new → HasCleanDisk (state_of new.held) → HasCleanDisk (state_of old.held)
+  clean_at Clients visit old new it clean = it.clean clean
+  clean_at Orders visit old new it clean = it.tells.clean clean
+
+  away_at : (door : Door) (visit : Visit) (old new : OfficeValue S) → ServesAt door given state_of old visit new → old.closed ≡ true → IsToldClosed door given visit × (new ≡ old)
+  away_at Clients visit old new it closed = it.turned_away closed
+  away_at Orders visit old new it closed =
+      let (page, stays) = it.tells.turned_away closed in
+      (record { files = it.files; asked = it.asked; is = it.is; cut = it.tells.cut; told = subst (λ (p : Page). IsFramed it.tells.cut p visit.answer) page it.tells.told }, stays)
+
+  turn_leaves : (door : Door) (s : OfficeState) (visit : Visit) (old new : OfficeValue S) → ServesAt door given state_of old visit new → HasCleanDisk (state_of new.held) → old.closed ≡ false
+      → IsAt s (state_of old.held) → TurnLeaves door given s visit new.closed (state_of new.held)
+  turn_leaves Clients s visit old new it clean is_open at =
+      elim (client_leaves given.origin s visit new.closed (state_of new.held) (it.serves clean is_open s at)) [
+        | inl answered ↦ inl answered
+        | inr (last, ends, is_last, (is_closed, leaves)) ↦ inr ([], last, (ends, refl, is_last), is_closed, leaves)
+      ]
+  turn_leaves Orders s visit old new it clean is_open at =
+      let told = it.tells in
+      let tells : (sent last : List Request) → TellsSo (folder_of it.files) s it.asked told.cut told.page sent last → TellsOrder given.file s visit.got visit.answer sent last =
+          λ sent last so. record { files = it.files; asked = it.asked; is = it.is; cut = told.cut; page = told.page; told = told.told; tells = so } in
+      elim (order_leaves (state_of old.held) new.closed (state_of new.held) (folder_of it.files) s it.asked told.cut told.page (told.does clean is_open s at)) [
+        | inl (sent, last, so, open_at) ↦ inl (sent, (last, tells sent last so), open_at)
+        | inr (sent, last, so, is_closed, leaves) ↦ inr (sent, last, tells sent last so, is_closed, leaves)
+      ]
+
   pub cleans : (visits : List Visit) (old new : OfficeValue S) → FoldsTo (ServesVisit given state_of) old visits new → HasCleanDisk (state_of new.held) → HasCleanDisk (state_of old.held)
   cleans [] old new same clean = subst (λ (o : OfficeValue S). HasCleanDisk (state_of o.held)) (sym same) clean
-  cleans (visit ∷ visits) old new (mid, step, rest) clean = step.clean (cleans visits mid new rest clean)
+  cleans (visit ∷ visits) old new (mid, step, rest) clean = clean_at visit.door visit old mid step (cleans visits mid new rest clean)
 
   pub turned_away : (visits : List Visit) (old new : OfficeValue S) → FoldsTo (ServesVisit given state_of) old visits new → old.closed ≡ true → AreTurnedAway given visits × (new ≡ old)
   turned_away [] old new same closed = (tt, sym same)
   turned_away (visit ∷ visits) old new (mid, step, rest) closed =
-      let (away, stays) = step.turned_away closed in
+      let (away, stays) = away_at visit.door visit old mid step closed in
       let others = turned_away visits mid new rest (ap (λ (o : OfficeValue S). o.closed) stays ∙ closed) in
       ((away, others.0), others.1 ∙ stays)
 
-  -- what is kept of clients who have their turns from a state on
+  -- what is kept of those who have their turns from a state on
   pub record Keeps (s : OfficeState) (visits : List Visit) (closed : Bool) (st : State) : Type 0 where
     pub answered : List Request
     pub last : List Request
@@ -132,7 +222,7 @@ module _ {S : Type 0} (given : Option (List ℕ)) (state_of : Held S → State) 
       let more = behind (after_one s r) sent rest n x it in
       (suc more.0, omega (arith, more.1), omega (arith, more.2), omega (arith, more.3), more.4)
 
-  -- a client was answered, and the others go on behind him
+  -- one was answered, and the others go on behind him
   goes_on : (s : OfficeState) (sent : List Request) (visit : Visit) (visits : List Visit) (closed : Bool) (st : State) → (others : Keeps (after s sent) visits closed st)
       → AnswersInTurn given s (visit ∷ visits) (sent ++ others.answered) others.last → Keeps s (visit ∷ visits) closed st
   goes_on s sent visit visits closed st others in_turn = record {
@@ -168,14 +258,14 @@ module _ {S : Type 0} (given : Option (List ℕ)) (state_of : Held S → State) 
         leaves = leaves_as (state_of old.held) _ _ (before_last s []) at.leaves;
       })
   keeps s (visit ∷ visits) old new (mid, step, rest) clean is_open at =
-      elim (client_leaves given s visit mid.closed (state_of mid.held) (step.serves (cleans visits mid new rest clean) is_open s at)) [
-        | inl (sent, ends, open_at) ↦
+      elim (turn_leaves visit.door s visit old mid step (cleans visits mid new rest clean) is_open at) [
+        | inl (sent, told, open_at) ↦
             let others = keeps (after s sent) visits mid new rest clean open_at.is_open open_at.at in
-            goes_on s sent visit visits new.closed (state_of new.held) others (inl (sent, others.answered, ends, refl, others.in_turn))
-        | inr (last, ends, is_last, (is_closed, leaves)) ↦
+            goes_on s sent visit visits new.closed (state_of new.held) others (inl (sent, others.answered, told, refl, others.in_turn))
+        | inr (answered, last, stopped, is_closed, leaves) ↦
             let away = turned_away visits mid new rest is_closed in
             subst (λ (o : OfficeValue S). Keeps s (visit ∷ visits) o.closed (state_of o.held)) (sym away.1)
-            (shut s [] last (visit ∷ visits) mid.closed (state_of mid.held) is_closed (inr (ends, refl, is_last, away.0)) leaves)
+            (shut s answered last (visit ∷ visits) mid.closed (state_of mid.held) is_closed (inr (stopped, away.0)) leaves)
       ]
 
   -- the same after earlier requests

@@ -15,8 +15,11 @@ use Rattle.gathering.specs.Clients.{IsHeard, IsOf, IsServedSo, IsTold}
 use Rattle.gathering.specs.declared.client.Answer.{Answer}
 use Rattle.gathering.specs.declared.client.Client.{Client}
 use Rattle.gathering.proofs.LineLemmas.{heard_more, told_more, told_none}
-use Rattle.hall.specs.Turns.{HasCome, IsSameClient, MayHaveTurn, answer_of}
-use Rattle.hall.specs.Visits.{EndsSo, ServesVisit, Visit}
+use Rattle.gathering.specs.declared.client.Door.{Door}
+use Rattle.gathering.specs.declared.client.Door.TheVariants.{Clients, Orders}
+use Rattle.hall.specs.Terms.{Given}
+use Rattle.hall.specs.Turns.{HasComeAt, IsSameClient, MayHaveTurn, answer_of}
+use Rattle.hall.specs.Visits.{EndsSo, ServesClient, ServesVisit, Visit}
 
 pub none_from : {X : Type 0} (found : Option X) → is_some found ≡ false → found ≡ None
 none_from None is = refl
@@ -44,13 +47,13 @@ pub visit_served : {S : Type 0} (given : Option (List ℕ)) (state_of : Held S �
     → (HasCleanDisk (state_of new.held) → old.closed ≡ false → (s : OfficeState) → IsAt s (state_of old.held)
     → Serves given (Some held) (Some before) (Some after) s served new.closed (state_of new.held))
     → (old.closed ≡ true → ServesClosed given (Some held) (Some before) (Some after) served) → (old.closed ≡ true → new ≡ old)
-    → (HasCleanDisk (state_of new.held) → HasCleanDisk (state_of old.held)) → ServesVisit given state_of old (record { number = number; got = got; answer = answer }) new
+    → (HasCleanDisk (state_of new.held) → HasCleanDisk (state_of old.held)) → ServesClient given state_of old (record { door = Clients; number = number; got = got; answer = answer }) new
 visit_served given state_of old new number held got before after answer served failed is_got is_before is_answer never read serves away stays clean = record {
   serves = λ clean is_open s at.
-      ends_so (λ response. ReadiesFor given (Some got) s response new.closed (state_of new.held)) (IsOpenAt s new.closed (state_of new.held)) (record { number = number; got = got; answer = answer }) served failed never read
+      ends_so (λ response. ReadiesFor given (Some got) s response new.closed (state_of new.held)) (IsOpenAt s new.closed (state_of new.held)) (record { door = Clients; number = number; got = got; answer = answer }) served failed never read
       (these (λ g b a. Serves given (Some g) (Some b) (Some a) s served new.closed (state_of new.held)) (serves clean is_open s at));
   turned_away = λ was. (
-    ends_so (ReadiesClosed given (Some got)) (Some answer ≡ Some []) (record { number = number; got = got; answer = answer }) served failed never read (these (λ g b a. ServesClosed given (Some g) (Some b) (Some a) served) (away was)),
+    ends_so (ReadiesClosed given (Some got)) (Some answer ≡ Some []) (record { door = Clients; number = number; got = got; answer = answer }) served failed never read (these (λ g b a. ServesClosed given (Some g) (Some b) (Some a) served) (away was)),
     stays was,
   );
   clean = clean;
@@ -81,17 +84,18 @@ module _ {L : Type 0} (line : Line L) where
       subst (λ (bytes : List ℕ). IsTold line now bytes told.sent) (sym same) (told_more line old now answer.bytes.items answer.sent told.sent his delivers)
 
   -- he has his turn, of whom all was heard
-  pub has_turn : {S : Type 0} (given : Option (List ℕ)) (state_of : Held S → State) (old mid new : Client L) (before later : OfficeValue S) → old.answer ≡ None
-      → Gathers line old.line mid.line old.got.items mid.got.items → mid.number ≡ old.number → HasCome given (line.held mid.line) mid.got.items
-      → (visit : Visit) × (visit.number ≡ mid.number) × (visit.got ≡ mid.got.items) × ServesVisit given state_of before visit later × (answer_of new ≡ Some visit.answer)
+  pub has_turn : {S : Type 0} (given : Given) (state_of : Held S → State) (old mid new : Client L) (before later : OfficeValue S) → old.answer ≡ None
+      → Gathers line old.line mid.line old.got.items mid.got.items → mid.door ≡ old.door → mid.number ≡ old.number → HasComeAt old.door given (line.held mid.line) mid.got.items
+      → (visit : Visit) × (visit.door ≡ mid.door) × (visit.number ≡ mid.number) × (visit.got ≡ mid.got.items) × ServesVisit given state_of before visit later × (answer_of new ≡ Some visit.answer)
       → MayHaveTurn given line state_of old new before later
-  has_turn given state_of old mid new before later none gathers number come (visit, mine, got, served, his) = inl (record {
+  has_turn given state_of old mid new before later none gathers door number come (visit, same, mine, got, served, his) = inl (record {
     visit = visit;
+    door = same ∙ door;
     number = mine ∙ number;
     unanswered = none;
     heard = mid.line;
     own = subst (λ (bytes : List ℕ). Gathers line old.line mid.line old.got.items bytes) (sym got) gathers;
-    come = subst (λ (bytes : List ℕ). HasCome given (line.held mid.line) bytes) (sym got) come;
+    come = subst (λ (bytes : List ℕ). HasComeAt old.door given (line.held mid.line) bytes) (sym got) come;
     served = served;
     his = his;
   })

@@ -77,6 +77,7 @@ fn go_on_at<L: Line + Drop, C: Clock, A: Aside, S: Alter>(
     requires sound { IsSound (given_in terms.entry) (line_of L.held L.taken) room.old }
     ensures goes_on { (let_in : Option (List (Comer L))) → GoesOnServing (given_in terms.entry) (line_of L.held L.taken) (state S.Store) let_in let_in room.old room.new office.old office.new }
     ensures came { room.new.came ≡ room.old.came }
+    ensures counted { room.new.counted ≡ room.old.counted }
 {
     if go_on(alloc, clock, terms, aside, &mut room.clients[place], office)? {
         keep_within(room);
@@ -99,6 +100,7 @@ fn go_on_numbered<L: Line + Drop, C: Clock, A: Aside, S: Alter>(
     requires { IsSound (given_in terms.entry) (line_of L.held L.taken) room.old }
     ensures goes_on { (let_in : Option (List (Comer L))) → GoesOnServing (given_in terms.entry) (line_of L.held L.taken) (state S.Store) let_in let_in room.old room.new office.old office.new }
     ensures came { room.new.came ≡ room.old.came }
+    ensures counted { room.new.counted ≡ room.old.counted }
 {
     match place_of(room.clients.as_slice(), number) {
         Some(place) => go_on_at(alloc, clock, terms, aside, room, place, office),
@@ -119,6 +121,7 @@ fn go_on_all<D: Doors, C: Clock, A: Aside, S: Alter>(
     requires { IsSound (given_in terms.entry) (line_of D.Line.held D.Line.taken) room.old }
     ensures goes_on { GoesOnServing (given_in terms.entry) (line_of D.Line.held D.Line.taken) (state S.Store) (D.came doors.old) (D.came doors.new) room.old room.new office.old office.new }
     ensures came { room.new.came ≡ room.old.came }
+    ensures counted { room.new.counted ≡ room.old.counted }
 {
     for _ in 0..u64::MAX {
         let Some(number) = doors.next_ready() else {

@@ -156,7 +156,7 @@ fn are_refused<M: Machine + Drop>(rt: &(impl Abort + AllocGlobal), machine: M) -
         (Given::of(&["DB", "serve", "8080"]), 3, "fault 111: office is being served\n"),
         (Given::of(&["DB", "copy", "NEW"]), 3, "fault 110: copy not written\n"),
         (Given::of(&judge), 2, "bad verdict word\n"),
-        (Given::of(&["DB", "status", "8"]), 1, "refused 4: no such ward\n"),
+        (Given::of(&["DB", "status", "8"]), 1, "refused 5: no such ward\n"),
         (Given::of(SCRIPT), 3, "file fault 8 at record 0: read failed\n"),
     ] {
         machine = is_refused(rt, machine, given, status, err)?;
