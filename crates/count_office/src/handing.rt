@@ -57,10 +57,12 @@ fn bring(rt: &HostRuntime, files: &mut Vec<Brought>, path: &str) -> Result<(), A
 /// The paths that the script names which was read first.
 fn named_by(alloc: Global, files: &[Brought]) -> Result<Vec<String>, AllocError> {
     match files.first() {
-        Some(Brought {
-            bytes: Some(script),
-            ..
-        }) => files_named_in(alloc, script),
+        Some(
+            Brought {
+                bytes: Some(script),
+                ..
+            },
+        ) => files_named_in(alloc, script),
         _ => Ok(Vec::new(alloc)),
     }
 }

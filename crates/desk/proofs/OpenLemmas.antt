@@ -74,8 +74,7 @@ after_next s c x within (k, least, most, inside, is) =
     let front = length-take-le c.answered c.requests within in
     let whole = length-append (take c.answered c.requests) (take 1 (drop c.answered c.requests)) in
     let next = length-take 1 (drop c.answered c.requests) in
-    let left = length-drop c.answered c.requests in
-    (
+    let left = length-drop c.answered c.requests in (
       k,
       omega (arith, front, least),
       omega (arith, front, most),

@@ -23,13 +23,14 @@ use Rattle.gathering.specs.declared.client.Door.{Door}
 use Rattle.gathering.specs.declared.client.Door.TheVariants.{Clients, Orders}
 use Rattle.handover.specs.Spelling.{PieceEntry}
 use Rattle.desk.specs.Folders.{Folder}
-use Rattle.desk.specs.Headline.{Course}
+use Rattle.desk.specs.Headline.{Course, IsDone}
 use Rattle.desk.specs.Pages.{Cut, Page}
 use Rattle.desk.proofs.KeptLemmas.{kept_done}
 use Rattle.desk.proofs.OpenLemmas.{after_next, open_done}
 use Rattle.hall.specs.Handings.{ComesOf, FollowsOrder, IsFramed, TellsAsked, TellsOrder, TellsSo, folder_of}
 use Rattle.hall.specs.Terms.{Given}
 use Rattle.hall.specs.Visits.{AnswersInTurn, AreTurnedAway, EndsSo, IsAnsweredAt, IsKeptOf, IsLastFor, IsStoppedAt, IsToldClosed, ServesAt, ServesClient, ServesVisit, Visit}
+use Rattle.desk.specs.declared.orders.Job.{Job}
 use Rattle.hall.specs.declared.handing.Asked.{Asked}
 use Rattle.hall.specs.declared.handing.Asked.TheVariants as asked
 
@@ -132,31 +133,31 @@ none_sent folder s what cut page closed st tells (inl open_at) = inl ([], [], te
 none_sent folder s what cut page closed st tells (inr (is_closed, leaves)) = inr ([], [], tells, is_closed, leaves_as st _ _ (before_last s []) leaves)
 
 -- a job was done
-job_leaves : (old : State) (closed was : Bool) (st : State) → closed ≡ was → (folder : Folder) (s : OfficeState) (job : _) (cut : Cut) (page : Page) → ComesOf old closed st folder s (asked.Do job) cut page
+job_leaves : (old : State) (closed : Bool) (st : State) (folder : Folder) (s : OfficeState) (job : Job) (cut : Cut) (page : Page) (requests : List Request) (answered : ℕ)
+    → IsDone old closed st folder s job (record { requests = requests; answered = answered; page = page; cut = cut }) → (b : Bool) → closed ≡ b
     → OrderLeaves folder s (asked.Do job) cut page closed st
-job_leaves old closed was st is folder s job cut page (requests, answered, done) = go was is
-  where
-    course : Course
-    abbrev course = record { requests = requests; answered = answered; page = page; cut = cut }
-
-    sent : List Request
-    abbrev sent = take answered requests
-
-    last : List Request
-    abbrev last = take 1 (drop answered requests)
-
-    tells : TellsSo folder s (asked.Do job) cut page sent last
-    tells = (old, closed, st, requests, answered, done, (refl, refl))
-
-    go : (b : Bool) → closed ≡ b → OrderLeaves folder s (asked.Do job) cut page closed st
-    go false is_open = inl (sent, last, tells, open_done old closed st folder s job course done is_open)
-    go true is_closed =
-        let kept = kept_done old closed st folder s job course done in
-        inr (sent, last, tells, is_closed, leaves_as st _ _ (λ x some. after_next s course x kept.within some) kept.leaves)
+job_leaves old closed st folder s job cut page requests answered done false is_open =
+    let course : Course = record { requests = requests; answered = answered; page = page; cut = cut } in
+    inl (
+      take answered requests,
+      take 1 (drop answered requests),
+      (old, closed, st, requests, answered, done, (refl, refl)),
+      open_done old closed st folder s job course done is_open,
+    )
+job_leaves old closed st folder s job cut page requests answered done true is_closed =
+    let course : Course = record { requests = requests; answered = answered; page = page; cut = cut } in
+    let kept = kept_done old closed st folder s job course done in
+    inr (
+      take answered requests,
+      take 1 (drop answered requests),
+      (old, closed, st, requests, answered, done, (refl, refl)),
+      is_closed,
+      leaves_as st _ _ (λ x some. after_next s course x kept.within some) kept.leaves,
+    )
 
 order_leaves : (old : State) (closed : Bool) (st : State) (folder : Folder) (s : OfficeState) (what : Asked) (cut : Cut) (page : Page) → ComesOf old closed st folder s what cut page
     → OrderLeaves folder s what cut page closed st
-order_leaves old closed st folder s (asked.Do job) cut page it = job_leaves old closed closed st refl folder s job cut page it
+order_leaves old closed st folder s (asked.Do job) cut page (requests, answered, done) = job_leaves old closed st folder s job cut page requests answered done closed refl
 order_leaves old closed st folder s (asked.Copy path) cut page it = none_sent folder s (asked.Copy path) cut page closed st (it.0, refl, refl) it.1
 order_leaves old closed st folder s asked.Journal cut page it = none_sent folder s asked.Journal cut page closed st (it.0, refl, refl) it.1
 order_leaves old closed st folder s (asked.Refused failure) cut page it = none_sent folder s (asked.Refused failure) cut page closed st (it.0, refl, refl) (inl it.1)
@@ -191,7 +192,7 @@ module _ {S : Type 0} (given : Given) (state_of : Held S → State) where
   turn_leaves Orders s visit old new it clean is_open at =
       let told = it.tells in
       let tells : (sent last : List Request) → TellsSo (folder_of it.files) s it.asked told.cut told.page sent last → TellsOrder given.file s visit.got visit.answer sent last =
-          λ sent last so. record { files = it.files; asked = it.asked; is = it.is; cut = told.cut; page = told.page; told = told.told; tells = so } in
+      λ sent last so. record { files = it.files; asked = it.asked; is = it.is; cut = told.cut; page = told.page; told = told.told; tells = so } in
       elim (order_leaves (state_of old.held) new.closed (state_of new.held) (folder_of it.files) s it.asked told.cut told.page (told.does clean is_open s at)) [
         | inl (sent, last, so, open_at) ↦ inl (sent, (last, tells sent last so), open_at)
         | inr (sent, last, so, is_closed, leaves) ↦ inr (sent, last, tells sent last so, is_closed, leaves)

@@ -61,7 +61,9 @@ pub fn words_of<'b>(alloc: Global, words: &[Piece<'b>]) -> Result<Vec<&'b str>, 
 pub fn is_for_file(handed: &Handed<'_>, file: FileNumbers) -> bool
     ensures { (result ≡ true) ↔ IsForFile file (handed_entry handed.now) }
 {
-    handed.version == VERSION.as_bytes() && handed.device == file.device && handed.inode == file.inode
+    handed.version == VERSION.as_bytes()
+        && handed.device == file.device
+        && handed.inode == file.inode
 }
 
 /// What an order asks that was handed over for the file that is served. `init`, `migrate` and `serve` are told that the

@@ -18,16 +18,7 @@ const PAPERS: &[u8] = b"paper,1,2,3\n1,1,2,\n2,,,1\n";
 /// Orders that are handed over.
 const STATUS: &[&str] = &["DB", "status", "7"];
 
-const IMPORT: &[&str] = &[
-    "DB",
-    "import-keying",
-    "9",
-    "12",
-    "1",
-    "FILE",
-    "--id",
-    "k1",
-];
+const IMPORT: &[&str] = &["DB", "import-keying", "9", "12", "1", "FILE", "--id", "k1"];
 
 const SCRIPT: &[&str] = &["DB", "replay", "SCRIPT"];
 
@@ -151,13 +142,37 @@ fn are_refused<M: Machine + Drop>(rt: &(impl Abort + AllocGlobal), machine: M) -
     for (given, status, err) in [
         (older, 3, "fault 102: store\n"),
         (elsewhere, 3, "fault 102: store\n"),
-        (Given::of(&["DB", "init"]), 3, "fault 111: office is being served\n"),
-        (Given::of(&["DB", "migrate"]), 3, "fault 111: office is being served\n"),
-        (Given::of(&["DB", "serve", "8080"]), 3, "fault 111: office is being served\n"),
-        (Given::of(&["DB", "copy", "NEW"]), 3, "fault 110: copy not written\n"),
+        (
+            Given::of(&["DB", "init"]),
+            3,
+            "fault 111: office is being served\n",
+        ),
+        (
+            Given::of(&["DB", "migrate"]),
+            3,
+            "fault 111: office is being served\n",
+        ),
+        (
+            Given::of(&["DB", "serve", "8080"]),
+            3,
+            "fault 111: office is being served\n",
+        ),
+        (
+            Given::of(&["DB", "copy", "NEW"]),
+            3,
+            "fault 110: copy not written\n",
+        ),
         (Given::of(&judge), 2, "bad verdict word\n"),
-        (Given::of(&["DB", "status", "8"]), 1, "refused 5: no such ward\n"),
-        (Given::of(SCRIPT), 3, "file fault 8 at record 0: read failed\n"),
+        (
+            Given::of(&["DB", "status", "8"]),
+            1,
+            "refused 5: no such ward\n",
+        ),
+        (
+            Given::of(SCRIPT),
+            3,
+            "file fault 8 at record 0: read failed\n",
+        ),
     ] {
         machine = is_refused(rt, machine, given, status, err)?;
     }
@@ -168,7 +183,12 @@ fn are_refused<M: Machine + Drop>(rt: &(impl Abort + AllocGlobal), machine: M) -
 /// told what a file is told that another program holds.
 fn are_none<M: Machine + Drop>(rt: &(impl Abort + AllocGlobal), machine: M) -> Result<M, Fail> {
     let told = frames(rt.alloc(), &[], 3, "fault 102: store\n")?;
-    let machine = is_told(rt, machine, Client::order(b"\0\0\0\0\0\0\0\x03abc"), told.as_str())?;
+    let machine = is_told(
+        rt,
+        machine,
+        Client::order(b"\0\0\0\0\0\0\0\x03abc"),
+        told.as_str(),
+    )?;
     let machine = is_told(rt, machine, Client::order(b"\0\0\0\0\x7f\0\0\0abc"), "")?;
     let early = Client {
         ends: true,
@@ -190,7 +210,8 @@ fn come_among_clients<M: Machine + Drop>(
         ..Given::of(IMPORT)
     };
     let import = import.message(alloc)?;
-    let before = "ward 7 keying: 3 candidates, 1 batches, 0 taken, 0 differing, 0 doubtful open, 0 stages";
+    let before =
+        "ward 7 keying: 3 candidates, 1 batches, 0 taken, 0 differing, 0 doubtful open, 0 stages";
     let told = frames(alloc, &[before, "\n"], 0, "")?;
     let keyed = frames(alloc, IMPORTED, 0, "")?;
     let comers = [
@@ -224,13 +245,13 @@ fn follow_scripts<M: Machine + Drop>(
         ..Given::of(SCRIPT)
     };
     let message = given.message(rt.alloc())?;
-    let told = frames(
-        rt.alloc(),
-        IMPORTED,
-        1,
-        "line 2: refused 9: wrong phase\n",
-    )?;
-    is_told(rt, machine, Client::order(message.as_slice()), told.as_str())
+    let told = frames(rt.alloc(), IMPORTED, 1, "line 2: refused 9: wrong phase\n")?;
+    is_told(
+        rt,
+        machine,
+        Client::order(message.as_slice()),
+        told.as_str(),
+    )
 }
 
 /// The line of an order breaks at each byte that it takes. Its keying is kept from the first of them on, and told again.
@@ -253,7 +274,12 @@ fn break_at_each_byte<M: Machine + Drop>(
         let front = told.get(..takes).unwrap_or("");
         machine = is_told(rt, machine, order, front)?;
     }
-    is_told(rt, machine, Client::order(message.as_slice()), told.as_str())
+    is_told(
+        rt,
+        machine,
+        Client::order(message.as_slice()),
+        told.as_str(),
+    )
 }
 
 fn are_handed_over<M: Machine + Drop>(rt: &(impl Abort + AllocGlobal)) -> Result<(), Fail> {

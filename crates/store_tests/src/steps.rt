@@ -322,7 +322,15 @@ fn listen<S: Alter + Drop>(
     let most = Some(port.connections);
     let served = match port.watch.try_borrow_mut() {
         Ok(mut watch) => {
-            serve_hall(alloc, &clock, &mut *watch, TERMS, &Unaided, most, &mut office)
+            serve_hall(
+                alloc,
+                &clock,
+                &mut *watch,
+                TERMS,
+                &Unaided,
+                most,
+                &mut office,
+            )
         },
         Err(_) => Err(Broken),
     };
