@@ -176,13 +176,12 @@ module _ {L : Type 0} (given : Option (List ℕ)) (line : Line L) where
       let less : old.number < length guests = subst (λ (c : Client L). c.number < length guests) (sym (here old)) (are.known place old within) in
       let guest = get_or guests old.number some_guest in
       let stood : Stands line visits guest old =
-          subst (λ (c : Client L). Stands line visits (get_or guests c.number some_guest) c) (sym (here old)) (are.stand place old within some_guest) in
+      subst (λ (c : Client L). Stands line visits (get_or guests c.number some_guest) c) (sym (here old)) (are.stand place old within some_guest) in
       let (own, had, gathered) = goes guest stood (are.went.each old.number some_guest less) in
       let his : WentSo given line (record { came = guest.came; last = new.line }) (visits_of old.number (visits ++ more)) =
-          went_so guest.came new.line new.got.items new.answer (visits_of old.number (visits ++ more)) own had gathered in
+      went_so guest.came new.line new.got.items new.answer (visits_of old.number (visits ++ more)) own had gathered in
       let stands : Stands line (visits ++ more) (record { came = guest.came; last = new.line }) new =
-          record { last = refl; own = own; his = subst (λ (n : ℕ). HadFor (answer_of new) (visits_of n (visits ++ more))) (sym number) had } in
-      (
+      record { last = refl; own = own; his = subst (λ (n : ℕ). HadFor (answer_of new) (visits_of n (visits ++ more))) (sym number) had } in (
         all_now guests visits more clients place old new within is number are.apart are.known mine,
         all_came guests visits more clients place old new within is number are.apart are.known mine,
         record {
@@ -249,9 +248,9 @@ module _ {L : Type 0} (given : Option (List ℕ)) (line : Line L) where
   one_entered guests visits came clients start client are fresh over number unanswered own =
       let at : client.number ≡ length guests = number ∙ sym are.count in
       let none : visits_of client.number visits ≡ [] =
-          none_under client.number visits (All-weaker (λ (v : Visit). v.number < length guests) (λ (v : Visit). v.number ≡ client.number → ⊥) (λ v less same. omega (arith, less, same, at)) visits are.went.known) in
+      none_under client.number visits (All-weaker (λ (v : Visit). v.number < length guests) (λ (v : Visit). v.number ≡ client.number → ⊥) (λ v less same. omega (arith, less, same, at)) visits are.went.known) in
       let had : HadFor (answer_of client) (visits_of client.number visits) =
-          subst (λ (a : Option Answer). HadFor (option_map (λ (x : Answer). x.bytes.items) a) (visits_of client.number visits)) (sym unanswered) none in
+      subst (λ (a : Option Answer). HadFor (option_map (λ (x : Answer). x.bytes.items) a) (visits_of client.number visits)) (sym unanswered) none in
       record {
         count = omega (arith, one_longer guests start, are.count);
         went = came_in guests visits start are.went fresh;

@@ -21,13 +21,22 @@ module _ {L : Type 0} (least now : ℕ) where
       → new.clients.items ≡ remove old.clients.items place → new.came ≡ old.came → AreLetGo least now old new
   let_go_one old new seen place one same within longest is patient left came =
       let clients = old.clients.items in
-      let inside : place < length clients = subst (λ (cs : List (Client L)). place < length cs) same within in
-      (came, (place ∷ [], (new.clients.items, record {
-        within = inside;
-        longest = λ c. let it = subst (λ (cs : List (Client L)). (d : Client L) → IsLongest cs (get_or cs place d)) same longest in it c;
-        patient = λ c. subst (λ (d : Client L). least ≤ now - d.since) (get_or_read clients place one inside is c) patient;
-        left = left;
-      }, refl)))
+      let inside : place < length clients = subst (λ (cs : List (Client L)). place < length cs) same within in (
+        came,
+        (
+          place ∷ [],
+          (
+            new.clients.items,
+            record {
+              within = inside;
+              longest = λ c. let it = subst (λ (cs : List (Client L)). (d : Client L) → IsLongest cs (get_or cs place d)) same longest in it c;
+              patient = λ c. subst (λ (d : Client L). least ≤ now - d.since) (get_or_read clients place one inside is c) patient;
+              left = left;
+            },
+            refl,
+          ),
+        ),
+      )
 
   pub let_go_then : (old mid new : Room L) → AreLetGo least now old mid → AreLetGo least now mid new → AreLetGo least now old new
   let_go_then old mid new (came, (first, each)) (came_then, (next, rest)) =
