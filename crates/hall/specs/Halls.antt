@@ -15,6 +15,7 @@ use Rattle.gathering.specs.declared.client.Client.{Client}
 use Rattle.gathering.specs.declared.client.Comer.{Comer}
 use Rattle.gathering.specs.declared.room.Room.{Room}
 use Rattle.hall.specs.Guests.{AreIn, Guest, WentSoWithAll}
+use Rattle.hall.specs.Reads.{Desk, ReadEntry, desk_at, with_none_kept}
 use Rattle.hall.specs.Terms.{Given}
 use Rattle.hall.specs.Visits.{IsKeptOf, ServesVisit, Visit}
 
@@ -43,13 +44,13 @@ pub record GoesOn {L : Type 0} (given : Given) (line : Line L) (visits : List Vi
       → (all : List (Guest L)) × (map (λ guest. guest.came) all ≡ map (λ guest. guest.came) guests ++ comers) × AreIn given line all (earlier ++ visits) new.came new.clients.items
 
 -- the same while an office serves the visits
-pub record GoesOnServing {L S : Type 0} (given : Given) (line : Line L) (state_of : Held S → State) (let_in let_in_later : Option (List (Comer L))) (old new : Room L) (before later : OfficeValue S) : Type 0 where
+pub record GoesOnServing {L S : Type 0} (given : Given) (line : Line L) (state_of : Held S → State) (let_in let_in_later : Option (List (Comer L))) (old new : Room L) (before later : Desk S) : Type 0 where
   pub visits : List Visit
   pub each : FoldsTo (ServesVisit given state_of) before visits later
   pub goes_on : GoesOn given line visits let_in let_in_later old new
 
 -- Clients and orders came to the doors of an office: no more clients than were to come, and at an end without a failure just so many. It went with each as it should.
--- Their visits had their turns one after the other, each in the office that those before it left, and this is kept of them.
+-- Their visits had their turns one after the other, each in the office that those before it left, where nothing was kept at first; and this is kept of them.
 pub record ServesHall {L S : Type 0} (given : Given) (line : Line L) (state_of : Held S → State) (let_in let_in_later : Option (List (Comer L))) (most : Option ℕ)
     (old new : OfficeValue S) (result : Result (Unit {0}) Broken) : Type 0 where
   pub guests : List (Guest L)
@@ -58,6 +59,7 @@ pub record ServesHall {L S : Type 0} (given : Given) (line : Line L) (state_of :
   pub few : IfSome most (λ n. clients_among (map (λ guest. guest.came) guests) ≤ n)
   pub all : OnOk result (IfSome most (λ n. clients_among (map (λ guest. guest.came) guests) ≡ n))
   pub went : WentSoWithAll given line guests visits
-  pub each : FoldsTo (ServesVisit given state_of) old visits new
+  pub kept : List ReadEntry
+  pub each : FoldsTo (ServesVisit given state_of) (with_none_kept old) visits (desk_at new kept)
   pub keeps : HasCleanDisk (state_of new.held) → old.closed ≡ false → (earlier : List Request) → IsAt (after empty_office earlier) (state_of old.held)
       → IsKeptOf given earlier visits new.closed (state_of new.held)

@@ -3,13 +3,13 @@ use Rattle.std.specs.Prelude.{◌≡◌, ◌⊎◌, List, [], None, Option, Some
 use Rattle.std.specs.Io.KnownBytes.{IsAtEnd}
 use Rattle.sqlite.specs.Held.{Held}
 use Rattle.sqlite.specs.State.{State}
-use Rattle.office.specs.Values.{OfficeValue}
 use Rattle.gathering.specs.Lines.{Gathers, HasTaken, Line}
 use Rattle.gathering.specs.declared.client.Client.{Client}
 use Rattle.gathering.specs.declared.client.Door.{Door}
 use Rattle.gathering.specs.declared.client.Door.TheVariants.{Clients, Orders}
 use Rattle.wire.specs.Lacking.{IsWhole}
 use Rattle.hall.specs.Handings.{HasCameWhole}
+use Rattle.hall.specs.Reads.{Desk}
 use Rattle.hall.specs.Terms.{Given}
 use Rattle.hall.specs.Visits.{ServesVisit, Visit}
 
@@ -35,7 +35,7 @@ abbrev pub IsSameClient : {L : Type 0} → Client L → Client L → Type 0
 IsSameClient old new = (new.door ≡ old.door) × (new.number ≡ old.number) × (new.since ≡ old.since)
 
 -- A client had his turn as he went on: his own bytes were gathered to their end, just these were served, and that answer is now his.
-pub record HasTurn {L S : Type 0} (given : Given) (line : Line L) (state_of : Held S → State) (old new : Client L) (before later : OfficeValue S) : Type 0 where
+pub record HasTurn {L S : Type 0} (given : Given) (line : Line L) (state_of : Held S → State) (old new : Client L) (before later : Desk S) : Type 0 where
   pub visit : Visit
   pub door : visit.door ≡ old.door
   pub number : visit.number ≡ old.number
@@ -46,6 +46,6 @@ pub record HasTurn {L S : Type 0} (given : Given) (line : Line L) (state_of : He
   pub served : ServesVisit given state_of before visit later
   pub his : answer_of new ≡ Some visit.answer
 
--- he had his turn; or the office is as it was, and he has the answer that he had, or none as before
-abbrev pub MayHaveTurn : {L S : Type 0} → Given → Line L → (Held S → State) → Client L → Client L → OfficeValue S → OfficeValue S → Type 0
+-- he had his turn; or the office is as it was with what is kept of it, and he has the answer that he had, or none as before
+abbrev pub MayHaveTurn : {L S : Type 0} → Given → Line L → (Held S → State) → Client L → Client L → Desk S → Desk S → Type 0
 MayHaveTurn given line state_of old new before later = HasTurn given line state_of old new before later ⊎ ((later ≡ before) × (answer_of new ≡ answer_of old))

@@ -5,17 +5,19 @@ use Rattle.sqlite.specs.State.{HasCleanDisk, State}
 use Rattle.register.specs.Machine.{after}
 use Rattle.register.specs.Offices.{OfficeState, empty_office}
 use Rattle.register.specs.declared.command.Request.{Request}
-use Rattle.office.specs.Answers.{IsOpenAt, WhenOpenAt}
+use Rattle.office.specs.Answers.{IsOpenAt, IsReadAt, WhenOpenAt}
 use Rattle.office.specs.Runs.{Keeps}
 use Rattle.office.specs.Values.{OfficeValue}
 use Rattle.gathering.specs.declared.client.Door.{Door}
 use Rattle.gathering.specs.declared.client.Door.TheVariants.{Clients, Orders}
 use Rattle.wire.specs.Bodies.{KeyingEntry}
-use Rattle.wire.specs.Asking.{Asks, keying}
+use Rattle.wire.specs.Asking.{Asks, keying, reading}
 use Rattle.wire.specs.Serving.{IsHandedOn, IsServed, ReadiesClosed, ReadiesFor, TellsFault, TellsFor}
 use Rattle.wire.specs.declared.response.Response.{Response}
 use Rattle.wire.specs.declared.serving.Served.{Served}
+use Rattle.wire.specs.declared.target.Reading.{Reading}
 use Rattle.hall.specs.Handings.{FollowsOrder, IsTurnedAway, TellsOrder}
+use Rattle.hall.specs.Reads.{AreReadAt, Desk}
 use Rattle.hall.specs.Terms.{Given}
 
 -- Who had a turn, a client or an order that was handed over: at which door he came in, his number in the order of coming, what was gathered of him, and the
@@ -28,22 +30,41 @@ pub record Visit : Type 0 where
 
 -- ---- one turn, in an office that was given the origin of a proxy or none, and its file
 
--- an answer that was ready so was put for a visit, from its first byte on: whole, or, where memory was wanting, a beginning of it
-abbrev pub EndsSo : Visit → (Response → Type 0) → Type 0
-EndsSo visit IsReady = (served : Served) × IsServed IsReady (Some []) (Some visit.answer) served
+-- an answer that was ready so was put, from its first byte on: whole, or, where memory was wanting, a beginning of it
+abbrev pub EndsIn : List ℕ → (Response → Type 0) → Type 0
+EndsIn answer IsReady = (served : Served) × IsServed IsReady (Some []) (Some answer) served
 
--- a client was served: what he is told and what that left, if the office was open; and that it is closed, if it was
-pub record ServesClient {S : Type 0} (given : Option (List ℕ)) (state_of : Held S → State) (old : OfficeValue S) (visit : Visit) (new : OfficeValue S) : Type 0 where
-  pub serves : WhenOpenAt state_of old new (λ s. EndsSo visit (λ response. ReadiesFor given (Some visit.got) s response new.closed (state_of new.held)))
-  pub turned_away : old.closed ≡ true → EndsSo visit (ReadiesClosed given (Some visit.got)) × (new ≡ old)
+abbrev pub EndsSo : Visit → (Response → Type 0) → Type 0
+EndsSo visit IsReady = EndsIn visit.answer IsReady
+
+-- the office served these bytes with this answer: what it tells and what that left, if the office was open; and that it is closed, if it was
+pub record HasServed {S : Type 0} (given : Option (List ℕ)) (state_of : Held S → State) (old : OfficeValue S) (got answer : List ℕ) (new : OfficeValue S) : Type 0 where
+  pub serves : WhenOpenAt state_of old new (λ s. EndsIn answer (λ response. ReadiesFor given (Some got) s response new.closed (state_of new.held)))
+  pub turned_away : old.closed ≡ true → EndsIn answer (ReadiesClosed given (Some got)) × (new ≡ old)
   pub clean : HasCleanDisk (state_of new.held) → HasCleanDisk (state_of old.held)
 
--- who came in at a door had his turn: a client is served, and an order is followed
-abbrev pub ServesAt : {S : Type 0} → Door → Given → (Held S → State) → OfficeValue S → Visit → OfficeValue S → Type 0
-ServesAt Clients given state_of old visit new = ServesClient given.origin state_of old visit new
-ServesAt Orders given state_of old visit new = FollowsOrder given.file state_of old visit.got visit.answer new
+-- what his turn leaves of the answers that are kept: nothing is kept; or he asks for a read, and what is kept is right at the state as before
+abbrev pub KeepsReads : {S : Type 0} → Option (List ℕ) → (Held S → State) → Desk S → List ℕ → Desk S → Type 0
+KeepsReads given state_of old got new =
+    (new.kept ≡ [])
+    ⊎ (((what : Reading) × Asks given got (reading what))
+    × WhenOpenAt state_of old.office new.office (λ s. AreReadAt given s old.kept → AreReadAt given s new.kept × IsReadAt s new.office.closed (state_of new.office.held)))
 
-abbrev pub ServesVisit : {S : Type 0} → Given → (Held S → State) → OfficeValue S → Visit → OfficeValue S → Type 0
+-- a client was served, by the office or from what was kept: what he is told and what that left, if the office was open and what was kept was right; and that it
+-- is closed, if it was
+pub record ServesClient {S : Type 0} (given : Option (List ℕ)) (state_of : Held S → State) (old : Desk S) (visit : Visit) (new : Desk S) : Type 0 where
+  pub serves : WhenOpenAt state_of old.office new.office
+      (λ s. AreReadAt given s old.kept → EndsSo visit (λ response. ReadiesFor given (Some visit.got) s response new.office.closed (state_of new.office.held)))
+  pub keeps : KeepsReads given state_of old visit.got new
+  pub turned_away : old.office.closed ≡ true → EndsSo visit (ReadiesClosed given (Some visit.got)) × (new.office ≡ old.office)
+  pub clean : HasCleanDisk (state_of new.office.held) → HasCleanDisk (state_of old.office.held)
+
+-- who came in at a door had his turn: a client is served; or an order is followed, and nothing is kept behind it
+abbrev pub ServesAt : {S : Type 0} → Door → Given → (Held S → State) → Desk S → Visit → Desk S → Type 0
+ServesAt Clients given state_of old visit new = ServesClient given.origin state_of old visit new
+ServesAt Orders given state_of old visit new = FollowsOrder given.file state_of old.office visit.got visit.answer new.office × (new.kept ≡ [])
+
+abbrev pub ServesVisit : {S : Type 0} → Given → (Held S → State) → Desk S → Visit → Desk S → Type 0
 ServesVisit given state_of old visit new = ServesAt visit.door given state_of old visit new
 
 -- ---- one turn after the other

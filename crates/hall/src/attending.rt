@@ -8,17 +8,25 @@ ghost use Rattle.wire.specs.Origins.{given_by};
 ghost use Rattle.hall.specs.Handings.{HasCameWhole};
 ghost use Rattle.hall.specs.Terms.{Given, given_in};
 ghost use Rattle.hall.specs.Turns.{HasCome, HasComeAt, IsSameClient, IsUntold, MayHaveTurn, answer_of};
-ghost use Rattle.hall.specs.Visits.{ServesClient, ServesVisit, Visit};
+ghost use Rattle.office.specs.Answers.{IsOpenAt, IsReadAt, WhenOpenAt};
+ghost use Rattle.wire.specs.Asking.{Asks, reading};
+ghost use Rattle.wire.specs.declared.target.Reading.{Reading};
+ghost use Rattle.hall.specs.Reads.{IsRead, desk_at, reads_in};
+ghost use Rattle.hall.specs.Visits.{HasServed, ServesClient, ServesVisit, Visit};
 
 use crate::aside::Aside;
 use crate::message::hear_message;
 use crate::ordering::answer_order;
+use crate::reads::{Kept, asks_reading};
 use crate::terms::Terms;
 use gathering::{Answer, Client, Door, Gathered, Heard, Line, Lost, Writing, deliver};
 use office::Office;
 use sqlite::Alter;
 use std::alloc::Global;
-use wire::{Lacks, MAX_HEAD_BYTES, Origin, lacks, serve_one};
+use wire::{Lacks, MAX_HEAD_BYTES, Origin, Served, lacks, serve_one};
+
+/// The status of an answer that tells a fault, which isn't kept.
+const FAULT: u16 = 503;
 
 /// What became of who went on.
 #[derive(Clone, Copy)]
@@ -94,25 +102,52 @@ fn hear<L: Line>(
     }
 }
 
-/// Serves a client of whom these bytes were gathered, and gives his answer, of which nothing was told yet. Where memory is
-/// wanting for it, it is a beginning.
+/// Serves a client of whom these bytes were gathered, and gives his answer, of which nothing was told yet; and whether it was
+/// told whole, and without a fault. Where memory is wanting for it, it is a beginning.
+fn served<S: Alter>(
+    alloc: Global,
+    origin: Option<Origin<'_>>,
+    got: &[u8],
+    office: &mut Office<S>,
+) -> (Vec<u8>, bool)
+    ensures served { HasServed (given_by origin.entry) (state S.Store) office.old got.now result.0.items office.new }
+    ensures read { result.1 ≡ true → WhenOpenAt (state S.Store) office.old office.new
+        (λ s. (what : Reading) → Asks (given_by origin.entry) got.now (reading what) → IsRead (given_by origin.entry) s got.now result.0.items × IsOpenAt s office.new.closed (state S.Store office.new.held)) }
+    ensures asked { WhenOpenAt (state S.Store) office.old office.new (λ s. (what : Reading) → Asks (given_by origin.entry) got.now (reading what) → IsReadAt s office.new.closed (state S.Store office.new.held)) }
+{
+    let mut reader = Gathered::new(got);
+    let mut writer = Writing::new(alloc);
+    let served = serve_one(alloc, origin, &mut reader, &mut writer, office);
+    let is_told = matches!(served, Served::Answered(status) if status != FAULT);
+    (writer.into_bytes(), is_told)
+}
+
+/// The answer to a client of whom these bytes were gathered, of which nothing was told yet. What is read anew is kept for who
+/// asks the same; and where an answer to the same is kept, it is told again. Before anything else nothing is kept any more.
 fn answered<S: Alter>(
     alloc: Global,
     origin: Option<Origin<'_>>,
     got: &[u8],
     office: &mut Office<S>,
+    kept: &mut Kept,
 ) -> Answer
-    ensures served { (number : ℕ) → ServesClient (given_by origin.entry) (state S.Store) office.old
-        (record { door = Door.Clients; number = number; got = got.now; answer = result.bytes.items }) office.new }
+    ensures served { (number : ℕ) → ServesClient (given_by origin.entry) (state S.Store) (desk_at office.old (reads_in kept.old))
+        (record { door = Door.Clients; number = number; got = got.now; answer = result.bytes.items }) (desk_at office.new (reads_in kept.new)) }
     ensures untold { result.sent ≡ 0 }
 {
-    let mut reader = Gathered::new(got);
-    let mut writer = Writing::new(alloc);
-    let _ = serve_one(alloc, origin, &mut reader, &mut writer, office);
-    Answer {
-        bytes: writer.into_bytes(),
-        sent: 0,
+    if office.is_closed() || !asks_reading(alloc, origin, got) {
+        kept.empty();
+        let (bytes, _) = served(alloc, origin, got, office);
+        return Answer { bytes, sent: 0 };
     }
+    if let Some(bytes) = kept.told_to(alloc, got) {
+        return Answer { bytes, sent: 0 };
+    }
+    let (bytes, is_told) = served(alloc, origin, got, office);
+    if is_told {
+        kept.keep(alloc, got, bytes.as_slice());
+    }
+    Answer { bytes, sent: 0 }
 }
 
 /// The answer to who came in at a door, of whom all was heard: of a client nothing was told yet, and an order was told what its
@@ -123,18 +158,22 @@ fn answer_to<L: Line, A: Aside, S: Alter>(
     aside: &A,
     client: &mut Client<L>,
     office: &mut Office<S>,
+    kept: &mut Kept,
 ) -> Answer
     requires fresh { HasTaken (L.taken client.old.line) [] }
     requires whole { client.old.door ≡ Door.Orders → HasCameWhole client.old.got.items }
     ensures told { IsTold (line_of L.held L.taken) client.new.line result.bytes.items result.sent }
     ensures same { IsSameClient client.old client.new × (client.new.got.items ≡ client.old.got.items) }
-    ensures served { ServesVisit (given_in terms.entry) (state S.Store) office.old
-        (record { door = client.old.door; number = client.old.number; got = client.old.got.items; answer = result.bytes.items }) office.new }
+    ensures served { ServesVisit (given_in terms.entry) (state S.Store) (desk_at office.old (reads_in kept.old))
+        (record { door = client.old.door; number = client.old.number; got = client.old.got.items; answer = result.bytes.items }) (desk_at office.new (reads_in kept.new)) }
 {
     let got = client.got.as_slice();
     match client.door {
-        Door::Clients => answered(alloc, terms.origin, got, office),
-        Door::Orders => answer_order(alloc, terms.file, aside, got, &mut client.line, office),
+        Door::Clients => answered(alloc, terms.origin, got, office, kept),
+        Door::Orders => {
+            kept.empty();
+            answer_order(alloc, terms.file, aside, got, &mut client.line, office)
+        }
     }
 }
 
@@ -161,15 +200,16 @@ fn take_turn<L: Line, A: Aside, S: Alter>(
     aside: &A,
     client: &mut Client<L>,
     office: &mut Office<S>,
+    kept: &mut Kept,
 ) -> Attended
     requires fresh { HasTaken (L.taken client.old.line) [] }
     requires whole { client.old.door ≡ Door.Orders → HasCameWhole client.old.got.items }
     ensures is { (start : L) → IsHeard (line_of L.held L.taken) start client.old.line client.old.got.items → IsOf (line_of L.held L.taken) start client.new }
     ensures same { IsSameClient client.old client.new }
     ensures turn { (visit : Visit) × (visit.door ≡ client.old.door) × (visit.number ≡ client.old.number) × (visit.got ≡ client.old.got.items)
-        × ServesVisit (given_in terms.entry) (state S.Store) office.old visit office.new × (answer_of client.new ≡ Some visit.answer) }
+        × ServesVisit (given_in terms.entry) (state S.Store) (desk_at office.old (reads_in kept.old)) visit (desk_at office.new (reads_in kept.new)) × (answer_of client.new ≡ Some visit.answer) }
 {
-    let answer = answer_to(alloc, terms, aside, client, office);
+    let answer = answer_to(alloc, terms, aside, client, office, kept);
     client.answer = Some(answer);
     client.got = Vec::new(alloc);
     match tell_more(client) {
@@ -189,17 +229,18 @@ pub fn attend<L: Line, A: Aside, S: Alter>(
     aside: &A,
     client: &mut Client<L>,
     office: &mut Office<S>,
+    kept: &mut Kept,
 ) -> Attended
     requires untold { IsUntold (line_of L.held L.taken) client.old }
     ensures is { (start : L) → IsOf (line_of L.held L.taken) start client.old → IsOf (line_of L.held L.taken) start client.new }
     ensures same { IsSameClient client.old client.new }
-    ensures turn { MayHaveTurn (given_in terms.entry) (line_of L.held L.taken) (state S.Store) client.old client.new office.old office.new }
+    ensures turn { MayHaveTurn (given_in terms.entry) (line_of L.held L.taken) (state S.Store) client.old client.new (desk_at office.old (reads_in kept.old)) (desk_at office.new (reads_in kept.new)) }
 {
     if client.answer.is_some() {
         return tell_more(client);
     }
     match hear(alloc, terms.origin, client) {
-        Ok(true) => take_turn(alloc, terms, aside, client, office),
+        Ok(true) => take_turn(alloc, terms, aside, client, office, kept),
         Ok(false) => Attended::Waits,
         Err(_) => Attended::Lost,
     }

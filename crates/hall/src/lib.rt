@@ -4,10 +4,10 @@
 //! [`serve_hall`] lets in who comes to the [`Doors`](gathering::Doors), at most 512 at once. [`attend`] hears who goes on as far
 //! as his line lets him now. Once what he asks has come to its end, this is his turn: a client is served from what was
 //! gathered, and an order is followed in the open office. So nobody waits for another's line, and the office does one thing at
-//! a time.
+//! a time. A read that is asked for again, while nothing has changed, is told from memory.
 //!
 //! `specs/Visits.antt` says what is kept of those who had their turns, `specs/Handings.antt` what an order asks and is told,
-//! `specs/Turns.antt` what a turn is, `specs/Guests.antt` how it went with each who came, and `specs/Halls.antt` what is promised
+//! `specs/Reads.antt` which answers are kept, `specs/Turns.antt` what a turn is, `specs/Guests.antt` how it went with each who came, and `specs/Halls.antt` what is promised
 //! of them all.
 //!
 //! ```text
@@ -21,6 +21,7 @@ mod handing;
 mod message;
 mod ordering;
 mod outlet;
+mod reads;
 pub mod terms;
 // one who goes on
 pub mod attending;

@@ -7,6 +7,7 @@ ghost use Rattle.gathering.specs.Lines.{line_of};
 ghost use Rattle.gathering.specs.Clients.{IsOf};
 ghost use Rattle.gathering.specs.declared.client.Comer.{Comer};
 ghost use Rattle.hall.specs.Guests.{IsSound};
+ghost use Rattle.hall.specs.Reads.{desk_at, reads_in};
 ghost use Rattle.hall.specs.Terms.{Given, given_in};
 ghost use Rattle.hall.specs.Turns.{IsUntold, MayHaveTurn};
 ghost use Rattle.hall.specs.Halls.{GoesOn, GoesOnServing, ServesHall};
@@ -14,6 +15,7 @@ ghost use Rattle.hall.specs.Halls.{GoesOn, GoesOnServing, ServesHall};
 use crate::aside::Aside;
 use crate::attending::{Attended, attend};
 use crate::leaving::{PATIENCE, keep_within, let_go_late, make_room};
+use crate::reads::Kept;
 use crate::terms::Terms;
 use gathering::room::{longest, place_of};
 use gathering::{Admitted, Client, Doors, Line, MAX_CLIENTS, Room};
@@ -46,13 +48,14 @@ fn go_on<L: Line, C: Clock, A: Aside, S: Alter>(
     aside: &A,
     client: &mut Client<L>,
     office: &mut Office<S>,
+    kept: &mut Kept,
 ) -> Result<bool, Broken>
     requires untold { IsUntold (line_of L.held L.taken) client.old }
     ensures is { (start : L) → IsOf (line_of L.held L.taken) start client.old → IsOf (line_of L.held L.taken) start client.new }
     ensures same { (client.new.door ≡ client.old.door) × (client.new.number ≡ client.old.number) }
-    ensures turn { MayHaveTurn (given_in terms.entry) (line_of L.held L.taken) (state S.Store) client.old client.new office.old office.new }
+    ensures turn { MayHaveTurn (given_in terms.entry) (line_of L.held L.taken) (state S.Store) client.old client.new (desk_at office.old (reads_in kept.old)) (desk_at office.new (reads_in kept.new)) }
 {
-    match attend(alloc, terms, aside, client, office) {
+    match attend(alloc, terms, aside, client, office, kept) {
         Attended::Waits => Ok(true),
         Attended::Served => {
             client.since = moment(clock)?;
@@ -72,14 +75,23 @@ fn go_on_at<L: Line + Drop, C: Clock, A: Aside, S: Alter>(
     room: &mut Room<L>,
     place: usize,
     office: &mut Office<S>,
+    kept: &mut Kept,
 ) -> Result<(), Broken>
     requires place { place < length room.old.clients.items }
     requires sound { IsSound (given_in terms.entry) (line_of L.held L.taken) room.old }
-    ensures goes_on { (let_in : Option (List (Comer L))) → GoesOnServing (given_in terms.entry) (line_of L.held L.taken) (state S.Store) let_in let_in room.old room.new office.old office.new }
+    ensures goes_on { (let_in : Option (List (Comer L))) → GoesOnServing (given_in terms.entry) (line_of L.held L.taken) (state S.Store) let_in let_in room.old room.new (desk_at office.old (reads_in kept.old)) (desk_at office.new (reads_in kept.new)) }
     ensures came { room.new.came ≡ room.old.came }
     ensures counted { room.new.counted ≡ room.old.counted }
 {
-    if go_on(alloc, clock, terms, aside, &mut room.clients[place], office)? {
+    if go_on(
+        alloc,
+        clock,
+        terms,
+        aside,
+        &mut room.clients[place],
+        office,
+        kept,
+    )? {
         keep_within(room);
         return Ok(());
     }
@@ -96,14 +108,15 @@ fn go_on_numbered<L: Line + Drop, C: Clock, A: Aside, S: Alter>(
     room: &mut Room<L>,
     number: u64,
     office: &mut Office<S>,
+    kept: &mut Kept,
 ) -> Result<(), Broken>
     requires { IsSound (given_in terms.entry) (line_of L.held L.taken) room.old }
-    ensures goes_on { (let_in : Option (List (Comer L))) → GoesOnServing (given_in terms.entry) (line_of L.held L.taken) (state S.Store) let_in let_in room.old room.new office.old office.new }
+    ensures goes_on { (let_in : Option (List (Comer L))) → GoesOnServing (given_in terms.entry) (line_of L.held L.taken) (state S.Store) let_in let_in room.old room.new (desk_at office.old (reads_in kept.old)) (desk_at office.new (reads_in kept.new)) }
     ensures came { room.new.came ≡ room.old.came }
     ensures counted { room.new.counted ≡ room.old.counted }
 {
     match place_of(room.clients.as_slice(), number) {
-        Some(place) => go_on_at(alloc, clock, terms, aside, room, place, office),
+        Some(place) => go_on_at(alloc, clock, terms, aside, room, place, office, kept),
         None => Ok(()),
     }
 }
@@ -117,9 +130,10 @@ fn go_on_all<D: Doors, C: Clock, A: Aside, S: Alter>(
     aside: &A,
     room: &mut Room<D::Line>,
     office: &mut Office<S>,
+    kept: &mut Kept,
 ) -> Result<(), Broken>
     requires { IsSound (given_in terms.entry) (line_of D.Line.held D.Line.taken) room.old }
-    ensures goes_on { GoesOnServing (given_in terms.entry) (line_of D.Line.held D.Line.taken) (state S.Store) (D.came doors.old) (D.came doors.new) room.old room.new office.old office.new }
+    ensures goes_on { GoesOnServing (given_in terms.entry) (line_of D.Line.held D.Line.taken) (state S.Store) (D.came doors.old) (D.came doors.new) room.old room.new (desk_at office.old (reads_in kept.old)) (desk_at office.new (reads_in kept.new)) }
     ensures came { room.new.came ≡ room.old.came }
     ensures counted { room.new.counted ≡ room.old.counted }
 {
@@ -127,7 +141,7 @@ fn go_on_all<D: Doors, C: Clock, A: Aside, S: Alter>(
         let Some(number) = doors.next_ready() else {
             return Ok(());
         };
-        go_on_numbered(alloc, clock, terms, aside, room, number, office)?;
+        go_on_numbered(alloc, clock, terms, aside, room, number, office, kept)?;
     }
     Ok(())
 }
@@ -204,13 +218,14 @@ fn go_round<D: Doors, C: Clock, A: Aside, S: Alter>(
     most: u64,
     room: &mut Room<D::Line>,
     office: &mut Office<S>,
+    kept: &mut Kept,
 ) -> Result<bool, Broken>
     requires { IsSound (given_in terms.entry) (line_of D.Line.held D.Line.taken) room.old }
-    ensures goes_on { GoesOnServing (given_in terms.entry) (line_of D.Line.held D.Line.taken) (state S.Store) (D.came doors.old) (D.came doors.new) room.old room.new office.old office.new }
+    ensures goes_on { GoesOnServing (given_in terms.entry) (line_of D.Line.held D.Line.taken) (state S.Store) (D.came doors.old) (D.came doors.new) room.old room.new (desk_at office.old (reads_in kept.old)) (desk_at office.new (reads_in kept.new)) }
     ensures few { room.old.counted ≤ most → room.new.counted ≤ most }
     ensures all { result ≡ Ok true → (most ≤ room.new.counted) × (room.new.clients.items ≡ []) }
 {
-    go_on_all(alloc, clock, doors, terms, aside, room, office)?;
+    go_on_all(alloc, clock, doors, terms, aside, room, office, kept)?;
     let now = moment(clock)?;
     let_go_late(room, now);
     let look = let_in(alloc, doors, room, most, now);
@@ -252,8 +267,11 @@ pub fn serve_hall<D: Doors, C: Clock, A: Aside, S: Alter>(
 {
     let most = connections.unwrap_or(u64::MAX);
     let mut room = Room::new(alloc);
+    let mut kept = Kept::new(alloc);
     for _ in 0..u64::MAX {
-        if go_round(alloc, clock, doors, terms, aside, most, &mut room, office)? {
+        if go_round(
+            alloc, clock, doors, terms, aside, most, &mut room, office, &mut kept,
+        )? {
             return Ok(());
         }
     }
