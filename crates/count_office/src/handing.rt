@@ -138,8 +138,8 @@ fn message_of(
 fn frame_in(stream: &mut UnixStream) -> io::Result<(u8, u32)> {
     let mut head = [0; 5];
     stream.read_exact(&mut head)?;
-    let [kind, len @ ..] = head;
-    Ok((kind, u32::from_be_bytes(len)))
+    let len = u32::from_be_bytes([head[1], head[2], head[3], head[4]]);
+    Ok((head[0], len))
 }
 
 /// Why nothing more is printed.

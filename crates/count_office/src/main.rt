@@ -245,7 +245,7 @@ fn finish<D: Disk + Drop, E: Sink>(
     state: CopyState,
     err: &mut E,
 ) -> u8
-    requires { status.entry ≡ 0 → E.failed err.old < 2 ^ 64 - 1 }
+    requires { status ≡ 0 → E.failed err.old < 2 ^ 64 - 1 }
 {
     match state {
         CopyState::Whole => {}

@@ -93,6 +93,13 @@ fn serve_at<S: Alter>(
     }
 }
 
+/// Says on the error output that there is no socket for orders. Where nobody can be told, it serves all the same.
+fn say_no_socket(rt: &HostRuntime, error: &io::Error) {
+    let mut told = rt.stderr();
+    let why = reason_of(error);
+    let _ = writeln!(told, "no socket for orders beside the database: {why}");
+}
+
 /// Serves an open office, with the socket beside its database meanwhile. Where there can't be one, that is said on the error
 /// output, and no order is handed over.
 fn serve_in<S: Alter>(
@@ -112,11 +119,7 @@ fn serve_in<S: Alter>(
             served
         }
         Err(error) => {
-            let _ = writeln!(
-                rt.stderr(),
-                "no socket for orders beside the database: {}",
-                reason_of(&error)
-            );
+            say_no_socket(rt, &error);
             serve_at(rt, place, serving, None, office)
         }
     };
