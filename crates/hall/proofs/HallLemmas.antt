@@ -20,6 +20,7 @@ use Rattle.gathering.specs.declared.room.Room.{Room}
 use Rattle.gathering.proofs.LineLemmas.{heard_more}
 use Rattle.hall.specs.Guests.{AreIn, Guest, HadFor, IsGathered, IsSound, Stands, WentSo, visits_of}
 use Rattle.hall.specs.Halls.{AreLetGo, GoesOn, GoesOnServing, IsLetGo, LetsInMore, ServesHall}
+use Rattle.hall.specs.Reads.{Desk, with_none_kept}
 use Rattle.hall.specs.Terms.{Given}
 use Rattle.hall.specs.Turns.{HasComeAt, HasTurn, IsUntold, MayHaveTurn, answer_of}
 use Rattle.hall.specs.Visits.{ServesVisit, Visit}
@@ -141,7 +142,7 @@ module _ {L : Type 0} (given : Given) (line : Line L) where
       )
 
   -- he had his turn, of whom all was heard
-  had_turn : {S : Type 0} (state_of : Held S → State) (guest : Guest L) (visits : List Visit) (old new : Client L) (before later : OfficeValue S) → (turn : HasTurn given line state_of old new before later)
+  had_turn : {S : Type 0} (state_of : Held S → State) (guest : Guest L) (visits : List Visit) (old new : Client L) (before later : Desk S) → (turn : HasTurn given line state_of old new before later)
       → ((start : L) → IsOf line start old → IsOf line start new) → Stands line visits guest old
       → IsOf line guest.came.line new × HadFor (answer_of new) (visits_of old.number (visits ++ turn.visit ∷ []))
       × ((visit : Visit) → visits_of old.number (visits ++ turn.visit ∷ []) ≡ visit ∷ [] → IsGathered given line guest.came visit)
@@ -160,7 +161,7 @@ module _ {L : Type 0} (given : Given) (line : Line L) where
         λ visit one. let same : turn.visit ≡ visit = cc (first, one) in subst (λ (v : Visit). IsGathered given line guest.came v) same gathered,
       )
 
-  pub goes_on_at : {S : Type 0} (state_of : Held S → State) (let_in : Option (List (Comer L))) (room after : Room L) (place : ℕ) (old new : Client L) (before later : OfficeValue S) → place < length room.clients.items
+  pub goes_on_at : {S : Type 0} (state_of : Held S → State) (let_in : Option (List (Comer L))) (room after : Room L) (place : ℕ) (old new : Client L) (before later : Desk S) → place < length room.clients.items
       → old ≡ get_or room.clients.items place old → new.door ≡ old.door → new.number ≡ old.number → ((start : L) → IsOf line start old → IsOf line start new) → MayHaveTurn given line state_of old new before later
       → after.clients.items ≡ set room.clients.items place new → after.came ≡ room.came → after.counted ≡ room.counted
       → GoesOnServing given line state_of let_in let_in room after before later
@@ -202,11 +203,11 @@ module _ {L : Type 0} (given : Given) (line : Line L) where
 
   module _ {S : Type 0} (state_of : Held S → State) where
     -- nobody had a turn
-    pub serving_none : (let_in let_in_later : Option (List (Comer L))) (old new : Room L) (office : OfficeValue S) → GoesOn given line [] let_in let_in_later old new
+    pub serving_none : (let_in let_in_later : Option (List (Comer L))) (old new : Room L) (office : Desk S) → GoesOn given line [] let_in let_in_later old new
         → GoesOnServing given line state_of let_in let_in_later old new office office
     serving_none let_in let_in_later old new office goes = record { visits = []; each = refl; goes_on = goes }
 
-    pub serving_then : (let_in let_in_mid let_in_later : Option (List (Comer L))) (old mid new : Room L) (before between later : OfficeValue S)
+    pub serving_then : (let_in let_in_mid let_in_later : Option (List (Comer L))) (old mid new : Room L) (before between later : Desk S)
         → GoesOnServing given line state_of let_in let_in_mid old mid before between → GoesOnServing given line state_of let_in_mid let_in_later mid new between later
         → GoesOnServing given line state_of let_in let_in_later old new before later
     serving_then let_in let_in_mid let_in_later old mid new before between later a b = record {
@@ -215,13 +216,13 @@ module _ {L : Type 0} (given : Given) (line : Line L) where
       goes_on = goes_then a.visits b.visits let_in let_in_mid let_in_later old mid new a.goes_on b.goes_on;
     }
 
-    pub serving_same : (let_in let_in_mid let_in_later : Option (List (Comer L))) (old new : Room L) (before later : OfficeValue S) → let_in_later ≡ let_in_mid
+    pub serving_same : (let_in let_in_mid let_in_later : Option (List (Comer L))) (old new : Room L) (before later : Desk S) → let_in_later ≡ let_in_mid
         → GoesOnServing given line state_of let_in let_in_mid old new before later → GoesOnServing given line state_of let_in let_in_later old new before later
     serving_same let_in let_in_mid let_in_later old new before later same it =
         subst (λ (lines : Option (List (Comer L))). GoesOnServing given line state_of let_in lines old new before later) (sym same) it
 
     -- those who were in went on, some were let go, and more came in
-    pub serving_round : (let_in let_in_mid let_in_later : Option (List (Comer L))) (old went left new : Room L) (before later : OfficeValue S) (least now : ℕ)
+    pub serving_round : (let_in let_in_mid let_in_later : Option (List (Comer L))) (old went left new : Room L) (before later : Desk S) (least now : ℕ)
         → GoesOnServing given line state_of let_in let_in_mid old went before later → AreLetGo least now went left → GoesOn given line [] let_in_mid let_in_later left new
         → GoesOnServing given line state_of let_in let_in_later old new before later
     serving_round let_in let_in_mid let_in_later old went left new before later least now on gone more =
@@ -230,25 +231,25 @@ module _ {L : Type 0} (given : Given) (line : Line L) where
         (goes_then [] [] let_in_mid let_in_mid let_in_later went left new (goes_without least now let_in_mid let_in_mid went left refl gone) more))
 
     -- a closed office stays as it is
-    pub serving_closed : (let_in let_in_later : Option (List (Comer L))) (old new : Room L) (before later : OfficeValue S) → GoesOnServing given line state_of let_in let_in_later old new before later
-        → before.closed ≡ true → later ≡ before
+    pub serving_closed : (let_in let_in_later : Option (List (Comer L))) (old new : Room L) (before later : Desk S) → GoesOnServing given line state_of let_in let_in_later old new before later
+        → before.office.closed ≡ true → later.office ≡ before.office
     serving_closed let_in let_in_later old new before later it closed = let away = turned_away given state_of it.visits before later it.each closed in away.1
 
-    pub serving_clean : (let_in let_in_later : Option (List (Comer L))) (old new : Room L) (before later : OfficeValue S) → GoesOnServing given line state_of let_in let_in_later old new before later
-        → HasCleanDisk (state_of later.held) → HasCleanDisk (state_of before.held)
+    pub serving_clean : (let_in let_in_later : Option (List (Comer L))) (old new : Room L) (before later : Desk S) → GoesOnServing given line state_of let_in let_in_later old new before later
+        → HasCleanDisk (state_of later.office.held) → HasCleanDisk (state_of before.office.held)
     serving_clean let_in let_in_later old new before later it clean = cleans given state_of it.visits before later it.each clean
 
     -- where it is sound with a room, it is so later
-    pub sound_later : (let_in let_in_later : Option (List (Comer L))) (old new : Room L) (before later : OfficeValue S) → GoesOnServing given line state_of let_in let_in_later old new before later
+    pub sound_later : (let_in let_in_later : Option (List (Comer L))) (old new : Room L) (before later : Desk S) → GoesOnServing given line state_of let_in let_in_later old new before later
         → IsSound given line old → IsSound given line new
     sound_later let_in let_in_later old new before later it (guests, visits, are) =
         let (all, came, now) = it.goes_on.own guests visits are in (all, visits ++ it.visits, now)
 
     -- all who came since the doors were opened, where nobody was in before
-    pub hall_serves : (let_in let_in_later : Option (List (Comer L))) (most : Option ℕ) (old new : Room L) (before later : OfficeValue S) (result : Result (Unit {0}) Broken)
-        → GoesOnServing given line state_of let_in let_in_later old new before later → old.clients.items ≡ [] → old.came ≡ 0 → old.counted ≡ 0 → IfSome most (λ n. new.counted ≤ n)
+    pub hall_serves : (let_in let_in_later : Option (List (Comer L))) (most : Option ℕ) (old new : Room L) (before : OfficeValue S) (later : Desk S) (result : Result (Unit {0}) Broken)
+        → GoesOnServing given line state_of let_in let_in_later old new (with_none_kept before) later → old.clients.items ≡ [] → old.came ≡ 0 → old.counted ≡ 0 → IfSome most (λ n. new.counted ≤ n)
         → OnOk result (IfSome most (λ n. new.counted ≡ n))
-        → ServesHall given line state_of let_in let_in_later most before later result
+        → ServesHall given line state_of let_in let_in_later most before later.office result
     hall_serves let_in let_in_later most old new before later result it none zero uncounted few all =
         let (guests, came, are) = it.goes_on.own [] [] (are_same given line [] [] 0 old.came [] old.clients.items zero none (none_in given line)) in
         let sum = it.goes_on.counted in
@@ -261,6 +262,7 @@ module _ {L : Type 0} (given : Given) (line : Line L) where
           few = subst (λ (m : ℕ). IfSome most (λ n. m ≤ n)) counted few;
           all = subst (λ (m : ℕ). OnOk result (IfSome most (λ n. m ≡ n))) counted all;
           went = are.went;
+          kept = later.kept;
           each = it.each;
           keeps = λ clean is_open earlier at. kept_of given state_of earlier it.visits before later it.each clean is_open at;
         }

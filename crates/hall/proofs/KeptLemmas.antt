@@ -3,6 +3,7 @@ use Rattle.std.proofs.Common.{◌≡◌, ◌≤◌, ◌+◌, ◌∙◌, ◌⊎�
 use Rattle.std.proofs.Common.{arith, inl, inr, length, length-append, refl, sym, subst, suc, take, ap}
 use Rattle.std.specs.Prelude.{false}
 use Rattle.std.specs.List.{FoldsTo}
+use Rattle.std.proofs.lemmas.List.Elements.{All-nil}
 use Rattle.std.proofs.lemmas.List.Sums.{fold-append}
 use Rattle.sqlite.specs.Held.{Held}
 use Rattle.sqlite.specs.State.{HasCleanDisk, State}
@@ -17,8 +18,10 @@ use Rattle.office.specs.Values.{OfficeValue}
 use Rattle.office.proofs.RunLemmas.{beginning}
 use Rattle.wire.specs.Asking.{AskedEntry, Asks, denied, keying, reading}
 use Rattle.wire.specs.Responses.{ResponseEntry}
-use Rattle.wire.specs.Serving.{FaultLeaves, IsAnswered, ReadiesFor, TellsFault, TellsFor, told_response}
+use Rattle.wire.specs.Serving.{FaultLeaves, IsAnswered, ReadiesFor, TellsAsked, TellsFault, TellsFor, told_response}
 use Rattle.wire.specs.Told.{IsTold}
+use Rattle.wire.specs.declared.target.Reading.{Reading}
+use Rattle.wire.proofs.AskingLemmas.{AsksOneThing-all}
 use Rattle.gathering.specs.declared.client.Door.{Door}
 use Rattle.gathering.specs.declared.client.Door.TheVariants.{Clients, Orders}
 use Rattle.handover.specs.Spelling.{PieceEntry}
@@ -28,8 +31,9 @@ use Rattle.desk.specs.Pages.{Cut, Page}
 use Rattle.desk.proofs.KeptLemmas.{kept_done}
 use Rattle.desk.proofs.OpenLemmas.{after_next, open_done}
 use Rattle.hall.specs.Handings.{ComesOf, FollowsOrder, IsFramed, TellsAsked, TellsOrder, TellsSo, folder_of}
+use Rattle.hall.specs.Reads.{AreReadAt, Desk, IsRead, ReadEntry, with_none_kept}
 use Rattle.hall.specs.Terms.{Given}
-use Rattle.hall.specs.Visits.{AnswersInTurn, AreTurnedAway, EndsSo, IsAnsweredAt, IsKeptOf, IsLastFor, IsStoppedAt, IsToldClosed, ServesAt, ServesClient, ServesVisit, Visit}
+use Rattle.hall.specs.Visits.{AnswersInTurn, AreTurnedAway, EndsSo, IsAnsweredAt, IsKeptOf, IsLastFor, IsStoppedAt, IsToldClosed, KeepsReads, ServesAt, ServesClient, ServesVisit, Visit}
 use Rattle.desk.specs.declared.orders.Job.{Job}
 use Rattle.hall.specs.declared.handing.Asked.{Asked}
 use Rattle.hall.specs.declared.handing.Asked.TheVariants as asked
@@ -171,39 +175,70 @@ TurnLeaves door given s visit closed st =
     ((sent : List Request) × IsAnsweredAt door given s visit sent × IsOpenAt (after s sent) closed st)
     ⊎ ((answered : List Request) × (last : List Request) × IsStoppedAt door given s visit answered last × (closed ≡ true) × LeavesState st (IsAfterSome s (answered ++ last) (length answered)))
 
-module _ {S : Type 0} (given : Given) (state_of : Held S → State) where
-  clean_at : (door : Door) (visit : Visit) (old new : OfficeValue S) → ServesAt door given state_of old visit new → HasCleanDisk (state_of new.held) → HasCleanDisk (state_of old.held)
-  clean_at Clients visit old new it clean = it.clean clean
-  clean_at Orders visit old new it clean = it.tells.clean clean
+-- ---- what is kept of reads
 
-  away_at : (door : Door) (visit : Visit) (old new : OfficeValue S) → ServesAt door given state_of old visit new → old.closed ≡ true → IsToldClosed door given visit × (new ≡ old)
+none_read : (given : Option (List ℕ)) (s : OfficeState) (reads : List ReadEntry) → reads ≡ [] → AreReadAt given s reads
+none_read given s reads none = subst (λ (rs : List ReadEntry). AreReadAt given s rs) (sym none) (All-nil (λ (r : ReadEntry). IsRead given s r.got r.answer))
+
+-- for a read nothing is handed on
+reading_sends : (given : Option (List ℕ)) (s : OfficeState) (visit : Visit) (what : Reading) (sent : List Request) → Asks given visit.got (reading what)
+    → EndsSo visit (TellsFor given (Some visit.got) s sent) → sent ≡ []
+reading_sends given s visit what sent asks (served, it) = by it.ready
+  where
+    of : (asked : AskedEntry) → asked ≡ reading what → TellsAsked s asked it.response sent → sent ≡ []
+    of (reading other) is tells = tells.1
+    of (denied why) is tells = tells.1
+    of (keying clerk batch entry) is tells = let bad : keying clerk batch entry ≡ reading what = is in absurd (cc bad)
+
+    by : TellsFor given (Some visit.got) s sent it.response → sent ≡ []
+    by (inl (asked, so, tells)) = of asked (AsksOneThing-all given visit.got asked (reading what) so asks) tells
+    by (inr (fault, none)) = none
+
+module _ {S : Type 0} (given : Given) (state_of : Held S → State) where
+  clean_at : (door : Door) (visit : Visit) (old new : Desk S) → ServesAt door given state_of old visit new → HasCleanDisk (state_of new.office.held) → HasCleanDisk (state_of old.office.held)
+  clean_at Clients visit old new it clean = it.clean clean
+  clean_at Orders visit old new it clean = it.0.tells.clean clean
+
+  away_at : (door : Door) (visit : Visit) (old new : Desk S) → ServesAt door given state_of old visit new → old.office.closed ≡ true → IsToldClosed door given visit × (new.office ≡ old.office)
   away_at Clients visit old new it closed = it.turned_away closed
-  away_at Orders visit old new it closed =
+  away_at Orders visit old new (it, emptied) closed =
       let (page, stays) = it.tells.turned_away closed in
       (record { files = it.files; asked = it.asked; is = it.is; cut = it.tells.cut; told = subst (λ (p : Page). IsFramed it.tells.cut p visit.answer) page it.tells.told }, stays)
 
-  turn_leaves : (door : Door) (s : OfficeState) (visit : Visit) (old new : OfficeValue S) → ServesAt door given state_of old visit new → HasCleanDisk (state_of new.held) → old.closed ≡ false
-      → IsAt s (state_of old.held) → TurnLeaves door given s visit new.closed (state_of new.held)
-  turn_leaves Clients s visit old new it clean is_open at =
-      elim (client_leaves given.origin s visit new.closed (state_of new.held) (it.serves clean is_open s at)) [
+  turn_leaves : (door : Door) (s : OfficeState) (visit : Visit) (old new : Desk S) → ServesAt door given state_of old visit new → HasCleanDisk (state_of new.office.held) → old.office.closed ≡ false
+      → IsAt s (state_of old.office.held) → AreReadAt given.origin s old.kept → TurnLeaves door given s visit new.office.closed (state_of new.office.held)
+  turn_leaves Clients s visit old new it clean is_open at right =
+      elim (client_leaves given.origin s visit new.office.closed (state_of new.office.held) (it.serves clean is_open s at right)) [
         | inl answered ↦ inl answered
         | inr (last, ends, is_last, (is_closed, leaves)) ↦ inr ([], last, (ends, refl, is_last), is_closed, leaves)
       ]
-  turn_leaves Orders s visit old new it clean is_open at =
+  turn_leaves Orders s visit old new (it, emptied) clean is_open at right =
       let told = it.tells in
       let tells : (sent last : List Request) → TellsSo (folder_of it.files) s it.asked told.cut told.page sent last → TellsOrder given.file s visit.got visit.answer sent last =
       λ sent last so. record { files = it.files; asked = it.asked; is = it.is; cut = told.cut; page = told.page; told = told.told; tells = so } in
-      elim (order_leaves (state_of old.held) new.closed (state_of new.held) (folder_of it.files) s it.asked told.cut told.page (told.does clean is_open s at)) [
+      elim (order_leaves (state_of old.office.held) new.office.closed (state_of new.office.held) (folder_of it.files) s it.asked told.cut told.page (told.does clean is_open s at)) [
         | inl (sent, last, so, open_at) ↦ inl (sent, (last, tells sent last so), open_at)
         | inr (sent, last, so, is_closed, leaves) ↦ inr (sent, last, tells sent last so, is_closed, leaves)
       ]
 
-  pub cleans : (visits : List Visit) (old new : OfficeValue S) → FoldsTo (ServesVisit given state_of) old visits new → HasCleanDisk (state_of new.held) → HasCleanDisk (state_of old.held)
-  cleans [] old new same clean = subst (λ (o : OfficeValue S). HasCleanDisk (state_of o.held)) (sym same) clean
+  -- what is kept behind his turn is right at the state after it
+  kept_right : (door : Door) (s : OfficeState) (visit : Visit) (old new : Desk S) → ServesAt door given state_of old visit new → HasCleanDisk (state_of new.office.held) → old.office.closed ≡ false
+      → IsAt s (state_of old.office.held) → AreReadAt given.origin s old.kept → (sent : List Request) → IsAnsweredAt door given s visit sent → AreReadAt given.origin (after s sent) new.kept
+  kept_right Clients s visit old new it clean is_open at right sent told = by it.keeps
+    where
+      by : KeepsReads given.origin state_of old visit.got new → AreReadAt given.origin (after s sent) new.kept
+      by (inl none) = none_read given.origin (after s sent) new.kept none
+      by (inr ((what, asks), keeps)) =
+          let still = keeps clean is_open s at right in
+          subst (λ (rs : List Request). AreReadAt given.origin (after s rs) new.kept) (sym (reading_sends given.origin s visit what sent asks told)) still.0
+  kept_right Orders s visit old new (it, emptied) clean is_open at right sent told = none_read given.origin (after s sent) new.kept emptied
+
+  pub cleans : (visits : List Visit) (old new : Desk S) → FoldsTo (ServesVisit given state_of) old visits new → HasCleanDisk (state_of new.office.held) → HasCleanDisk (state_of old.office.held)
+  cleans [] old new same clean = subst (λ (o : Desk S). HasCleanDisk (state_of o.office.held)) (sym same) clean
   cleans (visit ∷ visits) old new (mid, step, rest) clean = clean_at visit.door visit old mid step (cleans visits mid new rest clean)
 
-  pub turned_away : (visits : List Visit) (old new : OfficeValue S) → FoldsTo (ServesVisit given state_of) old visits new → old.closed ≡ true → AreTurnedAway given visits × (new ≡ old)
-  turned_away [] old new same closed = (tt, sym same)
+  pub turned_away : (visits : List Visit) (old new : Desk S) → FoldsTo (ServesVisit given state_of) old visits new → old.office.closed ≡ true → AreTurnedAway given visits × (new.office ≡ old.office)
+  turned_away [] old new same closed = (tt, sym (ap (λ (o : Desk S). o.office) same))
   turned_away (visit ∷ visits) old new (mid, step, rest) closed =
       let (away, stays) = away_at visit.door visit old mid step closed in
       let others = turned_away visits mid new rest (ap (λ (o : OfficeValue S). o.closed) stays ∙ closed) in
@@ -248,36 +283,38 @@ module _ {S : Type 0} (given : Given) (state_of : Held S → State) where
     leaves = leaves;
   }
 
-  keeps : (s : OfficeState) (visits : List Visit) (old new : OfficeValue S) → FoldsTo (ServesVisit given state_of) old visits new → HasCleanDisk (state_of new.held) → old.closed ≡ false
-      → IsAt s (state_of old.held) → Keeps s visits new.closed (state_of new.held)
-  keeps s [] old new same clean is_open at =
-      subst (λ (o : OfficeValue S). Keeps s [] o.closed (state_of o.held)) same (record {
+  keeps : (s : OfficeState) (visits : List Visit) (old new : Desk S) → FoldsTo (ServesVisit given state_of) old visits new → HasCleanDisk (state_of new.office.held) → old.office.closed ≡ false
+      → IsAt s (state_of old.office.held) → AreReadAt given.origin s old.kept → Keeps s visits new.office.closed (state_of new.office.held)
+  keeps s [] old new same clean is_open at right =
+      subst (λ (o : Desk S). Keeps s [] o.office.closed (state_of o.office.held)) same (record {
         answered = [];
         last = [];
         in_turn = (refl, refl);
         open_at = λ was. record { is_open = was; at = at };
-        leaves = leaves_as (state_of old.held) _ _ (before_last s []) at.leaves;
+        leaves = leaves_as (state_of old.office.held) _ _ (before_last s []) at.leaves;
       })
-  keeps s (visit ∷ visits) old new (mid, step, rest) clean is_open at =
-      elim (turn_leaves visit.door s visit old mid step (cleans visits mid new rest clean) is_open at) [
+  keeps s (visit ∷ visits) old new (mid, step, rest) clean is_open at right =
+      let honest = cleans visits mid new rest clean in
+      elim (turn_leaves visit.door s visit old mid step honest is_open at right) [
         | inl (sent, told, open_at) ↦
-            let others = keeps (after s sent) visits mid new rest clean open_at.is_open open_at.at in
-            goes_on s sent visit visits new.closed (state_of new.held) others (inl (sent, others.answered, told, refl, others.in_turn))
+            let others = keeps (after s sent) visits mid new rest clean open_at.is_open open_at.at (kept_right visit.door s visit old mid step honest is_open at right sent told) in
+            goes_on s sent visit visits new.office.closed (state_of new.office.held) others (inl (sent, others.answered, told, refl, others.in_turn))
         | inr (answered, last, stopped, is_closed, leaves) ↦
             let away = turned_away visits mid new rest is_closed in
             subst (λ (o : OfficeValue S). Keeps s (visit ∷ visits) o.closed (state_of o.held)) (sym away.1)
-            (shut s answered last (visit ∷ visits) mid.closed (state_of mid.held) is_closed (inr (stopped, away.0)) leaves)
+            (shut s answered last (visit ∷ visits) mid.office.closed (state_of mid.office.held) is_closed (inr (stopped, away.0)) leaves)
       ]
 
-  -- the same after earlier requests
-  pub kept_of : (earlier : List Request) (visits : List Visit) (old new : OfficeValue S) → FoldsTo (ServesVisit given state_of) old visits new → HasCleanDisk (state_of new.held)
-      → old.closed ≡ false → IsAt (after empty_office earlier) (state_of old.held) → IsKeptOf given earlier visits new.closed (state_of new.held)
+  -- the same after earlier requests, where nothing is kept yet
+  pub kept_of : (earlier : List Request) (visits : List Visit) (old : OfficeValue S) (new : Desk S) → FoldsTo (ServesVisit given state_of) (with_none_kept old) visits new
+      → HasCleanDisk (state_of new.office.held) → old.closed ≡ false → IsAt (after empty_office earlier) (state_of old.held)
+      → IsKeptOf given earlier visits new.office.closed (state_of new.office.held)
   kept_of earlier visits old new each clean is_open at =
-      let it = keeps (after empty_office earlier) visits old new each clean is_open at in
+      let it = keeps (after empty_office earlier) visits (with_none_kept old) new each clean is_open at (none_read given.origin (after empty_office earlier) [] refl) in
       record {
         answered = it.answered;
         last = it.last;
         in_turn = it.in_turn;
-        open_at = λ was. subst (λ x. IsOpenAt x new.closed (state_of new.held)) (sym (fold-append after_one empty_office earlier it.answered)) (it.open_at was);
-        keeps = leaves_as (state_of new.held) _ _ (λ x some. beginning earlier (it.answered ++ it.last) (length it.answered) some.0 some.1 some.2 some.3 x some.4) it.leaves;
+        open_at = λ was. subst (λ x. IsOpenAt x new.office.closed (state_of new.office.held)) (sym (fold-append after_one empty_office earlier it.answered)) (it.open_at was);
+        keeps = leaves_as (state_of new.office.held) _ _ (λ x some. beginning earlier (it.answered ++ it.last) (length it.answered) some.0 some.1 some.2 some.3 x some.4) it.leaves;
       }

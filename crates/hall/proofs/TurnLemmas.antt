@@ -19,7 +19,8 @@ use Rattle.gathering.specs.declared.client.Door.{Door}
 use Rattle.gathering.specs.declared.client.Door.TheVariants.{Clients, Orders}
 use Rattle.hall.specs.Terms.{Given}
 use Rattle.hall.specs.Turns.{HasComeAt, IsSameClient, MayHaveTurn, answer_of}
-use Rattle.hall.specs.Visits.{EndsSo, ServesClient, ServesVisit, Visit}
+use Rattle.hall.specs.Reads.{Desk}
+use Rattle.hall.specs.Visits.{EndsIn, HasServed, ServesVisit, Visit}
 
 pub none_from : {X : Type 0} (found : Option X) → is_some found ≡ false → found ≡ None
 none_from None is = refl
@@ -35,25 +36,25 @@ pub no_answer : {L : Type 0} (old new : Client L) → old.answer ≡ None → ne
 no_answer old new none still = ap (option_map (λ (a : Answer). a.bytes.items)) (still ∙ sym none)
 
 -- an answer was put for a visit, where the reader, which doesn't fail, didn't
-ends_so : (IsReady : Response → Type 0) (Unread : Type 0) (visit : Visit) (served : Served) (failed : Type 0) → (failed → ⊥) → OnReadFailed served failed
-    → EndsWith IsReady Unread (Some []) (Some visit.answer) served → EndsSo visit IsReady
-ends_so IsReady Unread visit (Answered status) failed never read it = (Answered status, it)
-ends_so IsReady Unread visit ReadFailed failed never read it = absurd (never read)
-ends_so IsReady Unread visit WriteFailed failed never read it = (WriteFailed, it)
+ends_so : (IsReady : Response → Type 0) (Unread : Type 0) (answer : List ℕ) (served : Served) (failed : Type 0) → (failed → ⊥) → OnReadFailed served failed
+    → EndsWith IsReady Unread (Some []) (Some answer) served → EndsIn answer IsReady
+ends_so IsReady Unread answer (Answered status) failed never read it = (Answered status, it)
+ends_so IsReady Unread answer ReadFailed failed never read it = absurd (never read)
+ends_so IsReady Unread answer WriteFailed failed never read it = (WriteFailed, it)
 
 -- a client was served from what was gathered of him, by the clauses of the call that served him
-pub visit_served : {S : Type 0} (given : Option (List ℕ)) (state_of : Held S → State) (old new : OfficeValue S) (number : ℕ) (held got before after answer : List ℕ) (served : Served) (failed : Type 0)
+pub visit_served : {S : Type 0} (given : Option (List ℕ)) (state_of : Held S → State) (old new : OfficeValue S) (held got before after answer : List ℕ) (served : Served) (failed : Type 0)
     → held ≡ got → before ≡ [] → answer ≡ after → (failed → ⊥) → OnReadFailed served failed
     → (HasCleanDisk (state_of new.held) → old.closed ≡ false → (s : OfficeState) → IsAt s (state_of old.held)
     → Serves given (Some held) (Some before) (Some after) s served new.closed (state_of new.held))
     → (old.closed ≡ true → ServesClosed given (Some held) (Some before) (Some after) served) → (old.closed ≡ true → new ≡ old)
-    → (HasCleanDisk (state_of new.held) → HasCleanDisk (state_of old.held)) → ServesClient given state_of old (record { door = Clients; number = number; got = got; answer = answer }) new
-visit_served given state_of old new number held got before after answer served failed is_got is_before is_answer never read serves away stays clean = record {
+    → (HasCleanDisk (state_of new.held) → HasCleanDisk (state_of old.held)) → HasServed given state_of old got answer new
+visit_served given state_of old new held got before after answer served failed is_got is_before is_answer never read serves away stays clean = record {
   serves = λ clean is_open s at.
-      ends_so (λ response. ReadiesFor given (Some got) s response new.closed (state_of new.held)) (IsOpenAt s new.closed (state_of new.held)) (record { door = Clients; number = number; got = got; answer = answer }) served failed never read
+      ends_so (λ response. ReadiesFor given (Some got) s response new.closed (state_of new.held)) (IsOpenAt s new.closed (state_of new.held)) answer served failed never read
       (these (λ g b a. Serves given (Some g) (Some b) (Some a) s served new.closed (state_of new.held)) (serves clean is_open s at));
   turned_away = λ was. (
-    ends_so (ReadiesClosed given (Some got)) (Some answer ≡ Some []) (record { door = Clients; number = number; got = got; answer = answer }) served failed never read (these (λ g b a. ServesClosed given (Some g) (Some b) (Some a) served) (away was)),
+    ends_so (ReadiesClosed given (Some got)) (Some answer ≡ Some []) answer served failed never read (these (λ g b a. ServesClosed given (Some g) (Some b) (Some a) served) (away was)),
     stays was,
   );
   clean = clean;
@@ -84,7 +85,7 @@ module _ {L : Type 0} (line : Line L) where
       subst (λ (bytes : List ℕ). IsTold line now bytes told.sent) (sym same) (told_more line old now answer.bytes.items answer.sent told.sent his delivers)
 
   -- he has his turn, of whom all was heard
-  pub has_turn : {S : Type 0} (given : Given) (state_of : Held S → State) (old mid new : Client L) (before later : OfficeValue S) → old.answer ≡ None
+  pub has_turn : {S : Type 0} (given : Given) (state_of : Held S → State) (old mid new : Client L) (before later : Desk S) → old.answer ≡ None
       → Gathers line old.line mid.line old.got.items mid.got.items → mid.door ≡ old.door → mid.number ≡ old.number → HasComeAt old.door given (line.held mid.line) mid.got.items
       → (visit : Visit) × (visit.door ≡ mid.door) × (visit.number ≡ mid.number) × (visit.got ≡ mid.got.items) × ServesVisit given state_of before visit later × (answer_of new ≡ Some visit.answer)
       → MayHaveTurn given line state_of old new before later
