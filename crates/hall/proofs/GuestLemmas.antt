@@ -71,9 +71,9 @@ module _ {L : Type 0} (given : Option (List ℕ)) (line : Line L) where
         by (inr ne) = ap (λ (c : Client L). c.number) (get_or-set_other clients place k new d ne)
 
     pub apart_still : AllPairs (λ (a b : Client L). a.number < b.number) (set clients place new)
-    apart_still i j d lt high =
-        let low : j < length clients = omega (arith, high, length-set clients place new) in
-        omega (arith, number_kept i d, number_kept j d, apart i j d lt low)
+    apart_still = λ i j d lt high.
+        let below : j < length clients = omega (arith, high, length-set clients place new) in
+        omega (arith, number_kept i d, number_kept j d, apart i j d lt below)
 
     other_number : (k : ℕ) (d : Client L) → k < length clients → (k ≡ place → ⊥) → (get_or clients k d).number ≡ old.number → ⊥
     other_number k d low ne e = by (cases_order k place)
@@ -131,25 +131,25 @@ module _ {L : Type 0} (given : Option (List ℕ)) (line : Line L) where
             (subst (λ (vs : List Visit). WentSo given line (get_or guests k d) vs) (sym (same_under k visits more (others k ne))) (went.each k d (omega (arith, lt, long))))
 
     pub known_still : All (λ (c : Client L). c.number < length all_now) (set clients place new)
-    known_still k d lt =
+    known_still = λ k d lt.
         let at : k < length clients = omega (arith, lt, length-set clients place new) in
         omega (arith, number_kept k d, known k d at, long)
+
+    abbrev IsIn : Client L → Type 0
+    IsIn c = (guest : Guest L) → Stands line (visits ++ more) (get_or all_now c.number guest) c
 
     -- how it stands with those who are in, where it stands so with him
     pub stand_still : All (λ (c : Client L). (guest : Guest L) → Stands line visits (get_or guests c.number guest) c) clients
         → Stands line (visits ++ more) (record { came = his_guest.came; last = new.line }) new
         → All (λ (c : Client L). (guest : Guest L) → Stands line (visits ++ more) (get_or all_now c.number guest) c) (set clients place new)
-    stand_still stand his k d lt = by (cases_eq k place)
+    stand_still stand his = λ k d lt. by k d lt (cases_eq k place)
       where
-        IsIn : Client L → Type 0
-        abbrev IsIn c = (guest : Guest L) → Stands line (visits ++ more) (get_or all_now c.number guest) c
-
-        by : (k ≡ place) ⊎ (k ≡ place → ⊥) → IsIn (get_or (set clients place new) k d)
-        by (inl e) =
+        by : (k : ℕ) (d : Client L) → k < length (set clients place new) → (k ≡ place) ⊎ (k ≡ place → ⊥) → IsIn (get_or (set clients place new) k d)
+        by k d lt (inl e) =
             subst (λ (j : ℕ). IsIn (get_or (set clients place new) j d)) (sym e)
             (subst IsIn (sym (get_or-set_same clients place new d within))
             (λ guest. subst (λ (g : Guest L). Stands line (visits ++ more) g new) (sym (ap (λ (n : ℕ). get_or all_now n guest) number ∙ at_his guest)) his))
-        by (inr ne) =
+        by k d lt (inr ne) =
             let at : k < length clients = omega (arith, lt, length-set clients place new) in
             let other = other_number k d at ne in
             subst IsIn (sym (get_or-set_other clients place k new d ne))
@@ -176,13 +176,12 @@ module _ {L : Type 0} (given : Option (List ℕ)) (line : Line L) where
       let less : old.number < length guests = subst (λ (c : Client L). c.number < length guests) (sym (here old)) (are.known place old within) in
       let guest = get_or guests old.number some_guest in
       let stood : Stands line visits guest old =
-          subst (λ (c : Client L). Stands line visits (get_or guests c.number some_guest) c) (sym (here old)) (are.stand place old within some_guest) in
+      subst (λ (c : Client L). Stands line visits (get_or guests c.number some_guest) c) (sym (here old)) (are.stand place old within some_guest) in
       let (own, had, gathered) = goes guest stood (are.went.each old.number some_guest less) in
       let his : WentSo given line (record { came = guest.came; last = new.line }) (visits_of old.number (visits ++ more)) =
-          went_so guest.came new.line new.got.items new.answer (visits_of old.number (visits ++ more)) own had gathered in
+      went_so guest.came new.line new.got.items new.answer (visits_of old.number (visits ++ more)) own had gathered in
       let stands : Stands line (visits ++ more) (record { came = guest.came; last = new.line }) new =
-          record { last = refl; own = own; his = subst (λ (n : ℕ). HadFor (answer_of new) (visits_of n (visits ++ more))) (sym number) had } in
-      (
+      record { last = refl; own = own; his = subst (λ (n : ℕ). HadFor (answer_of new) (visits_of n (visits ++ more))) (sym number) had } in (
         all_now guests visits more clients place old new within is number are.apart are.known mine,
         all_came guests visits more clients place old new within is number are.apart are.known mine,
         record {
@@ -227,7 +226,7 @@ module _ {L : Type 0} (given : Option (List ℕ)) (line : Line L) where
   stand_on : (guests : List (Guest L)) (start : L) (visits : List Visit) (clients : List (Client L)) → All (λ (c : Client L). c.number < length guests) clients
       → All (λ (c : Client L). (guest : Guest L) → Stands line visits (get_or guests c.number guest) c) clients
       → All (λ (c : Client L). (guest : Guest L) → Stands line visits (get_or (with_one guests start) c.number guest) c) clients
-  stand_on guests start visits clients known stand k d lt = λ guest.
+  stand_on guests start visits clients known stand = λ k d lt guest.
       subst (λ (g : Guest L). Stands line visits g (get_or clients k d))
       (sym (get_or_append_left guests (record { came = start; last = start } ∷ []) guest (get_or clients k d).number (known k d lt))) (stand k d lt guest)
 
@@ -249,9 +248,9 @@ module _ {L : Type 0} (given : Option (List ℕ)) (line : Line L) where
   one_entered guests visits came clients start client are fresh over number unanswered own =
       let at : client.number ≡ length guests = number ∙ sym are.count in
       let none : visits_of client.number visits ≡ [] =
-          none_under client.number visits (All-weaker (λ (v : Visit). v.number < length guests) (λ (v : Visit). v.number ≡ client.number → ⊥) (λ v less same. omega (arith, less, same, at)) visits are.went.known) in
+      none_under client.number visits (All-weaker (λ (v : Visit). v.number < length guests) (λ (v : Visit). v.number ≡ client.number → ⊥) (λ v less same. omega (arith, less, same, at)) visits are.went.known) in
       let had : HadFor (answer_of client) (visits_of client.number visits) =
-          subst (λ (a : Option Answer). HadFor (option_map (λ (x : Answer). x.bytes.items) a) (visits_of client.number visits)) (sym unanswered) none in
+      subst (λ (a : Option Answer). HadFor (option_map (λ (x : Answer). x.bytes.items) a) (visits_of client.number visits)) (sym unanswered) none in
       record {
         count = omega (arith, one_longer guests start, are.count);
         went = came_in guests visits start are.went fresh;

@@ -65,8 +65,7 @@ module _ {L : Type 0} (given : Option (List ℕ)) (line : Line L) where
     told = lets_in_then let_in let_in_mid let_in_later a.lines b.lines a.told b.told;
     own = λ guests earlier are.
         let (some, some_came, some_are) = a.own guests earlier are in
-        let (all, all_came, all_are) = b.own some (earlier ++ first) some_are in
-        (
+        let (all, all_came, all_are) = b.own some (earlier ++ first) some_are in (
           all,
           all_came ∙ ap (λ (ls : List L). ls ++ b.lines) some_came ∙ append_assoc (map (λ (g : Guest L). g.came) guests) a.lines b.lines,
           subst (λ (vs : List Visit). AreIn given line all vs new.came new.clients.items) (append_assoc earlier first next) all_are,
@@ -124,8 +123,7 @@ module _ {L : Type 0} (given : Option (List ℕ)) (line : Line L) where
       → WentSo given line guest (visits_of old.number visits)
       → IsOf line guest.came new × HadFor (answer_of new) (visits_of old.number (visits ++ [])) × ((visit : Visit) → visits_of old.number (visits ++ []) ≡ visit ∷ [] → IsGathered given line guest.came visit.got)
   had_still guest visits old new same is stood went =
-      let under = same_under old.number visits [] (All-nil (λ (v : Visit). v.number ≡ old.number → ⊥)) in
-      (
+      let under = same_under old.number visits [] (All-nil (λ (v : Visit). v.number ≡ old.number → ⊥)) in (
         is guest.came stood.own,
         subst (λ (vs : List Visit). HadFor (answer_of new) vs) (sym under) (subst (λ (a : Option (List ℕ)). HadFor a (visits_of old.number visits)) (sym same) stood.his),
         λ visit one. gathered_for given line guest (visits_of old.number visits) visit went (sym under ∙ one),
@@ -138,14 +136,13 @@ module _ {L : Type 0} (given : Option (List ℕ)) (line : Line L) where
       × ((visit : Visit) → visits_of old.number (visits ++ turn.visit ∷ []) ≡ visit ∷ [] → IsGathered given line guest.came visit.got)
   had_turn state_of guest visits old new before later turn is stood =
       let none : visits_of old.number visits ≡ [] =
-          subst (λ (a : Option Answer). HadFor (option_map (λ (x : Answer). x.bytes.items) a) (visits_of old.number visits)) turn.unanswered stood.his in
+      subst (λ (a : Option Answer). HadFor (option_map (λ (x : Answer). x.bytes.items) a) (visits_of old.number visits)) turn.unanswered stood.his in
       let first = first_under old.number visits turn.visit none turn.number in
       let gathered : IsGathered given line guest.came turn.visit.got = record {
         heard = turn.heard;
         own = heard_more line guest.came old.line turn.heard old.got.items turn.visit.got (is_heard line guest.came old turn.unanswered stood.own) turn.own;
         come = turn.come;
-      } in
-      (
+      } in (
         is guest.came stood.own,
         subst (λ (a : Option (List ℕ)). HadFor a (visits_of old.number (visits ++ turn.visit ∷ []))) (sym turn.his) (turn.visit, first, refl),
         λ visit one. let same : turn.visit ≡ visit = cc (first, one) in subst (λ (v : Visit). IsGathered given line guest.came v.got) same gathered,
@@ -164,8 +161,7 @@ module _ {L : Type 0} (given : Option (List ℕ)) (line : Line L) where
       own = λ guests earlier are.
           let (all, all_came, all_are) = one_went_on given line guests earlier (turn.visit ∷ []) room.came room.clients.items place old new are within at number
           (All-push (λ (v : Visit). v.number ≡ old.number) [] turn.visit (All-nil (λ (v : Visit). v.number ≡ old.number)) turn.number)
-          (λ guest stood went. had_turn state_of guest earlier old new before later turn is stood) in
-          (
+          (λ guest stood went. had_turn state_of guest earlier old new before later turn is stood) in (
             all,
             all_came ∙ sym (append-nil (map (λ (g : Guest L). g.came) guests)),
             are_same given line all (earlier ++ turn.visit ∷ []) room.came after.came (set room.clients.items place new) after.clients.items came items all_are,
@@ -180,8 +176,7 @@ module _ {L : Type 0} (given : Option (List ℕ)) (line : Line L) where
       told = lets_in_same let_in let_in refl;
       own = λ guests earlier are.
           let (all, all_came, all_are) = one_went_on given line guests earlier [] room.came room.clients.items place old new are within at number (All-nil (λ (v : Visit). v.number ≡ old.number))
-          (λ guest stood went. had_still guest earlier old new answer is stood went) in
-          (
+          (λ guest stood went. had_still guest earlier old new answer is stood went) in (
             all,
             all_came ∙ sym (append-nil (map (λ (g : Guest L). g.came) guests)),
             are_same given line all (earlier ++ []) room.came after.came (set room.clients.items place new) after.clients.items came items all_are,
@@ -205,6 +200,20 @@ module _ {L : Type 0} (given : Option (List ℕ)) (line : Line L) where
       each = folds_then (ServesVisit given state_of) a.visits b.visits before between later a.each b.each;
       goes_on = goes_then a.visits b.visits let_in let_in_mid let_in_later old mid new a.goes_on b.goes_on;
     }
+
+    pub serving_same : (let_in let_in_mid let_in_later : Option (List L)) (old new : Room L) (before later : OfficeValue S) → let_in_later ≡ let_in_mid
+        → GoesOnServing given line state_of let_in let_in_mid old new before later → GoesOnServing given line state_of let_in let_in_later old new before later
+    serving_same let_in let_in_mid let_in_later old new before later same it =
+        subst (λ (lines : Option (List L)). GoesOnServing given line state_of let_in lines old new before later) (sym same) it
+
+    -- those who were in went on, some were let go, and more came in
+    pub serving_round : (let_in let_in_mid let_in_later : Option (List L)) (old went left new : Room L) (before later : OfficeValue S) (least now : ℕ)
+        → GoesOnServing given line state_of let_in let_in_mid old went before later → AreLetGo least now went left → GoesOn given line [] let_in_mid let_in_later left new
+        → GoesOnServing given line state_of let_in let_in_later old new before later
+    serving_round let_in let_in_mid let_in_later old went left new before later least now on gone more =
+        serving_then let_in let_in_mid let_in_later old went new before later later on
+        (serving_none let_in_mid let_in_later went new later
+        (goes_then [] [] let_in_mid let_in_mid let_in_later went left new (goes_without least now let_in_mid let_in_mid went left refl gone) more))
 
     -- a closed office stays as it is
     pub serving_closed : (let_in let_in_later : Option (List L)) (old new : Room L) (before later : OfficeValue S) → GoesOnServing given line state_of let_in let_in_later old new before later

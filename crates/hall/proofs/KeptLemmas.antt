@@ -1,7 +1,7 @@
 -- What clients who have their turns one after the other leave of an office.
 use Rattle.std.proofs.Common.{◌≡◌, ◌≤◌, ◌+◌, ◌∙◌, ◌⊎◌, ◌∷◌, ◌++◌, append_assoc, true, ℕ, Bool, List, [], Option, Some}
 use Rattle.std.proofs.Common.{arith, inl, inr, length, length-append, refl, sym, subst, suc, take, ap}
-use Rattle.std.specs.Prelude.{⊤, false}
+use Rattle.std.specs.Prelude.{false}
 use Rattle.std.specs.List.{FoldsTo}
 use Rattle.std.proofs.lemmas.List.Sums.{fold-append}
 use Rattle.sqlite.specs.Held.{Held}
@@ -17,10 +17,8 @@ use Rattle.office.specs.Values.{OfficeValue}
 use Rattle.office.proofs.RunLemmas.{beginning}
 use Rattle.wire.specs.Asking.{AskedEntry, Asks, denied, keying, reading}
 use Rattle.wire.specs.Responses.{ResponseEntry}
-use Rattle.wire.specs.Serving.{EndsWith, FaultLeaves, IsAnswered, ReadiesClosed, ReadiesFor, Serves, TellsFault, TellsFor, told_response}
+use Rattle.wire.specs.Serving.{FaultLeaves, IsAnswered, ReadiesFor, TellsFault, TellsFor, told_response}
 use Rattle.wire.specs.Told.{IsTold}
-use Rattle.wire.specs.declared.serving.Served.{Served}
-use Rattle.wire.specs.declared.serving.Served.TheVariants.{Answered, ReadFailed, WriteFailed}
 use Rattle.hall.specs.Visits.{AnswersInTurn, AreTurnedAway, EndsSo, IsKeptOf, IsLastFor, ServesVisit, Visit}
 
 -- after some of the requests: those that were answered, and at most one more
@@ -96,37 +94,17 @@ ready_leaves given bytes s response closed st (inl ready) =
 -- what a client who was served leaves
 abbrev ClientLeaves : Option (List ℕ) → OfficeState → Visit → Bool → State → Type 0
 ClientLeaves given s visit closed st =
-    ((sent : List Request) × EndsSo visit (EndsWith (TellsFor given (Some visit.got) s sent) (sent ≡ [])) × IsOpenAt (after s sent) closed st)
-    ⊎ ((last : List Request) × EndsSo visit (EndsWith TellsFault ⊥) × IsLastFor given visit.got last × ClosesAt s last closed st)
+    ((sent : List Request) × EndsSo visit (TellsFor given (Some visit.got) s sent) × IsOpenAt (after s sent) closed st)
+    ⊎ ((last : List Request) × EndsSo visit TellsFault × IsLastFor given visit.got last × ClosesAt s last closed st)
 
--- an answer was put, whole or in part
-client_put : (given : Option (List ℕ)) (s : OfficeState) (visit : Visit) (served : Served) (closed : Bool) (st : State) (Tells : List Request → Type 0) (Fails : Type 0)
-    → ((sent : List Request) → Tells sent → EndsWith (TellsFor given (Some visit.got) s sent) (sent ≡ []) (Some []) (Some visit.answer) served)
-    → (Fails → EndsWith TellsFault ⊥ (Some []) (Some visit.answer) served)
-    → ReadyLeaves given visit.got s Tells Fails closed st → ClientLeaves given s visit closed st
-client_put given s visit served closed st Tells Fails tell fail (inl (sent, tells, open_at)) = inl (sent, (served, tell sent tells), open_at)
-client_put given s visit served closed st Tells Fails tell fail (inr (last, fails, is_last, closes)) = inr (last, (served, fail fails), is_last, closes)
-
-client_leaves : (given : Option (List ℕ)) (s : OfficeState) (visit : Visit) (served : Served) (closed : Bool) (st : State)
-    → Serves given (Some visit.got) (Some []) (Some visit.answer) s served closed st → ClientLeaves given s visit closed st
-client_leaves given s visit (Answered status) closed st it =
-    client_put given s visit (Answered status) closed st _ _
-    (λ sent tells. record { response = it.response; ready = tells; put = it.put })
-    (λ fails. record { response = it.response; ready = fails; put = it.put })
-    (ready_leaves given visit.got s it.response closed st it.ready)
-client_leaves given s visit ReadFailed closed st open_at = inl ([], (ReadFailed, refl), open_at)
-client_leaves given s visit WriteFailed closed st it =
-    client_put given s visit WriteFailed closed st _ _
-    (λ sent tells. record { response = it.response; ready = tells; put = it.put })
-    (λ fails. record { response = it.response; ready = fails; put = it.put })
-    (ready_leaves given visit.got s it.response closed st it.ready)
+client_leaves : (given : Option (List ℕ)) (s : OfficeState) (visit : Visit) (closed : Bool) (st : State) → EndsSo visit (λ response. ReadiesFor given (Some visit.got) s response closed st)
+    → ClientLeaves given s visit closed st
+client_leaves given s visit closed st (served, it) = elim (ready_leaves given visit.got s it.response closed st it.ready) [
+  | inl (sent, tells, open_at) ↦ inl (sent, (served, record { response = it.response; ready = tells; put = it.put }), open_at)
+  | inr (last, fails, is_last, closes) ↦ inr (last, (served, record { response = it.response; ready = fails; put = it.put }), is_last, closes)
+]
 
 -- ---- all clients
-
-closed_ends : (IsReady : _) (P : Type 0) (old new : Option (List ℕ)) (served : Served) → EndsWith IsReady P old new served → EndsWith IsReady ⊤ old new served
-closed_ends IsReady P old new (Answered status) it = it
-closed_ends IsReady P old new ReadFailed it = tt
-closed_ends IsReady P old new WriteFailed it = it
 
 module _ {S : Type 0} (given : Option (List ℕ)) (state_of : Held S → State) where
   pub cleans : (visits : List Visit) (old new : OfficeValue S) → FoldsTo (ServesVisit given state_of) old visits new → HasCleanDisk (state_of new.held) → HasCleanDisk (state_of old.held)
@@ -138,7 +116,7 @@ module _ {S : Type 0} (given : Option (List ℕ)) (state_of : Held S → State) 
   turned_away (visit ∷ visits) old new (mid, step, rest) closed =
       let (away, stays) = step.turned_away closed in
       let others = turned_away visits mid new rest (ap (λ (o : OfficeValue S). o.closed) stays ∙ closed) in
-      (((step.served, closed_ends (ReadiesClosed given (Some visit.got)) _ _ _ step.served away), others.0), others.1 ∙ stays)
+      ((away, others.0), others.1 ∙ stays)
 
   -- what is kept of clients who have their turns from a state on
   pub record Keeps (s : OfficeState) (visits : List Visit) (closed : Bool) (st : State) : Type 0 where
@@ -190,7 +168,7 @@ module _ {S : Type 0} (given : Option (List ℕ)) (state_of : Held S → State) 
         leaves = leaves_as (state_of old.held) _ _ (before_last s []) at.leaves;
       })
   keeps s (visit ∷ visits) old new (mid, step, rest) clean is_open at =
-      elim (client_leaves given s visit step.served mid.closed (state_of mid.held) (step.serves (cleans visits mid new rest clean) is_open s at)) [
+      elim (client_leaves given s visit mid.closed (state_of mid.held) (step.serves (cleans visits mid new rest clean) is_open s at)) [
         | inl (sent, ends, open_at) ↦
             let others = keeps (after s sent) visits mid new rest clean open_at.is_open open_at.at in
             goes_on s sent visit visits new.closed (state_of new.held) others (inl (sent, others.answered, ends, refl, others.in_turn))

@@ -5,15 +5,18 @@ use Rattle.sqlite.specs.State.{HasCleanDisk, State}
 use Rattle.register.specs.Offices.{OfficeState}
 use Rattle.store.specs.Offices.{IsAt}
 use Rattle.office.specs.Values.{OfficeValue}
-use Rattle.wire.specs.Serving.{Serves, ServesClosed}
+use Rattle.office.specs.Answers.{IsOpenAt}
+use Rattle.wire.specs.Serving.{EndsWith, OnReadFailed, ReadiesClosed, ReadiesFor, Serves, ServesClosed}
+use Rattle.wire.specs.declared.response.Response.{Response}
 use Rattle.wire.specs.declared.serving.Served.{Served}
+use Rattle.wire.specs.declared.serving.Served.TheVariants.{Answered, ReadFailed, WriteFailed}
 use Rattle.gathering.specs.Lines.{Delivers, Gathers, Line}
 use Rattle.gathering.specs.Clients.{IsHeard, IsOf, IsServedSo, IsTold}
 use Rattle.gathering.specs.declared.client.Answer.{Answer}
 use Rattle.gathering.specs.declared.client.Client.{Client}
 use Rattle.gathering.proofs.LineLemmas.{heard_more, told_more, told_none}
 use Rattle.hall.specs.Turns.{HasCome, IsSameClient, MayHaveTurn, answer_of}
-use Rattle.hall.specs.Visits.{ServesVisit, Visit}
+use Rattle.hall.specs.Visits.{EndsSo, ServesVisit, Visit}
 
 pub none_from : {X : Type 0} (found : Option X) → is_some found ≡ false → found ≡ None
 none_from None is = refl
@@ -28,17 +31,28 @@ same_answer old new before is same = ap Some same ∙ sym (ap (option_map (λ (a
 pub no_answer : {L : Type 0} (old new : Client L) → old.answer ≡ None → new.answer ≡ None → answer_of new ≡ answer_of old
 no_answer old new none still = ap (option_map (λ (a : Answer). a.bytes.items)) (still ∙ sym none)
 
+-- an answer was put for a visit, where the reader, which doesn't fail, didn't
+ends_so : (IsReady : Response → Type 0) (Unread : Type 0) (visit : Visit) (served : Served) (failed : Type 0) → (failed → ⊥) → OnReadFailed served failed
+    → EndsWith IsReady Unread (Some []) (Some visit.answer) served → EndsSo visit IsReady
+ends_so IsReady Unread visit (Answered status) failed never read it = (Answered status, it)
+ends_so IsReady Unread visit ReadFailed failed never read it = absurd (never read)
+ends_so IsReady Unread visit WriteFailed failed never read it = (WriteFailed, it)
+
 -- a client was served from what was gathered of him, by the clauses of the call that served him
-pub visit_served : {S : Type 0} (given : Option (List ℕ)) (state_of : Held S → State) (old new : OfficeValue S) (number : ℕ) (held got before after answer : List ℕ) (served : Served)
-    → held ≡ got → before ≡ [] → answer ≡ after
+pub visit_served : {S : Type 0} (given : Option (List ℕ)) (state_of : Held S → State) (old new : OfficeValue S) (number : ℕ) (held got before after answer : List ℕ) (served : Served) (failed : Type 0)
+    → held ≡ got → before ≡ [] → answer ≡ after → (failed → ⊥) → OnReadFailed served failed
     → (HasCleanDisk (state_of new.held) → old.closed ≡ false → (s : OfficeState) → IsAt s (state_of old.held)
     → Serves given (Some held) (Some before) (Some after) s served new.closed (state_of new.held))
     → (old.closed ≡ true → ServesClosed given (Some held) (Some before) (Some after) served) → (old.closed ≡ true → new ≡ old)
     → (HasCleanDisk (state_of new.held) → HasCleanDisk (state_of old.held)) → ServesVisit given state_of old (record { number = number; got = got; answer = answer }) new
-visit_served given state_of old new number held got before after answer served is_got is_before is_answer serves away stays clean = record {
-  served = served;
-  serves = λ clean is_open s at. these (λ g b a. Serves given (Some g) (Some b) (Some a) s served new.closed (state_of new.held)) (serves clean is_open s at);
-  turned_away = λ was. (these (λ g b a. ServesClosed given (Some g) (Some b) (Some a) served) (away was), stays was);
+visit_served given state_of old new number held got before after answer served failed is_got is_before is_answer never read serves away stays clean = record {
+  serves = λ clean is_open s at.
+      ends_so (λ response. ReadiesFor given (Some got) s response new.closed (state_of new.held)) (IsOpenAt s new.closed (state_of new.held)) (record { number = number; got = got; answer = answer }) served failed never read
+      (these (λ g b a. Serves given (Some g) (Some b) (Some a) s served new.closed (state_of new.held)) (serves clean is_open s at));
+  turned_away = λ was. (
+    ends_so (ReadiesClosed given (Some got)) (Some answer ≡ Some []) (record { number = number; got = got; answer = answer }) served failed never read (these (λ g b a. ServesClosed given (Some g) (Some b) (Some a) served) (away was)),
+    stays was,
+  );
   clean = clean;
 }
   where

@@ -1,6 +1,6 @@
 //! A client who goes on: he is heard, served once what he asks has come to its end, and told his answer.
 
-ghost use Rattle.std.specs.Prelude.{◌≡◌, ◌≤◌, ℕ, IfSome, None, Ok, Some, length, true};
+ghost use Rattle.std.specs.Prelude.{◌≡◌, ℕ, None, Ok, Some, true};
 ghost use Rattle.sqlite.specs.State.{HasCleanDisk};
 ghost use Rattle.sqlite.specs.Held.{state};
 ghost use Rattle.gathering.specs.Lines.{Gathers, line_of};
@@ -20,6 +20,8 @@ use wire::{Lacks, MAX_HEAD_BYTES, Origin, lacks, serve_one};
 pub enum Attended {
     /// More is to come of him, or he has more to take.
     Waits,
+    /// He had his turn just now, and has more to take.
+    Served,
     /// He took his whole answer.
     Done,
     /// He is let go: his line broke, or memory was wanting for what he sends.
@@ -92,7 +94,6 @@ fn answered<S: Alter>(
 
 /// Tells a client more of his answer, if he has one.
 fn tell_more<L: Line>(client: &mut Client<L>) -> Attended
-    requires { IfSome client.old.answer (λ answer. answer.sent ≤ length answer.bytes.items) }
     ensures is { (start : L) → IsOf (line_of L.held L.taken) start client.old → IsOf (line_of L.held L.taken) start client.new }
     ensures same { IsSameClient client.old client.new }
     ensures his { answer_of client.new ≡ answer_of client.old }
@@ -122,7 +123,10 @@ fn take_turn<L: Line, S: Alter>(
     let answer = answered(alloc, origin, client.got.as_slice(), office);
     client.answer = Some(answer);
     client.got = Vec::new(alloc);
-    tell_more(client)
+    match tell_more(client) {
+        Attended::Waits => Attended::Served,
+        told => told,
+    }
 }
 
 /// A client goes on, as far as his line lets him now: he is heard; once what he asks has come to its end, this is his turn,
@@ -136,7 +140,6 @@ pub fn attend<L: Line, S: Alter>(
     client: &mut Client<L>,
     office: &mut Office<S>,
 ) -> Attended
-    requires { IfSome client.old.answer (λ answer. answer.sent ≤ length answer.bytes.items) }
     ensures is { (start : L) → IsOf (line_of L.held L.taken) start client.old → IsOf (line_of L.held L.taken) start client.new }
     ensures same { IsSameClient client.old client.new }
     ensures turn { MayHaveTurn (given_by origin.entry) (line_of L.held L.taken) (state S.Store) client.old client.new office.old office.new }

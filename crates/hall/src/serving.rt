@@ -10,18 +10,15 @@ ghost use Rattle.hall.specs.Turns.{MayHaveTurn};
 ghost use Rattle.hall.specs.Halls.{GoesOn, GoesOnServing, ServesHall};
 
 use crate::attending::{Attended, attend};
-use crate::leaving::{PATIENCE, keep_within, let_go_late, let_one_go};
-use gathering::room::{bytes_held, longest, place_of};
-use gathering::{Admitted, Client, Doors, Line, MAX_BYTES, MAX_CLIENTS, Room};
+use crate::leaving::{PATIENCE, keep_within, let_go_late, make_room};
+use gathering::room::{longest, place_of};
+use gathering::{Admitted, Client, Doors, Line, MAX_CLIENTS, Room};
 use office::Office;
 use sqlite::Alter;
 use std::alloc::Global;
 use std::time::{Clock, Duration};
 use votes::Broken;
 use wire::Origin;
-
-/// Nobody is let go to make room before he has waited so long, in milliseconds.
-const GRACE: u64 = 1_000;
 
 /// How long the next look at those who wait may be put off, while somebody waits whom no event may tell of.
 const LOOK: u64 = 1_000;
@@ -37,28 +34,52 @@ fn moment<C: Clock>(clock: &C) -> Result<u64, Broken> {
     }
 }
 
-/// One client goes on. His half minute begins anew once he has his answer: however long his turn took, he has all of it.
+/// One client goes on; whether he stays in. His half minute begins anew once he has his answer: however long his turn took, he
+/// has all of it.
 fn go_on<L: Line, C: Clock, S: Alter>(
     alloc: Global,
     clock: &C,
     origin: Option<Origin<'_>>,
     client: &mut Client<L>,
     office: &mut Office<S>,
-) -> Result<Attended, Broken>
-    requires { IfSome client.old.answer (λ answer. answer.sent ≤ length answer.bytes.items) }
+) -> Result<bool, Broken>
     ensures is { (start : L) → IsOf (line_of L.held L.taken) start client.old → IsOf (line_of L.held L.taken) start client.new }
     ensures number { client.new.number ≡ client.old.number }
     ensures turn { MayHaveTurn (given_by origin.entry) (line_of L.held L.taken) (state S.Store) client.old client.new office.old office.new }
 {
-    let was_asked = client.answer.is_none();
-    let attended = attend(alloc, origin, client, office);
-    if was_asked && client.answer.is_some() {
-        client.since = moment(clock)?;
+    match attend(alloc, origin, client, office) {
+        Attended::Waits => Ok(true),
+        Attended::Served => {
+            client.since = moment(clock)?;
+            Ok(true)
+        }
+        Attended::Done => Ok(false),
+        Attended::Lost => Ok(false),
     }
-    Ok(attended)
 }
 
-/// The client with a number goes on, if he is in. Where he is done, or lost, he leaves.
+/// The client at a place goes on. Where he is done, or lost, he leaves.
+fn go_on_at<L: Line + Drop, C: Clock, S: Alter>(
+    alloc: Global,
+    clock: &C,
+    origin: Option<Origin<'_>>,
+    room: &mut Room<L>,
+    place: usize,
+    office: &mut Office<S>,
+) -> Result<(), Broken>
+    requires { place < length room.old.clients.items }
+    ensures goes_on { (let_in : Option (List L)) → GoesOnServing (given_by origin.entry) (line_of L.held L.taken) (state S.Store) let_in let_in room.old room.new office.old office.new }
+    ensures came { room.new.came ≡ room.old.came }
+{
+    if go_on(alloc, clock, origin, &mut room.clients[place], office)? {
+        keep_within(room);
+        return Ok(());
+    }
+    drop(room.clients.remove(place));
+    Ok(())
+}
+
+/// The client with a number goes on, if he is in.
 fn go_on_numbered<L: Line + Drop, C: Clock, S: Alter>(
     alloc: Global,
     clock: &C,
@@ -70,14 +91,10 @@ fn go_on_numbered<L: Line + Drop, C: Clock, S: Alter>(
     ensures goes_on { (let_in : Option (List L)) → GoesOnServing (given_by origin.entry) (line_of L.held L.taken) (state S.Store) let_in let_in room.old room.new office.old office.new }
     ensures came { room.new.came ≡ room.old.came }
 {
-    let Some(place) = place_of(room.clients.as_slice(), number) else {
-        return Ok(());
-    };
-    match go_on(alloc, clock, origin, &mut room.clients[place], office)? {
-        Attended::Waits => keep_within(room),
-        Attended::Done | Attended::Lost => drop(room.clients.remove(place)),
+    match place_of(room.clients.as_slice(), number) {
+        Some(place) => go_on_at(alloc, clock, origin, room, place, office),
+        None => Ok(()),
     }
-    Ok(())
 }
 
 /// Each who may go on goes on, in the order in which that is told.
@@ -101,11 +118,6 @@ fn go_on_all<D: Doors, C: Clock, S: Alter>(
     Ok(())
 }
 
-/// Whether nobody more may be in.
-fn is_full<L>(room: &Room<L>) -> bool {
-    room.clients.len() >= MAX_CLIENTS || bytes_held(room.clients.as_slice()) >= MAX_BYTES
-}
-
 /// Lets in the next who waits at the doors, as far as so many may come and there is room, or room is made. Where nobody came
 /// in, how long the next look at the doors may be put off, in milliseconds.
 fn let_one_in<D: Doors>(
@@ -117,11 +129,12 @@ fn let_one_in<D: Doors>(
 ) -> Option<u64>
     ensures goes_on { (given : Option (List ℕ)) → GoesOn given (line_of D.Line.held D.Line.taken) [] (D.came doors.old) (D.came doors.new) room.old room.new }
     ensures few { room.old.came ≤ most → room.new.came ≤ most }
+    ensures room { length room.old.clients.items ≤ MAX_CLIENTS → length room.new.clients.items ≤ MAX_CLIENTS }
 {
     if room.came >= most || !doors.is_waited_at() {
         return Some(PATIENCE);
     }
-    if is_full(room) && !let_one_go(room, GRACE, now) {
+    if !make_room(room, now) {
         return Some(LOOK);
     }
     match doors.admit(room.came) {
@@ -145,6 +158,7 @@ fn let_in<D: Doors>(
 ) -> u64
     ensures goes_on { (given : Option (List ℕ)) → GoesOn given (line_of D.Line.held D.Line.taken) [] (D.came doors.old) (D.came doors.new) room.old room.new }
     ensures few { room.old.came ≤ most → room.new.came ≤ most }
+    ensures room { length room.old.clients.items ≤ MAX_CLIENTS → length room.new.clients.items ≤ MAX_CLIENTS }
 {
     for _ in 0..COMERS {
         if let Some(look) = let_one_in(alloc, doors, room, most, now) {
