@@ -1,7 +1,9 @@
 -- From one moment of a hall to another.
-use Rattle.std.proofs.Common.{◌≡◌, ◌≤◌, ◌<◌, ◌+◌, ◌-◌, ◌^◌, ◌∙◌, ◌⊎◌, ◌∷◌, ◌++◌, ℕ, List, [], None, Option, Some, All, ap, append-nil, append_assoc, arith, get_or, inl, inr, length, map, option_map, refl, remove, set, subst, sym}
-use Rattle.std.specs.Prelude.{OnOk, IfSome, Result, unwrap_or}
+use Rattle.std.proofs.Common.{◌≡◌, ◌≤◌, ◌<◌, ◌+◌, ◌-◌, ◌^◌, ◌∙◌, ◌⊎◌, ◌∷◌, ◌++◌, ℕ, Bool, false, true, List, [], None, Option, Some, All, ap, append-nil, append_assoc, arith, get_or, inl, inr, length, map, option_map, refl, remove, set, subst, sym}
+use Rattle.std.specs.Prelude.{Err, IfSome, Ok, OnOk, Result, unwrap_or}
+use Rattle.std.specs.Result.{IsErr}
 use Rattle.std.specs.List.{FoldsTo}
+use Rattle.std.specs.Vec.{with_item}
 use Rattle.std.proofs.lemmas.List.{map_push}
 use Rattle.std.proofs.lemmas.List.Elements.{All-nil, All-push}
 use Rattle.sqlite.specs.Held.{Held}
@@ -35,8 +37,8 @@ pub lets_in_same : {L : Type 0} (old new : Option (List L)) → new ≡ old → 
 lets_in_same old new same = same ∙ lets_in_none old
 
 lets_in_then : {L : Type 0} (old mid new : Option (List L)) (first next : List L) → LetsInMore old mid first → LetsInMore mid new next → LetsInMore old new (first ++ next)
-lets_in_then None mid new first next a b = b ∙ ap (option_map (λ (xs : List L). xs ++ next)) a
-lets_in_then (Some lines) mid new first next a b = b ∙ ap (option_map (λ (xs : List L). xs ++ next)) a ∙ ap Some (append_assoc lines first next)
+lets_in_then {L} None mid new first next a b = b ∙ ap (option_map (λ (xs : List L). xs ++ next)) a
+lets_in_then {L} (Some lines) mid new first next a b = b ∙ ap (option_map (λ (xs : List L). xs ++ next)) a ∙ ap Some (append_assoc lines first next)
 
 module _ {L : Type 0} (given : Option (List ℕ)) (line : Line L) where
   -- ---- a room
@@ -148,6 +150,10 @@ module _ {L : Type 0} (given : Option (List ℕ)) (line : Line L) where
         λ visit one. let same : turn.visit ≡ visit = cc (first, one) in subst (λ (v : Visit). IsGathered given line guest.came v.got) same gathered,
       )
 
+  -- a room in which one client is another now
+  abbrev pub room_with : Room L → ℕ → Client L → Room L
+  room_with room place client = record { clients = with_item room.clients place client; came = room.came }
+
   pub goes_on_at : {S : Type 0} (state_of : Held S → State) (let_in : Option (List L)) (room after : Room L) (place : ℕ) (old new : Client L) (before later : OfficeValue S) → place < length room.clients.items
       → old ≡ get_or room.clients.items place old → new.number ≡ old.number → ((start : L) → IsOf line start old → IsOf line start new) → MayHaveTurn given line state_of old new before later
       → after.clients.items ≡ set room.clients.items place new → after.came ≡ room.came
@@ -250,3 +256,8 @@ most_few (Some n) most came is few = omega (arith, is, few)
 pub most_all : (connections : Option ℕ) (most came : ℕ) → most ≡ unwrap_or connections (2 ^ 64 - 1) → came ≤ most → most ≤ came → IfSome connections (λ n. came ≡ n)
 most_all None most came is few all = tt
 most_all (Some n) most came is few all = omega (arith, is, few, all)
+
+-- there was a failure, so nothing is said of an end without one
+pub on_err : {A E : Type 0} (result : Result A E) (P : Type 0) → IsErr result → OnOk result P
+on_err (Ok a) P failed = absurd (cc failed)
+on_err (Err e) P failed = tt
