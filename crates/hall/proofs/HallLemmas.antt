@@ -273,6 +273,10 @@ module _ {L : Type 0} (given : Given) (line : Line L) where
 
 -- ---- who was told nothing
 
+-- a room with nobody in it is sound
+pub sound_empty : {L : Type 0} (given : Given) (line : Line L) (room : Room L) → room.clients.items ≡ [] → room.came ≡ 0 → IsSound given line room
+sound_empty {L} given line room none zero = ([], [], are_same given line [] [] 0 room.came [] room.clients.items zero none (none_in given line))
+
 -- of those who are in a room that is sound, whoever has no answer was told nothing
 pub untold_at : {L : Type 0} (given : Given) (line : Line L) (room : Room L) (place : ℕ) (client : Client L) → IsSound given line room → place < length room.clients.items
     → client ≡ get_or room.clients.items place client → IsUntold line client

@@ -9,5 +9,5 @@ returns-clause-go g c =
     let one = c.index.result.now in
     let patient : c.args.least ≤ c.args.now - one.since = omega arith in
     let longest = c.in-Some.ensures.some in
-    let_go_one c.args.least c.args.now room (record { clients = c.remove.new.self; came = room.came }) c.as_slice.result.now c.in-Some.place one c.as_slice.ensures.value longest.0 longest.1
-    c.index.ensures patient c.remove.ensures.items refl
+    let_go_one c.args.least c.args.now room (record { clients = c.remove.new.self; came = room.came; counted = room.counted }) c.as_slice.result.now c.in-Some.place one c.as_slice.ensures.value longest.0 longest.1
+    c.index.ensures patient c.remove.ensures.items refl refl

@@ -2,38 +2,43 @@
 use Rattle.std.proofs.Common.{arith, length-set, refl}
 use Rattle.sqlite.specs.Held.{state}
 use Rattle.gathering.specs.Lines.{line_of}
-use Rattle.wire.specs.Origins.{given_by}
-use Rattle.hall.proofs.HallLemmas.{goes_less, goes_on_at, goes_without, room_with, serving_none, serving_then}
+use Rattle.hall.specs.Terms.{given_in}
+use Rattle.hall.proofs.HallLemmas.{goes_less, goes_on_at, goes_without, room_with, serving_none, serving_then, untold_at}
 use Rattle.hall.proofs.serving.go_on_at.Goals as goal
 
 pub returns-in_err-go_on-clause-goes_on : goal.returns-in_err-go_on-clause-goes_on
 returns-in_err-go_on-clause-goes_on g c = λ let_in.
-    let given = given_by c.args.origin in
+    let given = given_in c.args.terms in
     let line = line_of g.L.Line.held g.L.Line.taken in
     let room = c.args.room.now in
     let went = room_with given line room c.args.place c.go_on.new.client in
     goes_on_at given line (state g.S.Store) let_in room went c.args.place c.index_mut.result.now c.go_on.new.client c.args.office.now c.go_on.new.office
-    c.requires c.index_mut.ensures.value c.go_on.ensures.number c.go_on.ensures.is c.go_on.ensures.turn refl refl
+    c.requires.place c.index_mut.ensures.value c.go_on.ensures.same.0 c.go_on.ensures.same.1 c.go_on.ensures.is c.go_on.ensures.turn refl refl refl
 
 pub returns-then-branch-clause-goes_on : goal.returns-then-branch-clause-goes_on
 returns-then-branch-clause-goes_on g c = λ let_in.
-    let given = given_by c.args.origin in
+    let given = given_in c.args.terms in
     let line = line_of g.L.Line.held g.L.Line.taken in
     let room = c.args.room.now in
     let went = room_with given line room c.args.place c.go_on.new.client in
     serving_then given line (state g.S.Store) let_in let_in let_in room went c.keep_within.new.room c.args.office.now c.go_on.new.office c.go_on.new.office
     (goes_on_at given line (state g.S.Store) let_in room went c.args.place c.index_mut.result.now c.go_on.new.client c.args.office.now c.go_on.new.office
-    c.requires c.index_mut.ensures.value c.go_on.ensures.number c.go_on.ensures.is c.go_on.ensures.turn refl refl)
+    c.requires.place c.index_mut.ensures.value c.go_on.ensures.same.0 c.go_on.ensures.same.1 c.go_on.ensures.is c.go_on.ensures.turn refl refl refl)
     (serving_none given line (state g.S.Store) let_in let_in went c.keep_within.new.room c.go_on.new.office (goes_without given line 0 0 let_in let_in went c.keep_within.new.room refl c.keep_within.ensures.go))
 
 pub returns-clause-goes_on : goal.returns-clause-goes_on
 returns-clause-goes_on g c = λ let_in.
-    let given = given_by c.args.origin in
+    let given = given_in c.args.terms in
     let line = line_of g.L.Line.held g.L.Line.taken in
     let room = c.args.room.now in
     let went = room_with given line room c.args.place c.go_on.new.client in
-    serving_then given line (state g.S.Store) let_in let_in let_in room went (record { clients = c.remove.new.self; came = room.came }) c.args.office.now c.go_on.new.office c.go_on.new.office
+    serving_then given line (state g.S.Store) let_in let_in let_in room went (record { clients = c.remove.new.self; came = room.came; counted = room.counted }) c.args.office.now c.go_on.new.office c.go_on.new.office
     (goes_on_at given line (state g.S.Store) let_in room went c.args.place c.index_mut.result.now c.go_on.new.client c.args.office.now c.go_on.new.office
-    c.requires c.index_mut.ensures.value c.go_on.ensures.number c.go_on.ensures.is c.go_on.ensures.turn refl refl)
-    (serving_none given line (state g.S.Store) let_in let_in went (record { clients = c.remove.new.self; came = room.came }) c.go_on.new.office
-    (goes_less given line let_in let_in went (record { clients = c.remove.new.self; came = room.came }) c.args.place refl (omega (arith, c.requires, length-set room.clients.items c.args.place c.go_on.new.client)) c.remove.ensures.items refl))
+    c.requires.place c.index_mut.ensures.value c.go_on.ensures.same.0 c.go_on.ensures.same.1 c.go_on.ensures.is c.go_on.ensures.turn refl refl refl)
+    (serving_none given line (state g.S.Store) let_in let_in went (record { clients = c.remove.new.self; came = room.came; counted = room.counted }) c.go_on.new.office
+    (goes_less given line let_in let_in went (record { clients = c.remove.new.self; came = room.came; counted = room.counted }) c.args.place refl (omega (arith, c.requires.place, length-set room.clients.items c.args.place c.go_on.new.client)) c.remove.ensures.items refl refl))
+
+-- who is at the place was told nothing, if he has no answer
+pub go_on-requires : goal.go_on-requires
+go_on-requires g c =
+    untold_at (given_in c.args.terms) (line_of g.L.Line.held g.L.Line.taken) c.args.room.now c.args.place c.index_mut.result.now c.requires.sound c.requires.place c.index_mut.ensures.value

@@ -1,13 +1,13 @@
 -- Why `go_round` keeps its promise.
 use Rattle.sqlite.specs.Held.{state}
 use Rattle.gathering.specs.Lines.{line_of}
-use Rattle.wire.specs.Origins.{given_by}
+use Rattle.hall.specs.Terms.{given_in}
 use Rattle.hall.proofs.HallLemmas.{serving_round, serving_same}
 use Rattle.hall.proofs.serving.go_round.Goals as goal
 
 pub returns-then-is_empty-clause-goes_on : goal.returns-then-is_empty-clause-goes_on
 returns-then-is_empty-clause-goes_on g c =
-    let given = given_by c.args.origin in
+    let given = given_in c.args.terms in
     let line = line_of g.D.Line.Line.held g.D.Line.Line.taken in
     serving_round given line (state g.S.Store) (g.D.Doors.came c.args.doors.now) (g.D.Doors.came c.go_on_all.new.doors) (g.D.Doors.came c.let_in-look.new.doors)
     c.args.room.now c.go_on_all.new.room c.let_go_late.new.room c.let_in-look.new.room c.args.office.now c.go_on_all.new.office 30000 c.in_ok-now.now
@@ -15,7 +15,7 @@ returns-then-is_empty-clause-goes_on g c =
 
 pub returns-in_err-wait-clause-goes_on : goal.returns-in_err-wait-clause-goes_on
 returns-in_err-wait-clause-goes_on g c =
-    let given = given_by c.args.origin in
+    let given = given_in c.args.terms in
     let line = line_of g.D.Line.Line.held g.D.Line.Line.taken in
     serving_same given line (state g.S.Store) (g.D.Doors.came c.args.doors.now) (g.D.Doors.came c.let_in-look.new.doors) (g.D.Doors.came c.wait.new.self)
     c.args.room.now c.let_in-look.new.room c.args.office.now c.go_on_all.new.office c.wait.ensures
@@ -25,7 +25,7 @@ returns-in_err-wait-clause-goes_on g c =
 
 pub returns-clause-goes_on : goal.returns-clause-goes_on
 returns-clause-goes_on g c =
-    let given = given_by c.args.origin in
+    let given = given_in c.args.terms in
     let line = line_of g.D.Line.Line.held g.D.Line.Line.taken in
     serving_same given line (state g.S.Store) (g.D.Doors.came c.args.doors.now) (g.D.Doors.came c.let_in-look.new.doors) (g.D.Doors.came c.wait.new.self)
     c.args.room.now c.let_in-look.new.room c.args.office.now c.go_on_all.new.office c.wait.ensures

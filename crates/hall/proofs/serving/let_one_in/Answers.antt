@@ -10,7 +10,7 @@ returns-in-One-clause-goes_on g c = λ given.
     let before = g.D.Doors.came c.args.doors.now in
     let later = g.D.Doors.came c.admit.new.self in
     goes_then given line [] [] before before later c.args.room.now c.make_room.new.room c.enter.new.self (goes_without given line 1000 c.args.now before before c.args.room.now c.make_room.new.room refl c.make_room.ensures.go)
-    (goes_more given line before later c.make_room.new.room c.enter.new.self c.in-One.line c.args.now c.in-One.ensures.lets_in c.in-One.ensures.fresh c.enter.ensures.came c.enter.ensures.entered)
+    (goes_more given line before later c.make_room.new.room c.enter.new.self c.in-One.comer c.args.now c.in-One.ensures.lets_in c.in-One.ensures.fresh c.enter.ensures.came c.enter.ensures.counted c.enter.ensures.entered)
 
 pub returns-in-Nobody-clause-goes_on : goal.returns-in-Nobody-clause-goes_on
 returns-in-Nobody-clause-goes_on g c = λ given.
