@@ -1,7 +1,9 @@
 -- From one moment of a hall to another.
-use Rattle.std.proofs.Common.{◌≡◌, ◌≤◌, ◌<◌, ◌+◌, ◌-◌, ◌^◌, ◌∙◌, ◌⊎◌, ◌∷◌, ◌++◌, ℕ, List, [], None, Option, Some, All, ap, append-nil, append_assoc, arith, get_or, inl, inr, length, map, option_map, refl, remove, set, subst, sym}
-use Rattle.std.specs.Prelude.{OnOk, IfSome, Result, unwrap_or}
+use Rattle.std.proofs.Common.{◌≡◌, ◌≤◌, ◌<◌, ◌+◌, ◌-◌, ◌^◌, ◌∙◌, ◌⊎◌, ◌∷◌, ◌++◌, ℕ, Bool, false, true, List, [], None, Option, Some, All, ap, append-nil, append_assoc, arith, get_or, inl, inr, length, map, option_map, refl, remove, set, subst, sym}
+use Rattle.std.specs.Prelude.{Err, IfSome, Ok, OnOk, Result, unwrap_or}
+use Rattle.std.specs.Result.{IsErr}
 use Rattle.std.specs.List.{FoldsTo}
+use Rattle.std.specs.Vec.{with_item}
 use Rattle.std.proofs.lemmas.List.{get_or_read, map_push}
 use Rattle.std.proofs.lemmas.List.Elements.{All-nil, All-push}
 use Rattle.sqlite.specs.Held.{Held}
@@ -39,8 +41,8 @@ pub lets_in_same : {L : Type 0} (old new : Option (List (Comer L))) → new ≡ 
 lets_in_same old new same = same ∙ lets_in_none old
 
 lets_in_then : {L : Type 0} (old mid new : Option (List (Comer L))) (first next : List (Comer L)) → LetsInMore old mid first → LetsInMore mid new next → LetsInMore old new (first ++ next)
-lets_in_then None mid new first next a b = b ∙ ap (option_map (λ (xs : List (Comer L)). xs ++ next)) a
-lets_in_then (Some lines) mid new first next a b = b ∙ ap (option_map (λ (xs : List (Comer L)). xs ++ next)) a ∙ ap Some (append_assoc lines first next)
+lets_in_then {L} None mid new first next a b = b ∙ ap (option_map (λ (xs : List (Comer L)). xs ++ next)) a
+lets_in_then {L} (Some lines) mid new first next a b = b ∙ ap (option_map (λ (xs : List (Comer L)). xs ++ next)) a ∙ ap Some (append_assoc lines first next)
 
 -- how many of them count
 clients_append : {L : Type 0} (first next : List (Comer L)) → clients_among (first ++ next) ≡ clients_among first + clients_among next
@@ -161,6 +163,10 @@ module _ {L : Type 0} (given : Given) (line : Line L) where
         λ visit one. let same : turn.visit ≡ visit = cc (first, one) in subst (λ (v : Visit). IsGathered given line guest.came v) same gathered,
       )
 
+  -- a room in which one is another now
+  abbrev pub room_with : Room L → ℕ → Client L → Room L
+  room_with room place client = record { clients = with_item room.clients place client; came = room.came; counted = room.counted }
+
   pub goes_on_at : {S : Type 0} (state_of : Held S → State) (let_in : Option (List (Comer L))) (room after : Room L) (place : ℕ) (old new : Client L) (before later : Desk S) → place < length room.clients.items
       → old ≡ get_or room.clients.items place old → new.door ≡ old.door → new.number ≡ old.number → ((start : L) → IsOf line start old → IsOf line start new) → MayHaveTurn given line state_of old new before later
       → after.clients.items ≡ set room.clients.items place new → after.came ≡ room.came → after.counted ≡ room.counted
@@ -269,6 +275,10 @@ module _ {L : Type 0} (given : Given) (line : Line L) where
 
 -- ---- who was told nothing
 
+-- a room with nobody in it is sound
+pub sound_empty : {L : Type 0} (given : Given) (line : Line L) (room : Room L) → room.clients.items ≡ [] → room.came ≡ 0 → IsSound given line room
+sound_empty {L} given line room none zero = ([], [], are_same given line [] [] 0 room.came [] room.clients.items zero none (none_in given line))
+
 -- of those who are in a room that is sound, whoever has no answer was told nothing
 pub untold_at : {L : Type 0} (given : Given) (line : Line L) (room : Room L) (place : ℕ) (client : Client L) → IsSound given line room → place < length room.clients.items
     → client ≡ get_or room.clients.items place client → IsUntold line client
@@ -289,3 +299,8 @@ most_few (Some n) most came is few = omega (arith, is, few)
 pub most_all : (connections : Option ℕ) (most came : ℕ) → most ≡ unwrap_or connections (2 ^ 64 - 1) → came ≤ most → most ≤ came → IfSome connections (λ n. came ≡ n)
 most_all None most came is few all = tt
 most_all (Some n) most came is few all = omega (arith, is, few, all)
+
+-- there was a failure, so nothing is said of an end without one
+pub on_err : {A E : Type 0} (result : Result A E) (P : Type 0) → IsErr result → OnOk result P
+on_err (Ok a) P failed = absurd (cc failed)
+on_err (Err e) P failed = tt

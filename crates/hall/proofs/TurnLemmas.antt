@@ -84,6 +84,10 @@ module _ {L : Type 0} (line : Line L) where
       let his = subst (λ (a : Option Answer). IsServedSo line start old got a) is of in
       subst (λ (bytes : List ℕ). IsTold line now bytes told.sent) (sym same) (told_more line old now answer.bytes.items answer.sent told.sent his delivers)
 
+  -- he has an answer now, of which nothing was told
+  pub told_nothing : (start now : L) (got answer : List ℕ) (sent : ℕ) → sent ≡ 0 → IsHeard line start now got → IsTold line now answer sent
+  told_nothing start now got answer sent none heard = subst (λ (n : ℕ). IsTold line now answer n) (sym none) (told_none line start now got answer heard)
+
   -- he has his turn, of whom all was heard
   pub has_turn : {S : Type 0} (given : Given) (state_of : Held S → State) (old mid new : Client L) (before later : Desk S) → old.answer ≡ None
       → Gathers line old.line mid.line old.got.items mid.got.items → mid.door ≡ old.door → mid.number ≡ old.number → HasComeAt old.door given (line.held mid.line) mid.got.items

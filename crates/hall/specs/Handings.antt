@@ -1,7 +1,7 @@
 -- An order that is handed over to the office that is served: what its message asks, what comes of that, and what is told of it in frames.
 use Rattle.std.specs.Prelude.{◌≡◌, ◌⊎◌, ⊤, Bool, true, List, [], ◌∷◌, ◌++◌, None, Option, Some, bytes_eq, drop, if◌then◌else◌, length, map, option_map, take, ◌≤◌, ◌+◌, ℕ}
 use Rattle.std.specs.Int.{from_be_bytes, w64}
-use Rattle.std.specs.List.{All}
+use Rattle.std.specs.List.{list_all}
 use Rattle.std.specs.Str.{is_utf8}
 use Rattle.clap.specs.Words.{Text, subcommand_of}
 use Rattle.sqlite.specs.Held.{Held}
@@ -77,7 +77,7 @@ AsksSo h (asked.Misread fault) = IsNoneMeant (meaning (subcommand_of office_word
 abbrev pub IsUnread : FileNumbers → List ℕ → Asked → Type 0
 IsUnread file got asked =
     (asked ≡ asked.Refused (Office Memory))
-    ⊎ ((asked ≡ asked.Refused (Office Store)) × ((h : HandedEntry) → IsMessage got h → IsForFile file h → All (λ word. is_utf8 word ≡ true) (words_in h) → ⊥))
+    ⊎ ((asked ≡ asked.Refused (Office Store)) × ((h : HandedEntry) → IsMessage got h → IsForFile file h → list_all is_utf8 (words_in h) ≡ true → ⊥))
 
 -- what was gathered asks this, with the files that came with it
 abbrev pub AsksOrder : FileNumbers → List ℕ → List PieceEntry → Asked → Type 0

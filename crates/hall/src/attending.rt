@@ -23,7 +23,10 @@ use gathering::{Answer, Client, Door, Gathered, Heard, Line, Lost, Writing, deli
 use office::Office;
 use sqlite::Alter;
 use std::alloc::Global;
-use wire::{Lacks, MAX_HEAD_BYTES, Origin, Served, lacks, serve_one};
+use wire::{Lacks, Origin, Served, lacks, serve_one};
+
+/// How many bytes of a client are heard before it is looked what they lack: as many as the head of a request may have.
+const FRONT: usize = 8192;
 
 /// The status of an answer that tells a fault, which isn't kept.
 const FAULT: u16 = 503;
@@ -74,7 +77,7 @@ fn hear_out<L: Line>(
     ensures same { IsSameClient client.old client.new × (client.new.answer ≡ None) }
     ensures come { result ≡ Ok true → HasCome (given_by origin.entry) (L.held client.new.line) client.new.got.items }
 {
-    let heard = client.hear(MAX_HEAD_BYTES)?;
+    let heard = client.hear(FRONT)?;
     match lacks(alloc, origin, client.got.as_slice())? {
         Lacks::Nothing => Ok(true),
         Lacks::Bytes(wanted) => match heard {

@@ -1,7 +1,7 @@
 //! What an order asks that is handed over.
 
 ghost use Rattle.std.specs.Prelude.{◌≡◌, ◌⊎◌, ◌↔◌, IfErr, IfOk, map, true};
-ghost use Rattle.std.specs.List.{All};
+ghost use Rattle.std.specs.List.{list_all};
 ghost use Rattle.std.specs.Str.{is_utf8};
 ghost use Rattle.handover.specs.Spelling.{HandedEntry, Fits, handed_entry, spelling};
 ghost use Rattle.hall.specs.Handings.{AsksSo, IsForFile};
@@ -43,7 +43,7 @@ pub fn read_message<'b>(alloc: Global, message: &'b [u8]) -> Result<Handed<'b>, 
 /// The words of an order that is handed over; or why there are none: memory was wanting, or one isn't UTF-8.
 pub fn words_of<'b>(alloc: Global, words: &[Piece<'b>]) -> Result<Vec<&'b str>, Fault>
     ensures ok { IfOk result (λ texts. map (λ text. text.now) texts.items ≡ map (λ p. p.name.now) words.now) }
-    ensures err { IfErr result (λ fault. (fault ≡ Fault.Memory) ⊎ ((fault ≡ Fault.Store) × (All (λ word. is_utf8 word ≡ true) (map (λ p. p.name.now) words.now) → ⊥))) }
+    ensures err { IfErr result (λ fault. (fault ≡ Fault.Memory) ⊎ ((fault ≡ Fault.Store) × (list_all is_utf8 (map (λ p. p.name.now) words.now) ≡ true → ⊥))) }
 {
     let mut texts = Vec::new(alloc);
     for word in words {

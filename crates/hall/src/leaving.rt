@@ -61,9 +61,9 @@ fn is_full<L>(room: &Room<L>) -> bool
     room.clients.len() >= MAX_CLIENTS || bytes_held(room.clients.as_slice()) >= MAX_BYTES
 }
 
-/// Sees that one more may come in: where nobody more may be in, the one is let go who has waited longest, if that is a second
-/// at least; whether one more may.
-pub fn make_room<L: Line + Drop>(room: &mut Room<L>, now: u64) -> bool
+/// Sees that one more may come in: where nobody more may be in, and somebody may be let go for him, the one is let go who has
+/// waited longest, if that is a second at least; whether one more may.
+pub fn make_room<L: Line + Drop>(room: &mut Room<L>, lets_go: bool, now: u64) -> bool
     ensures go { AreLetGo GRACE now room.old room.new }
     ensures room { result ≡ true → length room.old.clients.items ≤ MAX_CLIENTS → length room.new.clients.items < MAX_CLIENTS }
     ensures full { result ≡ false → room.new.clients.items ≡ room.old.clients.items }
@@ -71,5 +71,5 @@ pub fn make_room<L: Line + Drop>(room: &mut Room<L>, now: u64) -> bool
     if !is_full(room) {
         return true;
     }
-    let_one_go(room, GRACE, now)
+    lets_go && let_one_go(room, GRACE, now)
 }

@@ -162,10 +162,11 @@ fn let_one_in<D: Doors>(
     if room.came == u64::MAX || !doors.is_waited_at() {
         return Some(PATIENCE);
     }
-    if !make_room(room, now) {
+    let clients_too = room.counted < most;
+    if !make_room(room, clients_too, now) {
         return Some(LOOK);
     }
-    match doors.admit(room.came, room.counted < most) {
+    match doors.admit(room.came, clients_too) {
         Admitted::One(comer) => {
             room.enter(alloc, comer, now);
             None

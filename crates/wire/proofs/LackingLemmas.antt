@@ -7,12 +7,12 @@ use Rattle.httparse.specs.Grammar.{HasNoRequest, MayBecomeRequest, RequestHead, 
 use Rattle.httparse.specs.Spans.{IsRequestOf, RequestOverflows}
 use Rattle.httparse.specs.declared.spans.HeaderSpan.{HeaderSpan}
 use Rattle.httparse.specs.declared.spans.RequestSpans.{RequestSpans}
-use Rattle.wire.specs.Asking.{AskedEntry, Asks, IsWanting, LacksBehind, LacksBytes, LacksFound, asked_by, asked_in, asked_of}
+use Rattle.wire.specs.Asking.{IsWanting, LacksBehind, LacksBytes, LacksFound, asked_by, asked_in, asked_of}
 use Rattle.wire.specs.Bodies.{body_in, keying_of}
 use Rattle.wire.specs.Heads.{BeginsWith, HasNoHead}
 use Rattle.wire.specs.Lacking.{IsLackOf, IsWhole}
 use Rattle.wire.specs.declared.denial.Denial.{Denial}
-use Rattle.wire.specs.declared.lacking.Lacks.TheVariants.{Bytes}
+use Rattle.wire.specs.declared.lack.Lacks.TheVariants.{Bytes}
 use Rattle.wire.specs.declared.target.Target.{Target}
 use Rattle.wire.specs.declared.target.Target.TheVariants as target
 use Rattle.wire.proofs.AskingLemmas.{AsksOneThing-all, IsWanting-found, LacksFound-of, begins}
@@ -104,14 +104,15 @@ whole_full given got n full none =
     whole_none given got (λ more. subst (λ (xs : List ℕ). HasNoHead (xs ++ more)) (take-append-drop n got) (never_full (take n got) (drop n got) full none more))
 
 -- the front is that of no head, or of one with too many headers
-never_over : (front back : List ℕ) → RequestOverflows 32 front → (more : List ℕ) → HasNoHead ((front ++ back) ++ more)
-never_over front back over more head behind begun =
+never_over : (front back : List ℕ) (room : ℕ) → room ≡ 32 → RequestOverflows room front → (more : List ℕ) → HasNoHead ((front ++ back) ++ more)
+never_over front back room is over more head behind begun =
     let many = over (back ++ more) head behind (begun.is_head, sym (append_assoc front back more) ∙ begun.parts) in
     let few = begun.few in
-    absurd (omega (arith, many, few))
+    absurd (omega (arith, is, many, few))
 
-pub whole_over : (given : Option (List ℕ)) (got : List ℕ) (n : ℕ) → RequestOverflows 32 (take n got) → IsWhole given got
-whole_over given got n over = whole_none given got (λ more. subst (λ (xs : List ℕ). HasNoHead (xs ++ more)) (take-append-drop n got) (never_over (take n got) (drop n got) over more))
+pub whole_over : (given : Option (List ℕ)) (got : List ℕ) (n room : ℕ) → room ≡ 32 → RequestOverflows room (take n got) → IsWhole given got
+whole_over given got n room is over =
+    whole_none given got (λ more. subst (λ (xs : List ℕ). HasNoHead (xs ++ more)) (take-append-drop n got) (never_over (take n got) (drop n got) room is over more))
 
 -- ---- a head that isn't whole yet
 

@@ -1,8 +1,8 @@
 -- Whether a request is whole of which some bytes came.
 use Rattle.std.specs.Prelude.{◌<◌, ◌++◌, List, Option, length, ℕ}
 use Rattle.wire.specs.Asking.{AskedEntry, Asks, IsWanting}
-use Rattle.wire.specs.declared.lacking.Lacks.{Lacks}
-use Rattle.wire.specs.declared.lacking.Lacks.TheVariants.{Nothing, Bytes}
+use Rattle.wire.specs.declared.lack.Lacks.{Lacks}
+use Rattle.wire.specs.declared.lack.Lacks.TheVariants.{Nothing, Bytes}
 
 -- what the bytes ask, they ask whatever follows them
 abbrev pub IsWhole : Option (List ℕ) → List ℕ → Type 0

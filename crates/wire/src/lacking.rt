@@ -1,6 +1,6 @@
-//! What a request lacks that isn't whole yet.
+//! Whether a client was heard to the end of what he asks.
 
-ghost use Rattle.std.specs.Prelude.{◌≡◌, ◌<◌, ◌≤◌, ¬, IfNone, IfOk, IfSome, List, ℕ, length};
+ghost use Rattle.std.specs.Prelude.{◌≡◌, ◌<◌, ◌≤◌, IfNone, IfOk, IfSome, List, ℕ, length};
 ghost use Rattle.httparse.specs.Spans.{IsRequestWithin};
 ghost use Rattle.wire.specs.Asking.{LacksFound};
 ghost use Rattle.wire.specs.Lacking.{IsLackOf};
@@ -8,21 +8,13 @@ ghost use Rattle.wire.specs.Origins.{given_by};
 
 use crate::asked::wanted;
 use crate::head::{MAX_HEAD_BYTES, MAX_HEADERS};
+use crate::lack::Lacks;
 use crate::length::{MAX_BODY_BYTES, body_length};
 use crate::origin::{Origin, is_foreign};
 use crate::target::Target;
 use httparse::Status;
 use httparse::spans::{EMPTY_HEADER_SPAN, HeaderSpan, RequestSpans, parse_request};
 use std::alloc::{AllocError, Global};
-
-/// What a request lacks of which some bytes came.
-#[derive(Clone, Copy, PartialEq, Eq)]
-pub enum Lacks {
-    /// Nothing: what they ask, they ask whatever follows.
-    Nothing,
-    /// Bytes: fewer than so many in all are never enough.
-    Bytes(usize),
-}
 
 /// How long the body is that a request asks for whose head was read, if fewer bytes than that stand behind the head. Only a
 /// keying asks for one.

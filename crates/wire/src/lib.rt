@@ -28,6 +28,7 @@ pub mod asked;
 mod body;
 mod digits;
 mod head;
+mod lack;
 mod lacking;
 mod length;
 pub mod origin;
@@ -43,7 +44,8 @@ mod serving;
 
 pub use asked::{Asked, Keying, read_asked};
 pub use denial::{Denial, Verb};
-pub use lacking::{Lacks, lacks};
+pub use lack::Lacks;
+pub use lacking::lacks;
 pub use origin::Origin;
 pub use serving::{Served, serve_one};
 pub use target::Reading;

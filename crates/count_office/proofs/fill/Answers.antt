@@ -9,11 +9,10 @@ whole uncut old new page status zero all = all
 whole (cut_behind took) old new page status zero broken = let three : status ≡ 3 = broken_ends broken in absurd (omega arith)
 whole cut_error old new page status zero broken = let three : status ≡ 3 = broken.ends in absurd (omega arith)
 
-pub closed_copy-requires : goal.closed_copy-requires
-closed_copy-requires g c =
+pub finish-requires : goal.finish-requires
+finish-requires g c = λ zero.
     let told = c.copy_office-status.ensures.copied in
     let outputs = outputs_of g.O.Sink.taken g.O.Sink.failed g.E.Sink.taken g.E.Sink.failed in
-    let zero : c.copy_office-status.result.0 ≡ 0 = search rules in
     let all = whole told.cut (outputs c.args.out.now c.args.err.now) (outputs c.copy_office-status.new.out c.copy_office-status.new.err) told.page c.copy_office-status.result.0 zero told.shown in
     let same : g.E.Sink.failed c.copy_office-status.new.err ≡ g.E.Sink.failed c.args.err.now = all.err_failed in
     let low = c.requires.err in
