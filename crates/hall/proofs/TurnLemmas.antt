@@ -6,8 +6,7 @@ use Rattle.register.specs.Offices.{OfficeState}
 use Rattle.store.specs.Offices.{IsAt}
 use Rattle.office.specs.Values.{OfficeValue}
 use Rattle.office.specs.Answers.{IsOpenAt}
-use Rattle.wire.specs.Serving.{EndsWith, OnReadFailed, ReadiesClosed, ReadiesFor, Serves, ServesClosed}
-use Rattle.wire.specs.declared.response.Response.{Response}
+use Rattle.wire.specs.Serving.{EndsWith, IsServed, OnReadFailed, ReadiesClosed, ReadiesFor, Serves, ServesClosed}
 use Rattle.wire.specs.declared.serving.Served.{Served}
 use Rattle.wire.specs.declared.serving.Served.TheVariants.{Answered, ReadFailed, WriteFailed}
 use Rattle.gathering.specs.Lines.{Delivers, Gathers, Line}
@@ -32,8 +31,8 @@ pub no_answer : {L : Type 0} (old new : Client L) → old.answer ≡ None → ne
 no_answer old new none still = ap (option_map (λ (a : Answer). a.bytes.items)) (still ∙ sym none)
 
 -- an answer was put for a visit, where the reader, which doesn't fail, didn't
-ends_so : (IsReady : Response → Type 0) (Unread : Type 0) (visit : Visit) (served : Served) (failed : Type 0) → (failed → ⊥) → OnReadFailed served failed
-    → EndsWith IsReady Unread (Some []) (Some visit.answer) served → EndsSo visit IsReady
+ends_so : (IsReady : _) (Unread : Type 0) (visit : Visit) (served : Served) (failed : Type 0) → (failed → ⊥) → OnReadFailed served failed
+    → EndsWith IsReady Unread (Some []) (Some visit.answer) served → EndsSo visit (IsServed IsReady)
 ends_so IsReady Unread visit (Answered status) failed never read it = (Answered status, it)
 ends_so IsReady Unread visit ReadFailed failed never read it = absurd (never read)
 ends_so IsReady Unread visit WriteFailed failed never read it = (WriteFailed, it)
