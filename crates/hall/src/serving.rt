@@ -7,12 +7,12 @@ ghost use Rattle.gathering.specs.Lines.{line_of};
 ghost use Rattle.gathering.specs.Clients.{IsOf};
 ghost use Rattle.wire.specs.Origins.{given_by};
 ghost use Rattle.hall.specs.Turns.{MayHaveTurn};
-ghost use Rattle.hall.specs.Halls.{GoesOn, GoesOnServing, ServesHall};
+ghost use Rattle.hall.specs.Halls.{GoesOn, GoesOnServing, IsWithin, ServesHall};
 
 use crate::attending::{Attended, attend};
 use crate::leaving::{PATIENCE, keep_within, let_go_late, make_room};
 use gathering::room::{longest, place_of};
-use gathering::{Admitted, Client, Doors, Line, MAX_CLIENTS, Room};
+use gathering::{Admitted, Client, Doors, Line, Room};
 use office::Office;
 use sqlite::Alter;
 use std::alloc::Global;
@@ -70,6 +70,7 @@ fn go_on_at<L: Line + Drop, C: Clock, S: Alter>(
     requires { place < length room.old.clients.items }
     ensures goes_on { (let_in : Option (List L)) → GoesOnServing (given_by origin.entry) (line_of L.held L.taken) (state S.Store) let_in let_in room.old room.new office.old office.new }
     ensures came { room.new.came ≡ room.old.came }
+    ensures within { IsWithin room.old → OnOk result (IsWithin room.new) }
 {
     if go_on(alloc, clock, origin, &mut room.clients[place], office)? {
         keep_within(room);
@@ -90,6 +91,7 @@ fn go_on_numbered<L: Line + Drop, C: Clock, S: Alter>(
 ) -> Result<(), Broken>
     ensures goes_on { (let_in : Option (List L)) → GoesOnServing (given_by origin.entry) (line_of L.held L.taken) (state S.Store) let_in let_in room.old room.new office.old office.new }
     ensures came { room.new.came ≡ room.old.came }
+    ensures within { IsWithin room.old → OnOk result (IsWithin room.new) }
 {
     match place_of(room.clients.as_slice(), number) {
         Some(place) => go_on_at(alloc, clock, origin, room, place, office),
@@ -108,6 +110,7 @@ fn go_on_all<D: Doors, C: Clock, S: Alter>(
 ) -> Result<(), Broken>
     ensures goes_on { GoesOnServing (given_by origin.entry) (line_of D.Line.held D.Line.taken) (state S.Store) (D.came doors.old) (D.came doors.new) room.old room.new office.old office.new }
     ensures came { room.new.came ≡ room.old.came }
+    ensures within { IsWithin room.old → OnOk result (IsWithin room.new) }
 {
     for _ in 0..u64::MAX {
         let Some(number) = doors.next_ready() else {
@@ -129,7 +132,7 @@ fn let_one_in<D: Doors>(
 ) -> Option<u64>
     ensures goes_on { (given : Option (List ℕ)) → GoesOn given (line_of D.Line.held D.Line.taken) [] (D.came doors.old) (D.came doors.new) room.old room.new }
     ensures few { room.old.came ≤ most → room.new.came ≤ most }
-    ensures room { length room.old.clients.items ≤ MAX_CLIENTS → length room.new.clients.items ≤ MAX_CLIENTS }
+    ensures within { IsWithin room.old → IsWithin room.new }
 {
     if room.came >= most || !doors.is_waited_at() {
         return Some(PATIENCE);
@@ -158,7 +161,7 @@ fn let_in<D: Doors>(
 ) -> u64
     ensures goes_on { (given : Option (List ℕ)) → GoesOn given (line_of D.Line.held D.Line.taken) [] (D.came doors.old) (D.came doors.new) room.old room.new }
     ensures few { room.old.came ≤ most → room.new.came ≤ most }
-    ensures room { length room.old.clients.items ≤ MAX_CLIENTS → length room.new.clients.items ≤ MAX_CLIENTS }
+    ensures within { IsWithin room.old → IsWithin room.new }
 {
     for _ in 0..COMERS {
         if let Some(look) = let_one_in(alloc, doors, room, most, now) {
@@ -192,6 +195,7 @@ fn go_round<D: Doors, C: Clock, S: Alter>(
 ) -> Result<bool, Broken>
     ensures goes_on { GoesOnServing (given_by origin.entry) (line_of D.Line.held D.Line.taken) (state S.Store) (D.came doors.old) (D.came doors.new) room.old room.new office.old office.new }
     ensures few { room.old.came ≤ most → room.new.came ≤ most }
+    ensures within { IsWithin room.old → OnOk result (IsWithin room.new) }
     ensures all { result ≡ Ok true → (most ≤ room.new.came) × (room.new.clients.items ≡ []) }
 {
     go_on_all(alloc, clock, doors, origin, room, office)?;
