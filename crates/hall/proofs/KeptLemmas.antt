@@ -17,7 +17,7 @@ use Rattle.office.specs.Values.{OfficeValue}
 use Rattle.office.proofs.RunLemmas.{beginning}
 use Rattle.wire.specs.Asking.{AskedEntry, Asks, denied, keying, reading}
 use Rattle.wire.specs.Responses.{ResponseEntry}
-use Rattle.wire.specs.Serving.{FaultLeaves, IsAnswered, ReadiesFor, TellsFault, TellsFor, told_response}
+use Rattle.wire.specs.Serving.{FaultLeaves, IsAnswered, IsServed, ReadiesFor, TellsFault, TellsFor, told_response}
 use Rattle.wire.specs.Told.{IsTold}
 use Rattle.gathering.specs.declared.client.Door.{Door}
 use Rattle.gathering.specs.declared.client.Door.TheVariants.{Clients, Orders}
@@ -107,10 +107,10 @@ ready_leaves given bytes s response closed st (inl ready) =
 -- what a client who was served leaves
 abbrev ClientLeaves : Option (List ℕ) → OfficeState → Visit → Bool → State → Type 0
 ClientLeaves given s visit closed st =
-    ((sent : List Request) × EndsSo visit (TellsFor given (Some visit.got) s sent) × IsOpenAt (after s sent) closed st)
-    ⊎ ((last : List Request) × EndsSo visit TellsFault × IsLastFor given visit.got last × ClosesAt s last closed st)
+    ((sent : List Request) × EndsSo visit (IsServed (TellsFor given (Some visit.got) s sent)) × IsOpenAt (after s sent) closed st)
+    ⊎ ((last : List Request) × EndsSo visit (IsServed TellsFault) × IsLastFor given visit.got last × ClosesAt s last closed st)
 
-client_leaves : (given : Option (List ℕ)) (s : OfficeState) (visit : Visit) (closed : Bool) (st : State) → EndsSo visit (λ response. ReadiesFor given (Some visit.got) s response closed st)
+client_leaves : (given : Option (List ℕ)) (s : OfficeState) (visit : Visit) (closed : Bool) (st : State) → EndsSo visit (IsServed (λ response. ReadiesFor given (Some visit.got) s response closed st))
     → ClientLeaves given s visit closed st
 client_leaves given s visit closed st (served, it) = elim (ready_leaves given visit.got s it.response closed st it.ready) [
   | inl (sent, tells, open_at) ↦ inl (sent, (served, record { response = it.response; ready = tells; put = it.put }), open_at)

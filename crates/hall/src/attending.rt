@@ -7,7 +7,7 @@ ghost use Rattle.gathering.specs.Clients.{IsHeard, IsOf, IsTold};
 ghost use Rattle.wire.specs.Origins.{given_by};
 ghost use Rattle.hall.specs.Handings.{HasCameWhole};
 ghost use Rattle.hall.specs.Terms.{Given, given_in};
-ghost use Rattle.hall.specs.Turns.{HasCome, HasComeAt, IsSameClient, IsUntold, MayHaveTurn, answer_of};
+ghost use Rattle.hall.specs.Turns.{HasCome, HasComeAt, IsSameClient, IsToldAll, IsUntold, MayHaveTurn, answer_of};
 ghost use Rattle.hall.specs.Visits.{ServesClient, ServesVisit, Visit};
 
 use crate::aside::Aside;
@@ -146,6 +146,7 @@ fn tell_more<L: Line>(client: &mut Client<L>) -> Attended
     ensures is { (start : L) → IsOf (line_of L.held L.taken) start client.old → IsOf (line_of L.held L.taken) start client.new }
     ensures same { IsSameClient client.old client.new }
     ensures his { answer_of client.new ≡ answer_of client.old }
+    ensures done { result ≡ Attended.Done → IsToldAll client.new }
 {
     let Some(answer) = &mut client.answer else {
         return Attended::Waits;
@@ -171,6 +172,7 @@ fn take_turn<L: Line, A: Aside, S: Alter>(
     ensures same { IsSameClient client.old client.new }
     ensures turn { (visit : Visit) × (visit.door ≡ client.old.door) × (visit.number ≡ client.old.number) × (visit.got ≡ client.old.got.items)
         × ServesVisit (given_in terms.entry) (state S.Store) office.old visit office.new × (answer_of client.new ≡ Some visit.answer) }
+    ensures done { result ≡ Attended.Done → IsToldAll client.new }
 {
     let answer = answer_to(alloc, terms, aside, client, office);
     client.answer = Some(answer);
@@ -197,6 +199,7 @@ pub fn attend<L: Line, A: Aside, S: Alter>(
     ensures is { (start : L) → IsOf (line_of L.held L.taken) start client.old → IsOf (line_of L.held L.taken) start client.new }
     ensures same { IsSameClient client.old client.new }
     ensures turn { MayHaveTurn (given_in terms.entry) (line_of L.held L.taken) (state S.Store) client.old client.new office.old office.new }
+    ensures done { result ≡ Attended.Done → IsToldAll client.new }
 {
     if client.answer.is_some() {
         return tell_more(client);

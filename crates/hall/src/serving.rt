@@ -9,14 +9,14 @@ ghost use Rattle.gathering.specs.declared.client.Comer.{Comer};
 ghost use Rattle.hall.specs.Guests.{IsSound};
 ghost use Rattle.hall.specs.Terms.{Given, given_in};
 ghost use Rattle.hall.specs.Turns.{IsUntold, MayHaveTurn};
-ghost use Rattle.hall.specs.Halls.{GoesOn, GoesOnServing, ServesHall};
+ghost use Rattle.hall.specs.Halls.{GoesOn, GoesOnServing, IsWithin, ServesHall};
 
 use crate::aside::Aside;
 use crate::attending::{Attended, attend};
 use crate::leaving::{PATIENCE, keep_within, let_go_late, make_room};
 use crate::terms::Terms;
 use gathering::room::{longest, place_of};
-use gathering::{Admitted, Client, Doors, Line, MAX_CLIENTS, Room};
+use gathering::{Admitted, Client, Doors, Line, Room};
 use office::Office;
 use sqlite::Alter;
 use std::alloc::Global;
@@ -78,6 +78,7 @@ fn go_on_at<L: Line + Drop, C: Clock, A: Aside, S: Alter>(
     ensures goes_on { (let_in : Option (List (Comer L))) → GoesOnServing (given_in terms.entry) (line_of L.held L.taken) (state S.Store) let_in let_in room.old room.new office.old office.new }
     ensures came { room.new.came ≡ room.old.came }
     ensures counted { room.new.counted ≡ room.old.counted }
+    ensures within { IsWithin room.old → OnOk result (IsWithin room.new) }
 {
     if go_on(alloc, clock, terms, aside, &mut room.clients[place], office)? {
         keep_within(room);
@@ -101,6 +102,7 @@ fn go_on_numbered<L: Line + Drop, C: Clock, A: Aside, S: Alter>(
     ensures goes_on { (let_in : Option (List (Comer L))) → GoesOnServing (given_in terms.entry) (line_of L.held L.taken) (state S.Store) let_in let_in room.old room.new office.old office.new }
     ensures came { room.new.came ≡ room.old.came }
     ensures counted { room.new.counted ≡ room.old.counted }
+    ensures within { IsWithin room.old → OnOk result (IsWithin room.new) }
 {
     match place_of(room.clients.as_slice(), number) {
         Some(place) => go_on_at(alloc, clock, terms, aside, room, place, office),
@@ -122,6 +124,7 @@ fn go_on_all<D: Doors, C: Clock, A: Aside, S: Alter>(
     ensures goes_on { GoesOnServing (given_in terms.entry) (line_of D.Line.held D.Line.taken) (state S.Store) (D.came doors.old) (D.came doors.new) room.old room.new office.old office.new }
     ensures came { room.new.came ≡ room.old.came }
     ensures counted { room.new.counted ≡ room.old.counted }
+    ensures within { IsWithin room.old → OnOk result (IsWithin room.new) }
 {
     for _ in 0..u64::MAX {
         let Some(number) = doors.next_ready() else {
@@ -143,7 +146,7 @@ fn let_one_in<D: Doors>(
 ) -> Option<u64>
     ensures goes_on { (given : Given) → GoesOn given (line_of D.Line.held D.Line.taken) [] (D.came doors.old) (D.came doors.new) room.old room.new }
     ensures few { room.old.counted ≤ most → room.new.counted ≤ most }
-    ensures room { length room.old.clients.items ≤ MAX_CLIENTS → length room.new.clients.items ≤ MAX_CLIENTS }
+    ensures within { IsWithin room.old → IsWithin room.new }
 {
     if room.came == u64::MAX || !doors.is_waited_at() {
         return Some(PATIENCE);
@@ -173,7 +176,7 @@ fn let_in<D: Doors>(
 ) -> u64
     ensures goes_on { (given : Given) → GoesOn given (line_of D.Line.held D.Line.taken) [] (D.came doors.old) (D.came doors.new) room.old room.new }
     ensures few { room.old.counted ≤ most → room.new.counted ≤ most }
-    ensures room { length room.old.clients.items ≤ MAX_CLIENTS → length room.new.clients.items ≤ MAX_CLIENTS }
+    ensures within { IsWithin room.old → IsWithin room.new }
 {
     for _ in 0..COMERS {
         if let Some(look) = let_one_in(alloc, doors, room, most, now) {
@@ -209,6 +212,7 @@ fn go_round<D: Doors, C: Clock, A: Aside, S: Alter>(
     requires { IsSound (given_in terms.entry) (line_of D.Line.held D.Line.taken) room.old }
     ensures goes_on { GoesOnServing (given_in terms.entry) (line_of D.Line.held D.Line.taken) (state S.Store) (D.came doors.old) (D.came doors.new) room.old room.new office.old office.new }
     ensures few { room.old.counted ≤ most → room.new.counted ≤ most }
+    ensures within { IsWithin room.old → OnOk result (IsWithin room.new) }
     ensures all { result ≡ Ok true → (most ≤ room.new.counted) × (room.new.clients.items ≡ []) }
 {
     go_on_all(alloc, clock, doors, terms, aside, room, office)?;

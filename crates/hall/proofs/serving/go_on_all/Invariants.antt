@@ -2,7 +2,7 @@
 use Rattle.std.proofs.Common.{◌≡◌}
 use Rattle.sqlite.specs.Held.{state}
 use Rattle.gathering.specs.Lines.{line_of}
-use Rattle.hall.specs.Halls.{GoesOnServing}
+use Rattle.hall.specs.Halls.{GoesOnServing, IsWithin}
 use Rattle.hall.specs.Terms.{given_in}
 use Rattle.hall.proofs.serving.go_on_all.Given as goal
 
@@ -12,4 +12,5 @@ invariant-loop g l = record {
   goes_on : GoesOnServing (given_in l.terms) (line_of g.D.Line.Line.held g.D.Line.Line.taken) (state g.S.Store) (g.D.Doors.came l.fn.doors) (g.D.Doors.came l.doors) l.fn.room l.room l.fn.office l.office;
   came : l.room.came ≡ l.fn.room.came;
   counted : l.room.counted ≡ l.fn.room.counted;
+  within : IsWithin l.fn.room → IsWithin l.room;
 }
