@@ -41,7 +41,11 @@ ask() {
 # What lies where the socket is made.
 look() {
     echo "\$ stat town.db-serve"
-    (cd "$folder" && stat --format '%F, %a' town.db-serve 2>/dev/null) || echo "nothing is there"
+    if [[ -S $folder/town.db-serve ]]; then
+        stat --format '%F, %a' "$folder/town.db-serve"
+    else
+        stat --format '%F' "$folder/town.db-serve" 2>/dev/null || echo "nothing is there"
+    fi
 }
 
 cat >"$folder/nine.csv" <<'CSV'

@@ -84,23 +84,31 @@ fn brought(rt: &HostRuntime, order: &Order<'_>) -> Result<Vec<Brought>, AllocErr
     Ok(files)
 }
 
-/// A word as it is handed over.
-fn word_piece<'b>(word: &&'b str) -> Piece<'b> {
-    Piece {
-        name: word.as_bytes(),
-        bytes: None,
+/// Words as they are handed over.
+fn word_pieces<'b>(alloc: Global, words: &[&'b str]) -> Result<Vec<Piece<'b>>, AllocError> {
+    let mut pieces = Vec::new(alloc);
+    for word in words {
+        pieces.push(Piece {
+            name: word.as_bytes(),
+            bytes: None,
+        })?;
     }
+    Ok(pieces)
 }
 
-/// A file as it is handed over.
-fn file_piece(file: &Brought) -> Piece<'_> {
-    Piece {
-        name: file.path.as_bytes(),
-        bytes: match &file.bytes {
-            Some(bytes) => Some(bytes.as_slice()),
-            None => None,
-        },
+/// Files as they are handed over.
+fn file_pieces(alloc: Global, files: &[Brought]) -> Result<Vec<Piece<'_>>, AllocError> {
+    let mut pieces = Vec::new(alloc);
+    for file in files {
+        pieces.push(Piece {
+            name: file.path.as_bytes(),
+            bytes: match &file.bytes {
+                Some(bytes) => Some(bytes.as_slice()),
+                None => None,
+            },
+        })?;
     }
+    Ok(pieces)
 }
 
 /// The message of an order on the database at a path, of these words and files; or why there is none.
@@ -114,8 +122,8 @@ fn message_of(
         return Err(Fault::Store);
     };
     let (Ok(words), Ok(files)) = (
-        words.iter().map(word_piece).collect(rt.alloc()),
-        files.iter().map(file_piece).collect(rt.alloc()),
+        word_pieces(rt.alloc(), words),
+        file_pieces(rt.alloc(), files),
     ) else {
         return Err(Fault::Memory);
     };

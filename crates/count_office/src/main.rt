@@ -19,6 +19,7 @@ ghost use Rattle.tables.specs.Reading.{OnlyReads};
 ghost use Rattle.store.specs.Openings.{IsLeftAt};
 ghost use Rattle.office.specs.Answers.{IsReadAt, WhenOpenAt};
 ghost use Rattle.desk.specs.Journals.{IsJournalTold, IsToldElsewhere};
+ghost use Rattle.hall.specs.Handings.{IsCopyTold};
 ghost use Rattle.desk.specs.Pages.{Tells, outputs_of};
 ghost use Rattle.sqlite_wal.specs.Reads.{AreClean};
 ghost use Rattle.sqlite.specs.Closing.{IsCopied};
@@ -289,6 +290,8 @@ fn fill_open<S: Alter, D: Disk + Drop, O: Sink, E: Sink>(
 ) -> u8
     requires out { O.failed out.old < 2 ^ 64 - 1 }
     requires err { E.failed err.old < 2 ^ 64 - 1 }
+    ensures told { let outputs = outputs_of O.taken O.failed E.taken E.failed in Tells (outputs out.old err.old) (outputs out.new err.new) result
+        (λ _ page. WhenOpenAt (state S.Store) office.old office.new (λ s. IsCopyTold s page)) }
     ensures stays { WhenOpenAt (state S.Store) office.old office.new (λ s. IsReadAt s office.new.closed (state S.Store office.new.held)) }
     ensures clean { HasCleanDisk (state S.Store office.new.held) → HasCleanDisk (state S.Store office.old.held) }
 {
@@ -311,6 +314,8 @@ fn copy_served<S: Alter, O: Sink, E: Sink>(
 ) -> u8
     requires out { O.failed out.old < 2 ^ 64 - 1 }
     requires err { E.failed err.old < 2 ^ 64 - 1 }
+    ensures told { let outputs = outputs_of O.taken O.failed E.taken E.failed in Tells (outputs out.old err.old) (outputs out.new err.new) result
+        (λ _ page. WhenOpenAt (state S.Store) office.old office.new (λ s. IsCopyTold s page)) }
     ensures stays { WhenOpenAt (state S.Store) office.old office.new (λ s. IsReadAt s office.new.closed (state S.Store office.new.held)) }
     ensures clean { HasCleanDisk (state S.Store office.new.held) → HasCleanDisk (state S.Store office.old.held) }
 {

@@ -18,7 +18,7 @@ use Rattle.office.specs.Values.{OfficeValue}
 use Rattle.office.proofs.RunLemmas.{beginning}
 use Rattle.wire.specs.Asking.{AskedEntry, Asks, denied, keying, reading}
 use Rattle.wire.specs.Responses.{ResponseEntry}
-use Rattle.wire.specs.Serving.{FaultLeaves, IsAnswered, ReadiesFor, TellsAsked, TellsFault, TellsFor, told_response}
+use Rattle.wire.specs.Serving.{FaultLeaves, IsAnswered, IsServed, ReadiesFor, TellsAsked, TellsFault, TellsFor, told_response}
 use Rattle.wire.specs.Told.{IsTold}
 use Rattle.wire.specs.declared.target.Reading.{Reading}
 use Rattle.wire.proofs.AskingLemmas.{AsksOneThing-all}
@@ -111,10 +111,10 @@ ready_leaves given bytes s response closed st (inl ready) =
 -- what a client who was served leaves
 abbrev ClientLeaves : Option (List ℕ) → OfficeState → Visit → Bool → State → Type 0
 ClientLeaves given s visit closed st =
-    ((sent : List Request) × EndsSo visit (TellsFor given (Some visit.got) s sent) × IsOpenAt (after s sent) closed st)
-    ⊎ ((last : List Request) × EndsSo visit TellsFault × IsLastFor given visit.got last × ClosesAt s last closed st)
+    ((sent : List Request) × EndsSo visit (IsServed (TellsFor given (Some visit.got) s sent)) × IsOpenAt (after s sent) closed st)
+    ⊎ ((last : List Request) × EndsSo visit (IsServed TellsFault) × IsLastFor given visit.got last × ClosesAt s last closed st)
 
-client_leaves : (given : Option (List ℕ)) (s : OfficeState) (visit : Visit) (closed : Bool) (st : State) → EndsSo visit (λ response. ReadiesFor given (Some visit.got) s response closed st)
+client_leaves : (given : Option (List ℕ)) (s : OfficeState) (visit : Visit) (closed : Bool) (st : State) → EndsSo visit (IsServed (λ response. ReadiesFor given (Some visit.got) s response closed st))
     → ClientLeaves given s visit closed st
 client_leaves given s visit closed st (served, it) = elim (ready_leaves given visit.got s it.response closed st it.ready) [
   | inl (sent, tells, open_at) ↦ inl (sent, (served, record { response = it.response; ready = tells; put = it.put }), open_at)
@@ -182,7 +182,7 @@ none_read given s reads none = subst (λ (rs : List ReadEntry). AreReadAt given 
 
 -- for a read nothing is handed on
 reading_sends : (given : Option (List ℕ)) (s : OfficeState) (visit : Visit) (what : Reading) (sent : List Request) → Asks given visit.got (reading what)
-    → EndsSo visit (TellsFor given (Some visit.got) s sent) → sent ≡ []
+    → EndsSo visit (IsServed (TellsFor given (Some visit.got) s sent)) → sent ≡ []
 reading_sends given s visit what sent asks (served, it) = by it.ready
   where
     of : (asked : AskedEntry) → asked ≡ reading what → TellsAsked s asked it.response sent → sent ≡ []

@@ -6,19 +6,20 @@ use Rattle.register.specs.Offices.{OfficeState}
 use Rattle.store.specs.Offices.{IsAt}
 use Rattle.office.specs.Values.{OfficeValue}
 use Rattle.office.specs.Answers.{IsOpenAt}
-use Rattle.wire.specs.Serving.{EndsWith, OnReadFailed, ReadiesClosed, ReadiesFor, Serves, ServesClosed}
-use Rattle.wire.specs.declared.response.Response.{Response}
+use Rattle.wire.specs.Serving.{EndsWith, IsServed, OnReadFailed, ReadiesClosed, ReadiesFor, Serves, ServesClosed}
 use Rattle.wire.specs.declared.serving.Served.{Served}
 use Rattle.wire.specs.declared.serving.Served.TheVariants.{Answered, ReadFailed, WriteFailed}
 use Rattle.gathering.specs.Lines.{Delivers, Gathers, Line}
 use Rattle.gathering.specs.Clients.{IsHeard, IsOf, IsServedSo, IsTold}
 use Rattle.gathering.specs.declared.client.Answer.{Answer}
 use Rattle.gathering.specs.declared.client.Client.{Client}
+use Rattle.wire.specs.Lacking.{IsLackOf, IsWhole}
+use Rattle.wire.specs.declared.lack.Lacks.TheVariants.{Nothing}
 use Rattle.gathering.proofs.LineLemmas.{heard_more, told_more, told_none}
 use Rattle.gathering.specs.declared.client.Door.{Door}
 use Rattle.gathering.specs.declared.client.Door.TheVariants.{Clients, Orders}
 use Rattle.hall.specs.Terms.{Given}
-use Rattle.hall.specs.Turns.{HasComeAt, IsSameClient, MayHaveTurn, answer_of}
+use Rattle.hall.specs.Turns.{HasCome, HasComeAt, IsSameClient, MayHaveTurn, answer_of}
 use Rattle.hall.specs.Reads.{Desk}
 use Rattle.hall.specs.Visits.{EndsIn, HasServed, ServesVisit, Visit}
 
@@ -31,13 +32,17 @@ pub same_answer : (old new : Answer) (before : Option Answer) → before ≡ Som
     → option_map (λ (a : Answer). a.bytes.items) (Some new) ≡ option_map (λ (a : Answer). a.bytes.items) before
 same_answer old new before is same = ap Some same ∙ sym (ap (option_map (λ (a : Answer). a.bytes.items)) is)
 
+-- bytes that lack nothing have come to their end
+pub lacks_nothing : (given held : Option (List ℕ)) (seen got : List ℕ) (lacking : _) → seen ≡ got → lacking ≡ Nothing → IsLackOf given seen lacking → HasCome given held got
+lacks_nothing given held seen got lacking same nothing it = inl (subst (λ (bytes : List ℕ). IsWhole given bytes) same (subst (λ l. IsLackOf given seen l) nothing it))
+
 -- neither of two has an answer
 pub no_answer : {L : Type 0} (old new : Client L) → old.answer ≡ None → new.answer ≡ None → answer_of new ≡ answer_of old
 no_answer old new none still = ap (option_map (λ (a : Answer). a.bytes.items)) (still ∙ sym none)
 
 -- an answer was put for a visit, where the reader, which doesn't fail, didn't
-ends_so : (IsReady : Response → Type 0) (Unread : Type 0) (answer : List ℕ) (served : Served) (failed : Type 0) → (failed → ⊥) → OnReadFailed served failed
-    → EndsWith IsReady Unread (Some []) (Some answer) served → EndsIn answer IsReady
+ends_so : (IsReady : _) (Unread : Type 0) (answer : List ℕ) (served : Served) (failed : Type 0) → (failed → ⊥) → OnReadFailed served failed
+    → EndsWith IsReady Unread (Some []) (Some answer) served → EndsIn answer (IsServed IsReady)
 ends_so IsReady Unread answer (Answered status) failed never read it = (Answered status, it)
 ends_so IsReady Unread answer ReadFailed failed never read it = absurd (never read)
 ends_so IsReady Unread answer WriteFailed failed never read it = (WriteFailed, it)

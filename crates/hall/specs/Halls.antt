@@ -10,7 +10,7 @@ use Rattle.store.specs.Offices.{IsAt}
 use Rattle.office.specs.Values.{OfficeValue}
 use Rattle.votes.specs.declared.streams.Broken.{Broken}
 use Rattle.gathering.specs.Lines.{Line}
-use Rattle.gathering.specs.Rooms.{IsLongest, clients_among}
+use Rattle.gathering.specs.Rooms.{IsLongest, bytes_held, clients_among}
 use Rattle.gathering.specs.declared.client.Client.{Client}
 use Rattle.gathering.specs.declared.client.Comer.{Comer}
 use Rattle.gathering.specs.declared.room.Room.{Room}
@@ -18,6 +18,18 @@ use Rattle.hall.specs.Guests.{AreIn, Guest, WentSoWithAll}
 use Rattle.hall.specs.Reads.{Desk, ReadEntry, desk_at, with_none_kept}
 use Rattle.hall.specs.Terms.{Given}
 use Rattle.hall.specs.Visits.{IsKeptOf, ServesVisit, Visit}
+
+-- the most clients who are in a room at once
+abbrev pub most_clients : ℕ
+most_clients = 512
+
+-- the most bytes that are held of all of them: 64 MiB
+abbrev pub most_bytes : ℕ
+most_bytes = 67108864
+
+-- no more clients are in a room than may be, and no more bytes are held of them
+abbrev pub IsWithin : {L : Type 0} → Room L → Type 0
+IsWithin room = (length room.clients.items ≤ most_clients) × (bytes_held room.clients.items ≤ most_bytes)
 
 -- one who was in at a place is let go: he had waited longest, and so long at least
 pub record IsLetGo {L : Type 0} (least now : ℕ) (old : List (Client L)) (place : ℕ) (new : List (Client L)) : Type 0 where

@@ -19,11 +19,11 @@ use Rattle.desk.specs.Folders.{File, Folder}
 use Rattle.desk.specs.Headline.{IsDone}
 use Rattle.desk.specs.Journals.{IsJournalTold}
 use Rattle.desk.specs.Orders.{told}
-use Rattle.desk.specs.Pages.{Cut, IsShown, Outputs, Page, closed_page, failed, replied, words_page}
+use Rattle.desk.specs.Pages.{Cut, IsShown, Outputs, Page, below, closed_page, failed, replied, words_page}
 use Rattle.desk.specs.Parts.{ComesTo}
 use Rattle.desk.specs.Words.{IsNoneMeant, meaning, office_words}
 use Rattle.desk.specs.declared.lines.Failure.{Failure}
-use Rattle.desk.specs.declared.lines.Failure.TheVariants.{BeingServed, Office}
+use Rattle.desk.specs.declared.lines.Failure.TheVariants.{BeingServed, CopyFailed, Office}
 use Rattle.desk.specs.declared.orders.Order.{Order}
 use Rattle.desk.specs.declared.orders.Order.TheVariants as order
 use Rattle.desk.specs.declared.orders.Task.TheVariants as task
@@ -115,9 +115,11 @@ pub record IsFramed (cut : Cut) (page : Page) (frames : List ℕ) : Type 0 where
   pub shown : IsShown cut untold told page status
   pub framed : IsToldInFrames told status frames
 
--- what is told of a copy of the office of a state: how much it has; or why none is made
+-- what is told of a copy of the office of a state: how much it has, and behind it maybe that its log couldn't be put into it; or why none is made
 abbrev pub IsCopyTold : OfficeState → Page → Type 0
-IsCopyTold s page = (page ≡ replied (copied_text (holdings_of s))) ⊎ ((failure : Failure) × (page ≡ failed failure))
+IsCopyTold s page =
+    (page ≡ replied (copied_text (holdings_of s)))
+    ⊎ ((page ≡ below (replied (copied_text (holdings_of s))) (failed CopyFailed)) ⊎ ((failure : Failure) × (page ≡ failed failure)))
 
 -- What comes of what is asked at a state, and what that leaves of the office, whose connection was at `old`: a job is done in it; for a copy and for the
 -- journal it is only read; and what isn't followed leaves it as it was.

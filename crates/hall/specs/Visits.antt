@@ -13,7 +13,6 @@ use Rattle.gathering.specs.declared.client.Door.TheVariants.{Clients, Orders}
 use Rattle.wire.specs.Bodies.{KeyingEntry}
 use Rattle.wire.specs.Asking.{Asks, keying, reading}
 use Rattle.wire.specs.Serving.{IsHandedOn, IsServed, ReadiesClosed, ReadiesFor, TellsFault, TellsFor}
-use Rattle.wire.specs.declared.response.Response.{Response}
 use Rattle.wire.specs.declared.serving.Served.{Served}
 use Rattle.wire.specs.declared.target.Reading.{Reading}
 use Rattle.hall.specs.Handings.{FollowsOrder, IsTurnedAway, TellsOrder}
@@ -30,17 +29,17 @@ pub record Visit : Type 0 where
 
 -- ---- one turn, in an office that was given the origin of a proxy or none, and its file
 
--- an answer that was ready so was put, from its first byte on: whole, or, where memory was wanting, a beginning of it
-abbrev pub EndsIn : List ℕ → (Response → Type 0) → Type 0
-EndsIn answer IsReady = (served : Served) × IsServed IsReady (Some []) (Some answer) served
+-- an answer was put, from its first byte on, and ended so
+abbrev pub EndsIn : List ℕ → (Option (List ℕ) → Option (List ℕ) → Served → Type 0) → Type 0
+EndsIn answer IsEnd = (served : Served) × IsEnd (Some []) (Some answer) served
 
-abbrev pub EndsSo : Visit → (Response → Type 0) → Type 0
-EndsSo visit IsReady = EndsIn visit.answer IsReady
+abbrev pub EndsSo : Visit → (Option (List ℕ) → Option (List ℕ) → Served → Type 0) → Type 0
+EndsSo visit IsEnd = EndsIn visit.answer IsEnd
 
 -- the office served these bytes with this answer: what it tells and what that left, if the office was open; and that it is closed, if it was
 pub record HasServed {S : Type 0} (given : Option (List ℕ)) (state_of : Held S → State) (old : OfficeValue S) (got answer : List ℕ) (new : OfficeValue S) : Type 0 where
-  pub serves : WhenOpenAt state_of old new (λ s. EndsIn answer (λ response. ReadiesFor given (Some got) s response new.closed (state_of new.held)))
-  pub turned_away : old.closed ≡ true → EndsIn answer (ReadiesClosed given (Some got)) × (new ≡ old)
+  pub serves : WhenOpenAt state_of old new (λ s. EndsIn answer (IsServed (λ response. ReadiesFor given (Some got) s response new.closed (state_of new.held))))
+  pub turned_away : old.closed ≡ true → EndsIn answer (IsServed (ReadiesClosed given (Some got))) × (new ≡ old)
   pub clean : HasCleanDisk (state_of new.held) → HasCleanDisk (state_of old.held)
 
 -- what his turn leaves of the answers that are kept: nothing is kept; or he asks for a read, and what is kept is right at the state as before
@@ -54,9 +53,9 @@ KeepsReads given state_of old got new =
 -- is closed, if it was
 pub record ServesClient {S : Type 0} (given : Option (List ℕ)) (state_of : Held S → State) (old : Desk S) (visit : Visit) (new : Desk S) : Type 0 where
   pub serves : WhenOpenAt state_of old.office new.office
-      (λ s. AreReadAt given s old.kept → EndsSo visit (λ response. ReadiesFor given (Some visit.got) s response new.office.closed (state_of new.office.held)))
+      (λ s. AreReadAt given s old.kept → EndsSo visit (IsServed (λ response. ReadiesFor given (Some visit.got) s response new.office.closed (state_of new.office.held))))
   pub keeps : KeepsReads given state_of old visit.got new
-  pub turned_away : old.office.closed ≡ true → EndsSo visit (ReadiesClosed given (Some visit.got)) × (new.office ≡ old.office)
+  pub turned_away : old.office.closed ≡ true → EndsSo visit (IsServed (ReadiesClosed given (Some visit.got))) × (new.office ≡ old.office)
   pub clean : HasCleanDisk (state_of new.office.held) → HasCleanDisk (state_of old.office.held)
 
 -- who came in at a door had his turn: a client is served; or an order is followed, and nothing is kept behind it
@@ -77,7 +76,7 @@ IsLastFor given bytes last =
 
 -- who finds the office closed is told so, where he asks it anything
 abbrev pub IsToldClosed : Door → Given → Visit → Type 0
-IsToldClosed Clients given visit = EndsSo visit (ReadiesClosed given.origin (Some visit.got))
+IsToldClosed Clients given visit = EndsSo visit (IsServed (ReadiesClosed given.origin (Some visit.got)))
 IsToldClosed Orders given visit = IsTurnedAway given.file visit.got visit.answer
 
 -- so is each of these
@@ -88,12 +87,12 @@ AreTurnedAway given (visit ∷ visits) = IsToldClosed visit.door given visit × 
 -- Who has his turn at a state is answered, and these requests were answered for him: of a client none or one keying, and one where he is told what the office says
 -- to it; of an order those that its page tells.
 abbrev pub IsAnsweredAt : Door → Given → OfficeState → Visit → List Request → Type 0
-IsAnsweredAt Clients given s visit sent = EndsSo visit (TellsFor given.origin (Some visit.got) s sent)
+IsAnsweredAt Clients given s visit sent = EndsSo visit (IsServed (TellsFor given.origin (Some visit.got) s sent))
 IsAnsweredAt Orders given s visit sent = (last : List Request) × TellsOrder given.file s visit.got visit.answer sent last
 
 -- A fault, which he is told, closed the office in his turn: these requests were answered, and one more may be kept or not.
 abbrev pub IsStoppedAt : Door → Given → OfficeState → Visit → List Request → List Request → Type 0
-IsStoppedAt Clients given s visit answered last = EndsSo visit TellsFault × (answered ≡ []) × IsLastFor given.origin visit.got last
+IsStoppedAt Clients given s visit answered last = EndsSo visit (IsServed TellsFault) × (answered ≡ []) × IsLastFor given.origin visit.got last
 IsStoppedAt Orders given s visit answered last = TellsOrder given.file s visit.got visit.answer answered last
 
 -- All are answered in turn, each as the office's machine says where his turn comes, and these requests were answered for them. Or a fault closed the office in

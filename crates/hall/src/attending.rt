@@ -7,7 +7,7 @@ ghost use Rattle.gathering.specs.Clients.{IsHeard, IsOf, IsTold};
 ghost use Rattle.wire.specs.Origins.{given_by};
 ghost use Rattle.hall.specs.Handings.{HasCameWhole};
 ghost use Rattle.hall.specs.Terms.{Given, given_in};
-ghost use Rattle.hall.specs.Turns.{HasCome, HasComeAt, IsSameClient, IsUntold, MayHaveTurn, answer_of};
+ghost use Rattle.hall.specs.Turns.{HasCome, HasComeAt, IsSameClient, IsToldAll, IsUntold, MayHaveTurn, answer_of};
 ghost use Rattle.office.specs.Answers.{IsOpenAt, IsReadAt, WhenOpenAt};
 ghost use Rattle.wire.specs.Asking.{Asks, reading};
 ghost use Rattle.wire.specs.declared.target.Reading.{Reading};
@@ -185,6 +185,7 @@ fn tell_more<L: Line>(client: &mut Client<L>) -> Attended
     ensures is { (start : L) → IsOf (line_of L.held L.taken) start client.old → IsOf (line_of L.held L.taken) start client.new }
     ensures same { IsSameClient client.old client.new }
     ensures his { answer_of client.new ≡ answer_of client.old }
+    ensures done { result ≡ Attended.Done → IsToldAll client.new }
 {
     let Some(answer) = &mut client.answer else {
         return Attended::Waits;
@@ -211,6 +212,7 @@ fn take_turn<L: Line, A: Aside, S: Alter>(
     ensures same { IsSameClient client.old client.new }
     ensures turn { (visit : Visit) × (visit.door ≡ client.old.door) × (visit.number ≡ client.old.number) × (visit.got ≡ client.old.got.items)
         × ServesVisit (given_in terms.entry) (state S.Store) (desk_at office.old (reads_in kept.old)) visit (desk_at office.new (reads_in kept.new)) × (answer_of client.new ≡ Some visit.answer) }
+    ensures done { result ≡ Attended.Done → IsToldAll client.new }
 {
     let answer = answer_to(alloc, terms, aside, client, office, kept);
     client.answer = Some(answer);
@@ -238,6 +240,7 @@ pub fn attend<L: Line, A: Aside, S: Alter>(
     ensures is { (start : L) → IsOf (line_of L.held L.taken) start client.old → IsOf (line_of L.held L.taken) start client.new }
     ensures same { IsSameClient client.old client.new }
     ensures turn { MayHaveTurn (given_in terms.entry) (line_of L.held L.taken) (state S.Store) client.old client.new (desk_at office.old (reads_in kept.old)) (desk_at office.new (reads_in kept.new)) }
+    ensures done { result ≡ Attended.Done → IsToldAll client.new }
 {
     if client.answer.is_some() {
         return tell_more(client);

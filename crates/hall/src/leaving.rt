@@ -2,7 +2,7 @@
 
 ghost use Rattle.std.specs.Prelude.{◌≡◌, ◌≤◌, ◌<◌, ◌+◌, [], false, length, true};
 ghost use Rattle.gathering.specs.Rooms.{bytes_held};
-ghost use Rattle.hall.specs.Halls.{AreLetGo};
+ghost use Rattle.hall.specs.Halls.{AreLetGo, IsWithin};
 
 use gathering::room::{bytes_held, longest};
 use gathering::{Line, MAX_BYTES, MAX_CLIENTS, Room};
@@ -65,7 +65,7 @@ fn is_full<L>(room: &Room<L>) -> bool
 /// waited longest, if that is a second at least; whether one more may.
 pub fn make_room<L: Line + Drop>(room: &mut Room<L>, lets_go: bool, now: u64) -> bool
     ensures go { AreLetGo GRACE now room.old room.new }
-    ensures room { result ≡ true → length room.old.clients.items ≤ MAX_CLIENTS → length room.new.clients.items < MAX_CLIENTS }
+    ensures room { result ≡ true → IsWithin room.old → length room.new.clients.items < MAX_CLIENTS }
     ensures full { result ≡ false → room.new.clients.items ≡ room.old.clients.items }
 {
     if !is_full(room) {

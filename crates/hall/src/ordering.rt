@@ -57,7 +57,7 @@ fn copy_aside<A: Aside, S: Alter, O: Sink, E: Sink>(
 ) -> u8
     requires out { O.failed out.old < 2 ^ 64 - 1 }
     requires err { E.failed err.old < 2 ^ 64 - 1 }
-    ensures { let outputs = outputs_of O.taken O.failed E.taken E.failed in Tells (outputs out.old err.old) (outputs out.new err.new) result
+    ensures told { let outputs = outputs_of O.taken O.failed E.taken E.failed in Tells (outputs out.old err.old) (outputs out.new err.new) result
         (λ cut page. WhenOpenAt (state S.Store) office.old office.new
         (λ s. ComesOf (state S.Store office.old.held) office.new.closed (state S.Store office.new.held) (folder_of (piece_entries brought.files.now)) s (Asked.Copy path.entry) cut page)) }
     ensures clean { HasCleanDisk (state S.Store office.new.held) → HasCleanDisk (state S.Store office.old.held) }

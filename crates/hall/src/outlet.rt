@@ -20,6 +20,7 @@ const MAX_ANSWER: usize = 32 << 20;
 ///
 /// An order is followed by code that knows of a `Sink` alone. So what the line took of the answer stands here as a fact
 /// that each `put` keeps.
+#[derive(Drop)]
 pub struct Outlet<'a, L: Line> {
     pub line: &'a mut L,
     pub answer: &'a mut Answer,

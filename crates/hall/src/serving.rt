@@ -10,7 +10,7 @@ ghost use Rattle.hall.specs.Guests.{IsSound};
 ghost use Rattle.hall.specs.Reads.{desk_at, reads_in};
 ghost use Rattle.hall.specs.Terms.{Given, given_in};
 ghost use Rattle.hall.specs.Turns.{IsUntold, MayHaveTurn};
-ghost use Rattle.hall.specs.Halls.{GoesOn, GoesOnServing, ServesHall};
+ghost use Rattle.hall.specs.Halls.{GoesOn, GoesOnServing, IsWithin, ServesHall};
 
 use crate::aside::Aside;
 use crate::attending::{Attended, attend};
@@ -18,7 +18,7 @@ use crate::leaving::{PATIENCE, keep_within, let_go_late, make_room};
 use crate::reads::Kept;
 use crate::terms::Terms;
 use gathering::room::{longest, place_of};
-use gathering::{Admitted, Client, Doors, Line, MAX_CLIENTS, Room};
+use gathering::{Admitted, Client, Doors, Line, Room};
 use office::Office;
 use sqlite::Alter;
 use std::alloc::Global;
@@ -82,6 +82,7 @@ fn go_on_at<L: Line + Drop, C: Clock, A: Aside, S: Alter>(
     ensures goes_on { (let_in : Option (List (Comer L))) → GoesOnServing (given_in terms.entry) (line_of L.held L.taken) (state S.Store) let_in let_in room.old room.new (desk_at office.old (reads_in kept.old)) (desk_at office.new (reads_in kept.new)) }
     ensures came { room.new.came ≡ room.old.came }
     ensures counted { room.new.counted ≡ room.old.counted }
+    ensures within { IsWithin room.old → OnOk result (IsWithin room.new) }
 {
     if go_on(
         alloc,
@@ -114,6 +115,7 @@ fn go_on_numbered<L: Line + Drop, C: Clock, A: Aside, S: Alter>(
     ensures goes_on { (let_in : Option (List (Comer L))) → GoesOnServing (given_in terms.entry) (line_of L.held L.taken) (state S.Store) let_in let_in room.old room.new (desk_at office.old (reads_in kept.old)) (desk_at office.new (reads_in kept.new)) }
     ensures came { room.new.came ≡ room.old.came }
     ensures counted { room.new.counted ≡ room.old.counted }
+    ensures within { IsWithin room.old → OnOk result (IsWithin room.new) }
 {
     match place_of(room.clients.as_slice(), number) {
         Some(place) => go_on_at(alloc, clock, terms, aside, room, place, office, kept),
@@ -136,6 +138,7 @@ fn go_on_all<D: Doors, C: Clock, A: Aside, S: Alter>(
     ensures goes_on { GoesOnServing (given_in terms.entry) (line_of D.Line.held D.Line.taken) (state S.Store) (D.came doors.old) (D.came doors.new) room.old room.new (desk_at office.old (reads_in kept.old)) (desk_at office.new (reads_in kept.new)) }
     ensures came { room.new.came ≡ room.old.came }
     ensures counted { room.new.counted ≡ room.old.counted }
+    ensures within { IsWithin room.old → OnOk result (IsWithin room.new) }
 {
     for _ in 0..u64::MAX {
         let Some(number) = doors.next_ready() else {
@@ -157,7 +160,7 @@ fn let_one_in<D: Doors>(
 ) -> Option<u64>
     ensures goes_on { (given : Given) → GoesOn given (line_of D.Line.held D.Line.taken) [] (D.came doors.old) (D.came doors.new) room.old room.new }
     ensures few { room.old.counted ≤ most → room.new.counted ≤ most }
-    ensures room { length room.old.clients.items ≤ MAX_CLIENTS → length room.new.clients.items ≤ MAX_CLIENTS }
+    ensures within { IsWithin room.old → IsWithin room.new }
 {
     if room.came == u64::MAX || !doors.is_waited_at() {
         return Some(PATIENCE);
@@ -187,7 +190,7 @@ fn let_in<D: Doors>(
 ) -> u64
     ensures goes_on { (given : Given) → GoesOn given (line_of D.Line.held D.Line.taken) [] (D.came doors.old) (D.came doors.new) room.old room.new }
     ensures few { room.old.counted ≤ most → room.new.counted ≤ most }
-    ensures room { length room.old.clients.items ≤ MAX_CLIENTS → length room.new.clients.items ≤ MAX_CLIENTS }
+    ensures within { IsWithin room.old → IsWithin room.new }
 {
     for _ in 0..COMERS {
         if let Some(look) = let_one_in(alloc, doors, room, most, now) {
@@ -224,6 +227,7 @@ fn go_round<D: Doors, C: Clock, A: Aside, S: Alter>(
     requires { IsSound (given_in terms.entry) (line_of D.Line.held D.Line.taken) room.old }
     ensures goes_on { GoesOnServing (given_in terms.entry) (line_of D.Line.held D.Line.taken) (state S.Store) (D.came doors.old) (D.came doors.new) room.old room.new (desk_at office.old (reads_in kept.old)) (desk_at office.new (reads_in kept.new)) }
     ensures few { room.old.counted ≤ most → room.new.counted ≤ most }
+    ensures within { IsWithin room.old → OnOk result (IsWithin room.new) }
     ensures all { result ≡ Ok true → (most ≤ room.new.counted) × (room.new.clients.items ≡ []) }
 {
     go_on_all(alloc, clock, doors, terms, aside, room, office, kept)?;

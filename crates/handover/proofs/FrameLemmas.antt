@@ -36,9 +36,10 @@ passed_bytes (b ∷ bytes) output = passed_bytes bytes output
 over_heard : (st : Heard) (status : ℕ) (err : List ℕ) → st.place ≡ at_kind → length err + 1 < 2 ^ 32 → fold hear st (frame_bytes (over status err)) ≡ record { place = at_kind; output = st.output }
 over_heard st status err whole lt =
     let bytes : List ℕ = status ∷ err in
+    let fits : length bytes < 2 ^ 32 = omega (arith, lt) in
     let on : fold hear (hear_at st.place st.output 2) (string bytes) ≡ fold hear (hear_at at_kind st.output 2) (string bytes) =
     ap (λ (p : Place). fold hear (hear_at p st.output 2) (string bytes)) whole in
-    on ∙ ap (λ (n : ℕ). fold hear (record { place = behind_length 2 n; output = st.output }) bytes) (heard_length (length bytes) lt) ∙ passed_bytes bytes st.output
+    on ∙ ap (λ (n : ℕ). fold hear (record { place = behind_length 2 n; output = st.output }) bytes) (heard_length (length bytes) fits) ∙ passed_bytes bytes st.output
 
 -- that frame behind whole ones says nothing more, and leaves whole ones
 pub over_more : (front : List ℕ) (status : ℕ) (err : List ℕ) → AreWhole front → length err + 1 < 2 ^ 32

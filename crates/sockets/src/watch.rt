@@ -139,7 +139,8 @@ impl Watch {
 
 /// Why nobody was let in.
 fn nobody(error: &io::Error) -> Admitted<Socket>
-    ensures { (door : Door) → IsAtDoor door result }
+    ensures clients { IsAtDoor Door.Clients result }
+    ensures orders { IsAtDoor Door.Orders result }
 {
     match error.kind() {
         ErrorKind::WouldBlock => Admitted::Nobody,

@@ -26,6 +26,23 @@ const SCRIPT: &[&str] = &["DB", "replay", "SCRIPT"];
 const LINES: &[u8] =
     b"import-keying 9 12 1 FILE --id k1\ncandidate 7 4 Dee --id d1\nseal 7 --id s1\n";
 
+const INIT: &[&str] = &["DB", "init"];
+
+const MIGRATE: &[&str] = &["DB", "migrate"];
+
+const SERVE: &[&str] = &["DB", "serve", "8080", "0"];
+
+const COPY: &[&str] = &["DB", "copy", "NEW"];
+
+const JUDGE: &[&str] = &["DB", "judge", "12", "1", "maybe", "--id", "j1"];
+
+const ELSEWHERE: &[&str] = &["DB", "status", "8"];
+
+/// The files that go with them.
+const KEYED_FILE: &[(&str, &[u8])] = &[("FILE", PAPERS)];
+
+const SCRIPTED: &[(&str, &[u8])] = &[("SCRIPT", LINES), ("FILE", PAPERS)];
+
 /// What is told of them.
 const IMPORTED: &[&str] = &["batch 12 round 1 keyed", "\n"];
 
@@ -137,37 +154,16 @@ fn are_refused<M: Machine + Drop>(rt: &(impl Abort + AllocGlobal), machine: M) -
         inode: TERMS.file.inode + 1,
         ..Given::of(STATUS)
     };
-    let judge = ["DB", "judge", "12", "1", "maybe", "--id", "j1"];
     let mut machine = machine;
     for (given, status, err) in [
         (older, 3, "fault 102: store\n"),
         (elsewhere, 3, "fault 102: store\n"),
-        (
-            Given::of(&["DB", "init"]),
-            3,
-            "fault 111: office is being served\n",
-        ),
-        (
-            Given::of(&["DB", "migrate"]),
-            3,
-            "fault 111: office is being served\n",
-        ),
-        (
-            Given::of(&["DB", "serve", "8080"]),
-            3,
-            "fault 111: office is being served\n",
-        ),
-        (
-            Given::of(&["DB", "copy", "NEW"]),
-            3,
-            "fault 110: copy not written\n",
-        ),
-        (Given::of(&judge), 2, "bad verdict word\n"),
-        (
-            Given::of(&["DB", "status", "8"]),
-            1,
-            "refused 5: no such ward\n",
-        ),
+        (Given::of(INIT), 3, "fault 111: office is being served\n"),
+        (Given::of(MIGRATE), 3, "fault 111: office is being served\n"),
+        (Given::of(SERVE), 3, "fault 111: office is being served\n"),
+        (Given::of(COPY), 3, "fault 110: copy not written\n"),
+        (Given::of(JUDGE), 2, "bad verdict word\n"),
+        (Given::of(ELSEWHERE), 1, "refused 5: no such ward\n"),
         (
             Given::of(SCRIPT),
             3,
@@ -206,7 +202,7 @@ fn come_among_clients<M: Machine + Drop>(
     let alloc = rt.alloc();
     let status = Given::of(STATUS).message(alloc)?;
     let import = Given {
-        files: &[("FILE", PAPERS)],
+        files: KEYED_FILE,
         ..Given::of(IMPORT)
     };
     let import = import.message(alloc)?;
@@ -241,7 +237,7 @@ fn follow_scripts<M: Machine + Drop>(
     machine: M,
 ) -> Result<M, Fail> {
     let given = Given {
-        files: &[("SCRIPT", LINES), ("FILE", PAPERS)],
+        files: SCRIPTED,
         ..Given::of(SCRIPT)
     };
     let message = given.message(rt.alloc())?;
@@ -260,7 +256,7 @@ fn break_at_each_byte<M: Machine + Drop>(
     machine: M,
 ) -> Result<M, Fail> {
     let given = Given {
-        files: &[("FILE", PAPERS)],
+        files: KEYED_FILE,
         ..Given::of(IMPORT)
     };
     let message = given.message(rt.alloc())?;

@@ -238,6 +238,7 @@ pub const TERMS: Terms<'static> = Terms {
 };
 
 /// An office that has nothing beside it: no copy and no journal can be made.
+#[derive(Clone, Copy)]
 struct Unaided;
 
 impl Aside for Unaided {

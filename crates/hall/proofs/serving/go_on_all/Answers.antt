@@ -13,7 +13,7 @@ loop-init g c =
     let line = line_of g.D.Line.Line.held g.D.Line.Line.taken in
     let came = g.D.Doors.came c.args.doors.now in
     let room = c.args.room.now in
-    record { goes_on = serving_none given line (state g.S.Store) came came room room (desk_at c.args.office.now (reads_in c.args.kept.now)) (goes_none given line came came room refl); came = refl; counted = refl }
+    record { goes_on = serving_none given line (state g.S.Store) came came room room (desk_at c.args.office.now (reads_in c.args.kept.now)) (goes_none given line came came room refl); came = refl; counted = refl; within = λ within. within }
 
 pub loop-preserved : goal.loop-preserved
 loop-preserved g c =
@@ -28,6 +28,7 @@ loop-preserved g c =
           (c.go_on_numbered.ensures.goes_on came);
       came = c.go_on_numbered.ensures.came ∙ so_far.came;
       counted = c.go_on_numbered.ensures.counted ∙ so_far.counted;
+      within = λ within. c.in_ok-go_on_numbered.ensures.within (so_far.within within);
     }
 
 pub returns-in_err-go_on_numbered-clause-goes_on : goal.returns-in_err-go_on_numbered-clause-goes_on

@@ -1,9 +1,10 @@
 -- Why `go_on_at` keeps its promise.
-use Rattle.std.proofs.Common.{arith, length-set, refl}
+use Rattle.std.proofs.Common.{◌≤◌, arith, length, length-set, refl, set}
 use Rattle.sqlite.specs.Held.{state}
 use Rattle.gathering.specs.Lines.{line_of}
 use Rattle.hall.specs.Reads.{desk_at, reads_in}
 use Rattle.hall.specs.Terms.{given_in}
+use Rattle.hall.proofs.BoundLemmas.{within_again, within_less}
 use Rattle.hall.proofs.HallLemmas.{goes_less, goes_on_at, goes_without, room_with, serving_none, serving_then, untold_at}
 use Rattle.hall.proofs.serving.go_on_at.Goals as goal
 
@@ -43,3 +44,14 @@ returns-clause-goes_on g c = λ let_in.
 pub go_on-requires : goal.go_on-requires
 go_on-requires g c =
     untold_at (given_in c.args.terms) (line_of g.L.Line.held g.L.Line.taken) c.args.room.now c.args.place c.index_mut.result.now c.requires.sound c.requires.place c.index_mut.ensures.value
+
+pub returns-then-branch-clause-within : goal.returns-then-branch-clause-within
+returns-then-branch-clause-within g c = λ within.
+    let room = c.args.room.now in
+    let went = room_with (given_in c.args.terms) (line_of g.L.Line.held g.L.Line.taken) room c.args.place c.go_on.new.client in
+    let few : length (set room.clients.items c.args.place c.go_on.new.client) ≤ 512 = omega (arith, within.0, length-set room.clients.items c.args.place c.go_on.new.client) in
+    within_again 0 0 went c.keep_within.new.room few c.keep_within.ensures.go (c.keep_within.ensures.within few)
+
+pub returns-clause-within : goal.returns-clause-within
+returns-clause-within g c = λ within.
+    within_less c.args.room.now.clients.items c.remove.new.self.items c.args.place c.index_mut.result.now c.go_on.new.client c.requires.place within c.remove.ensures.items

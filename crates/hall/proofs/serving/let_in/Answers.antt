@@ -17,5 +17,5 @@ loop-preserved g c = record {
       goes_then given line [] [] (g.D.Doors.came c.args.doors.now) (g.D.Doors.came c.loop.doors) (g.D.Doors.came c.let_one_in.new.doors) c.args.room.now c.loop.room c.let_one_in.new.room
       (c.loop.invariant.goes_on given) (c.let_one_in.ensures.goes_on given);
   few = λ within. c.let_one_in.ensures.few (c.loop.invariant.few within);
-  room = λ within. c.let_one_in.ensures.room (c.loop.invariant.room within);
+  within = λ within. c.let_one_in.ensures.within (c.loop.invariant.within within);
 }

@@ -1,7 +1,7 @@
 -- What holds each time round the loop of `let_in`.
 use Rattle.std.proofs.Common.{◌≤◌, ℕ, [], List, Option, length}
 use Rattle.gathering.specs.Lines.{line_of}
-use Rattle.hall.specs.Halls.{GoesOn}
+use Rattle.hall.specs.Halls.{GoesOn, IsWithin}
 use Rattle.hall.specs.Terms.{Given}
 use Rattle.hall.proofs.serving.let_in.Given as goal
 
@@ -10,5 +10,5 @@ abbrev pub invariant-loop : goal.invariant-loop
 invariant-loop g l = record {
   goes_on : (given : Given) → GoesOn given (line_of g.D.Line.Line.held g.D.Line.Line.taken) [] (g.D.Doors.came l.fn.doors) (g.D.Doors.came l.doors) l.fn.room l.room;
   few : l.fn.room.counted ≤ l.most → l.room.counted ≤ l.most;
-  room : length l.fn.room.clients.items ≤ 512 → length l.room.clients.items ≤ 512;
+  within : IsWithin l.fn.room → IsWithin l.room;
 }

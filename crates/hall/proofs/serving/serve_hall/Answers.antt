@@ -4,6 +4,7 @@ use Rattle.sqlite.specs.Held.{state}
 use Rattle.gathering.specs.Lines.{line_of}
 use Rattle.hall.specs.Reads.{desk_at, reads_in}
 use Rattle.hall.specs.Terms.{given_in}
+use Rattle.hall.proofs.BoundLemmas.{within_none}
 use Rattle.hall.proofs.HallLemmas.{goes_none, hall_serves, most_all, most_few, on_err, serving_clean, serving_closed, serving_none, serving_then, sound_empty, sound_later}
 use Rattle.hall.proofs.serving.serve_hall.Goals as goal
 
@@ -13,7 +14,7 @@ loop-init g c =
     let line = line_of g.D.Line.Line.held g.D.Line.Line.taken in
     let came = g.D.Doors.came c.args.doors.now in
     let room = c.new-room.result in
-    record { goes_on = serving_none given line (state g.S.Store) came came room room c.args.office.now (goes_none given line came came room refl); few = omega (arith, c.new-room.ensures.2) }
+    record { goes_on = serving_none given line (state g.S.Store) came came room room c.args.office.now (goes_none given line came came room refl); few = omega (arith, c.new-room.ensures.2); within = within_none room c.new-room.ensures.0 }
 
 pub loop-preserved : goal.loop-preserved
 loop-preserved g c =
@@ -24,6 +25,7 @@ loop-preserved g c =
       goes_on = serving_then given line (state g.S.Store) first (g.D.Doors.came c.loop.doors) (g.D.Doors.came c.go_round.new.doors) c.new-room.result c.loop.room c.go_round.new.room c.args.office.now (desk_at c.loop.office (reads_in c.loop.kept)) (desk_at c.go_round.new.office (reads_in c.go_round.new.kept))
           c.loop.invariant.goes_on c.go_round.ensures.goes_on;
       few = c.go_round.ensures.few c.loop.invariant.few;
+      within = c.in_ok-go_round.ensures.within c.loop.invariant.within;
     }
 
 pub returns-in_err-go_round-clause-served : goal.returns-in_err-go_round-clause-served
