@@ -1,5 +1,5 @@
 -- A hall in which clients are served: who comes in, who is let go, and what is promised of all of them.
-use Rattle.std.specs.Prelude.{◌≡◌, ◌≤◌, ◌<◌, ◌+◌, ◌-◌, false, List, ◌++◌, IfSome, OnOk, Option, Result, length, map, option_map, slice_index_or, ℕ}
+use Rattle.std.specs.Prelude.{◌≡◌, ◌≤◌, ◌<◌, ◌-◌, false, List, ◌++◌, IfSome, OnOk, Option, Result, length, map, option_map, slice_index_or, ℕ}
 use Rattle.std.specs.List.{FoldsTo, remove}
 use Rattle.sqlite.specs.Held.{Held}
 use Rattle.sqlite.specs.State.{HasCleanDisk, State}
