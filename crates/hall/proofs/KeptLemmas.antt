@@ -21,15 +21,14 @@ use Rattle.wire.specs.Serving.{FaultLeaves, IsAnswered, IsServed, ReadiesFor, Te
 use Rattle.wire.specs.Told.{IsTold}
 use Rattle.gathering.specs.declared.client.Door.{Door}
 use Rattle.gathering.specs.declared.client.Door.TheVariants.{Clients, Orders}
-use Rattle.handover.specs.Spelling.{PieceEntry}
 use Rattle.desk.specs.Folders.{Folder}
 use Rattle.desk.specs.Headline.{Course, IsDone}
 use Rattle.desk.specs.Pages.{Cut, Page}
 use Rattle.desk.proofs.KeptLemmas.{kept_done}
 use Rattle.desk.proofs.OpenLemmas.{after_next, open_done}
-use Rattle.hall.specs.Handings.{ComesOf, FollowsOrder, IsFramed, TellsAsked, TellsOrder, TellsSo, folder_of}
+use Rattle.hall.specs.Handings.{ComesOf, IsFramed, TellsOrder, TellsSo, folder_of}
 use Rattle.hall.specs.Terms.{Given}
-use Rattle.hall.specs.Visits.{AnswersInTurn, AreTurnedAway, EndsSo, IsAnsweredAt, IsKeptOf, IsLastFor, IsStoppedAt, IsToldClosed, ServesAt, ServesClient, ServesVisit, Visit}
+use Rattle.hall.specs.Visits.{AnswersInTurn, AreTurnedAway, EndsSo, IsAnsweredAt, IsKeptOf, IsLastFor, IsStoppedAt, IsToldClosed, ServesAt, ServesVisit, Visit}
 use Rattle.desk.specs.declared.orders.Job.{Job}
 use Rattle.hall.specs.declared.handing.Asked.{Asked}
 use Rattle.hall.specs.declared.handing.Asked.TheVariants as asked
