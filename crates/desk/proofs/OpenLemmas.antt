@@ -9,7 +9,7 @@ use Rattle.register.specs.declared.command.Request.{Request}
 use Rattle.office.specs.Answers.{IsOpenAt, Told}
 use Rattle.desk.specs.Folders.{Folder}
 use Rattle.desk.specs.Headline.{Course, IsAnswered, IsDone, IsPlayed, IsSent, IsStopped, IsUnsent, answer, ended, told_above}
-use Rattle.desk.specs.Pages.{Cut, Page, empty_page, fronted, uncut}
+use Rattle.desk.specs.Pages.{Cut, Page, fronted}
 use Rattle.desk.specs.Scripts.{keeps_going}
 use Rattle.desk.specs.Told.{IsTold, page_answered}
 use Rattle.desk.specs.declared.orders.Job.{Job}

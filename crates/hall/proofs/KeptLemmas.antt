@@ -24,16 +24,15 @@ use Rattle.wire.specs.declared.target.Reading.{Reading}
 use Rattle.wire.proofs.AskingLemmas.{AsksOneThing-all}
 use Rattle.gathering.specs.declared.client.Door.{Door}
 use Rattle.gathering.specs.declared.client.Door.TheVariants.{Clients, Orders}
-use Rattle.handover.specs.Spelling.{PieceEntry}
 use Rattle.desk.specs.Folders.{Folder}
 use Rattle.desk.specs.Headline.{Course, IsDone}
 use Rattle.desk.specs.Pages.{Cut, Page}
 use Rattle.desk.proofs.KeptLemmas.{kept_done}
 use Rattle.desk.proofs.OpenLemmas.{after_next, open_done}
-use Rattle.hall.specs.Handings.{ComesOf, FollowsOrder, IsFramed, TellsAsked, TellsOrder, TellsSo, folder_of}
+use Rattle.hall.specs.Handings.{ComesOf, IsFramed, TellsAsked, TellsOrder, TellsSo, folder_of}
 use Rattle.hall.specs.Reads.{AreReadAt, Desk, IsRead, ReadEntry, with_none_kept}
 use Rattle.hall.specs.Terms.{Given}
-use Rattle.hall.specs.Visits.{AnswersInTurn, AreTurnedAway, EndsSo, IsAnsweredAt, IsKeptOf, IsLastFor, IsStoppedAt, IsToldClosed, KeepsReads, ServesAt, ServesClient, ServesVisit, Visit}
+use Rattle.hall.specs.Visits.{AnswersInTurn, AreTurnedAway, EndsSo, IsAnsweredAt, IsKeptOf, IsLastFor, IsStoppedAt, IsToldClosed, KeepsReads, ServesAt, ServesVisit, Visit}
 use Rattle.desk.specs.declared.orders.Job.{Job}
 use Rattle.hall.specs.declared.handing.Asked.{Asked}
 use Rattle.hall.specs.declared.handing.Asked.TheVariants as asked

@@ -1,5 +1,5 @@
 -- Answers to reads that are kept, to be told again while nothing changes.
-use Rattle.std.specs.Prelude.{◌≡◌, ◌≤◌, ◌+◌, List, [], Option, length, map, sum_by, ℕ}
+use Rattle.std.specs.Prelude.{◌≡◌, ◌+◌, List, [], Option, length, map, sum_by, ℕ}
 use Rattle.std.specs.List.{All}
 use Rattle.register.specs.Offices.{OfficeState}
 use Rattle.office.specs.Values.{OfficeValue}
