@@ -60,10 +60,10 @@ module _ {L : Type 0} (line : Line L) where
   -- ---- what is told
 
   -- nothing was told
-  pub delivers_none : (old new : L) (answer : List ℕ) (sent : ℕ) → sent ≤ length answer → line.taken new ≡ line.taken old → Keeps (line.held old) (line.held new)
+  pub delivers_none : (old new : L) (answer : List ℕ) (sent : ℕ) → line.taken new ≡ line.taken old → Keeps (line.held old) (line.held new)
       → Delivers line old new answer sent sent
-  delivers_none old new answer sent within kept unheard = record {
-    within = within;
+  delivers_none old new answer sent kept unheard = record {
+    within = λ within. within;
     bytes = [];
     is = sym (append-nil (take sent answer));
     took = grows_none (line.taken old) (line.taken new) kept;
@@ -71,7 +71,7 @@ module _ {L : Type 0} (line : Line L) where
   }
 
   -- the next bytes were told
-  pub delivers_one : (old new : L) (answer : List ℕ) (sent n : ℕ) → sent + n ≤ length answer → Grows (line.taken old) (line.taken new) (take n (drop sent answer)) → Keeps (line.held old) (line.held new)
+  pub delivers_one : (old new : L) (answer : List ℕ) (sent n : ℕ) → (sent ≤ length answer → sent + n ≤ length answer) → Grows (line.taken old) (line.taken new) (take n (drop sent answer)) → Keeps (line.held old) (line.held new)
       → Delivers line old new answer sent (sent + n)
   delivers_one old new answer sent n within took unheard = record { within = within; bytes = take n (drop sent answer); is = take-add sent n answer; took = took; unheard = unheard }
 
@@ -79,7 +79,7 @@ module _ {L : Type 0} (line : Line L) where
   pub delivers_then : (old mid new : L) (answer : List ℕ) (before between after : ℕ) → Delivers line old mid answer before between → Delivers line mid new answer between after
       → Delivers line old new answer before after
   delivers_then old mid new answer before between after first next = record {
-    within = next.within;
+    within = λ within. next.within (first.within within);
     bytes = first.bytes ++ next.bytes;
     is = next.is ∙ ap (λ (xs : List ℕ). xs ++ next.bytes) first.is ∙ append_assoc (take before answer) first.bytes next.bytes;
     took = grows_then (line.taken old) (line.taken mid) (line.taken new) first.bytes next.bytes first.took next.took;
@@ -92,12 +92,12 @@ module _ {L : Type 0} (line : Line L) where
   delivers_next first mid new answer before sent n bytes so_far is within took unheard =
       let few = subst (λ (xs : List ℕ). n ≤ length xs) is within in
       delivers_then first mid new answer before sent (sent + n) so_far
-      (delivers_one mid new answer sent n (omega (arith, few, so_far.within, length-drop sent answer)) (subst (λ (xs : List ℕ). Grows (line.taken mid) (line.taken new) (take n xs)) is took) unheard)
+      (delivers_one mid new answer sent n (λ within. omega (arith, few, within, length-drop sent answer)) (subst (λ (xs : List ℕ). Grows (line.taken mid) (line.taken new) (take n xs)) is took) unheard)
 
   -- a client who was told more of his answer
   pub told_more : (old new : L) (answer : List ℕ) (before after : ℕ) → IsTold line old answer before → Delivers line old new answer before after → IsTold line new answer after
   told_more old new answer before after told more = record {
-    within = more.within;
+    within = more.within told.within;
     took = subst (HasTaken (line.taken new)) (sym more.is) (taken_more (line.taken old) (line.taken new) (take before answer) more.bytes more.took told.took);
   }
 

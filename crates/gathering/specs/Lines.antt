@@ -43,7 +43,7 @@ pub record Gathers {L : Type 0} (line : Line L) (old new : L) (before after : Li
 
 -- A line took the bytes of an answer from one place to another, and it was asked for nothing.
 pub record Delivers {L : Type 0} (line : Line L) (old new : L) (answer : List ℕ) (before after : ℕ) : Type 0 where
-  pub within : after ≤ length answer
+  pub within : before ≤ length answer → after ≤ length answer
   pub bytes : List ℕ
   pub is : take after answer ≡ take before answer ++ bytes
   pub took : Grows (line.taken old) (line.taken new) bytes

@@ -1,5 +1,5 @@
 -- The clients who are in a room at one time.
-use Rattle.std.specs.Prelude.{◌≤◌, ◌+◌, ◌==◌, ⊤, ℕ, List, [], Option, Some, None, length, position, sum_by}
+use Rattle.std.specs.Prelude.{◌≡◌, ◌≤◌, ◌+◌, ◌∷◌, ◌++◌, ◌==◌, ⊤, ℕ, List, [], Option, Some, None, length, option_map, position, sum_by}
 use Rattle.std.specs.List.{All}
 use Rattle.gathering.specs.Lines.{HasTaken}
 use Rattle.gathering.specs.declared.client.Answer.{Answer}
@@ -33,3 +33,9 @@ abbrev pub IsFresh : {L : Type 0} → (L → Option (List ℕ)) → Admitted L �
 IsFresh taken (One line) = HasTaken (taken line) []
 IsFresh taken Nobody = ⊤
 IsFresh taken NotNow = ⊤
+
+-- the lines that came in grow by that of whoever is let in
+abbrev pub LetsIn : {L : Type 0} → Option (List L) → Option (List L) → Admitted L → Type 0
+LetsIn old new (One line) = new ≡ option_map (λ lines. lines ++ line ∷ []) old
+LetsIn old new Nobody = new ≡ old
+LetsIn old new NotNow = new ≡ old

@@ -106,11 +106,9 @@ fn gather<L: Line>(line: &mut L, got: &mut Vec<u8>, wanted: usize) -> Result<Hea
 
 /// Puts what is left of an answer, until all is told or the line takes no more now; whether all is told.
 pub fn deliver<L: Line>(line: &mut L, answer: &mut Answer) -> Result<bool, Broken>
-    requires { answer.old.sent ≤ length answer.old.bytes.items }
     ensures delivers { Delivers (line_of L.held L.taken) line.old line.new answer.old.bytes.items answer.old.sent answer.new.sent }
     ensures same { answer.new.bytes.items ≡ answer.old.bytes.items }
-    ensures within { answer.new.sent ≤ length answer.new.bytes.items }
-    ensures all { result ≡ Ok true → answer.new.sent ≡ length answer.new.bytes.items }
+    ensures all { result ≡ Ok true → length answer.new.bytes.items ≤ answer.new.sent }
     ensures some { result ≡ Ok false → answer.new.sent < length answer.new.bytes.items }
 {
     while answer.sent < answer.bytes.len() {

@@ -1,6 +1,7 @@
 //! Where clients come in, and what tells which of them may go on.
 
-ghost use Rattle.gathering.specs.Rooms.{IsFresh};
+ghost use Rattle.std.specs.Prelude.{◌≡◌, List, Option};
+ghost use Rattle.gathering.specs.Rooms.{IsFresh, LetsIn};
 
 use crate::line::Line;
 use std::time::Duration;
@@ -21,15 +22,21 @@ pub enum Admitted<L> {
 pub trait Doors {
     type Line: Line + Drop;
 
+    /// The lines of those who were let in so far, as they came in, as far as they are told.
+    ghost came: { Self → Option (List Self.Line) };
+
     /// Waits until somebody may go on or come in, so long at most.
-    fn wait(&mut self, most: Duration) -> Result<(), Broken>;
+    fn wait(&mut self, most: Duration) -> Result<(), Broken>
+        ensures { came self.new ≡ came self.old };
 
     /// The number of the next who may go on; none, once all were told.
-    fn next_ready(&mut self) -> Option<u64>;
+    fn next_ready(&mut self) -> Option<u64>
+        ensures { came self.new ≡ came self.old };
 
     /// Lets in the next who waits, and tells of him by this number from then on.
     fn admit(&mut self, number: u64) -> Admitted<Self::Line>
-        ensures { IsFresh Self.Line.taken result };
+        ensures fresh { IsFresh Self.Line.taken result }
+        ensures lets_in { LetsIn (came self.old) (came self.new) result };
 
     /// Whether somebody may wait to be let in.
     fn is_waited_at(&self) -> bool;

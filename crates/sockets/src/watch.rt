@@ -1,6 +1,6 @@
 //! What tells which sockets may go on, and whether somebody waits to be let in.
 
-ghost use Rattle.std.specs.Prelude.{◌≡◌, ◌+◌, IfNone, IfOk, IfSome};
+ghost use Rattle.std.specs.Prelude.{◌≡◌, ◌+◌, IfNone, IfOk, IfSome, None};
 ghost use Rattle.sockets.specs.Watches.{listener_of, stream_of};
 
 use crate::socket::Socket;
@@ -90,6 +90,8 @@ impl Watch {
 
 impl Doors for Watch {
     type Line = Socket;
+
+    ghost came = { λ _. None };
 
     fn wait(&mut self, most: Duration) -> Result<(), Broken> {
         self.told = 0;
