@@ -1,0 +1,15 @@
+-- What holds each time round the loop of `go_on_all`.
+use Rattle.std.proofs.Common.{◌≡◌}
+use Rattle.sqlite.specs.Held.{state}
+use Rattle.gathering.specs.Lines.{line_of}
+use Rattle.wire.specs.Origins.{given_by}
+use Rattle.hall.specs.Halls.{GoesOnServing, IsWithin}
+use Rattle.hall.proofs.serving.go_on_all.Given as goal
+
+-- some went on so far
+abbrev pub invariant-loop : goal.invariant-loop
+invariant-loop g l = record {
+  goes_on : GoesOnServing (given_by l.origin) (line_of g.D.Line.Line.held g.D.Line.Line.taken) (state g.S.Store) (g.D.Doors.came l.fn.doors) (g.D.Doors.came l.doors) l.fn.room l.room l.fn.office l.office;
+  came : l.room.came ≡ l.fn.room.came;
+  within : IsWithin l.fn.room → IsWithin l.room;
+}

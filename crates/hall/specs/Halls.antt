@@ -1,0 +1,63 @@
+-- A hall in which clients are served: who comes in, who is let go, and what is promised of all of them.
+use Rattle.std.specs.Prelude.{◌≡◌, ◌≤◌, ◌<◌, ◌+◌, ◌-◌, false, List, ◌++◌, IfSome, OnOk, Option, Result, length, map, option_map, slice_index_or, ℕ}
+use Rattle.std.specs.List.{FoldsTo, remove}
+use Rattle.sqlite.specs.Held.{Held}
+use Rattle.sqlite.specs.State.{HasCleanDisk, State}
+use Rattle.register.specs.Machine.{after}
+use Rattle.register.specs.Offices.{empty_office}
+use Rattle.register.specs.declared.command.Request.{Request}
+use Rattle.store.specs.Offices.{IsAt}
+use Rattle.office.specs.Values.{OfficeValue}
+use Rattle.votes.specs.declared.streams.Broken.{Broken}
+use Rattle.gathering.specs.Lines.{Line}
+use Rattle.gathering.specs.Rooms.{IsLongest, bytes_held, most_bytes, most_clients}
+use Rattle.gathering.specs.declared.client.Client.{Client}
+use Rattle.gathering.specs.declared.room.Room.{Room}
+use Rattle.hall.specs.Guests.{AreIn, Guest, WentSoWithAll}
+use Rattle.hall.specs.Visits.{IsKeptOf, ServesVisit, Visit}
+
+-- no more clients are in a room than may be, and no more bytes are held of them
+abbrev pub IsWithin : {L : Type 0} → Room L → Type 0
+IsWithin room = (length room.clients.items ≤ most_clients) × (bytes_held room.clients.items ≤ most_bytes)
+
+-- one who was in at a place is let go: he had waited longest, and so long at least
+pub record IsLetGo {L : Type 0} (least now : ℕ) (old : List (Client L)) (place : ℕ) (new : List (Client L)) : Type 0 where
+  pub within : place < length old
+  pub longest : (client : Client L) → IsLongest old (slice_index_or old place client)
+  pub patient : (client : Client L) → least ≤ now - (slice_index_or old place client).since
+  pub left : new ≡ remove old place
+
+-- some of those who were in are let go, one after the other
+abbrev pub AreLetGo : {L : Type 0} → ℕ → ℕ → Room L → Room L → Type 0
+AreLetGo least now old new = (new.came ≡ old.came) × ((places : List ℕ) × FoldsTo (IsLetGo least now) old.clients.items places new.clients.items)
+
+-- lines that came in grow by these
+abbrev pub LetsInMore : {L : Type 0} → Option (List L) → Option (List L) → List L → Type 0
+LetsInMore old new lines = new ≡ option_map (λ before. before ++ lines) old
+
+-- From one moment of a room to another: more came in, each with the next number, these visits were had, and whoever was in is still who he was, or has left.
+pub record GoesOn {L : Type 0} (given : Option (List ℕ)) (line : Line L) (visits : List Visit) (let_in let_in_later : Option (List L)) (old new : Room L) : Type 0 where
+  pub lines : List L
+  pub told : LetsInMore let_in let_in_later lines
+  pub own : (guests : List (Guest L)) (earlier : List Visit) → AreIn given line guests earlier old.came old.clients.items
+      → (all : List (Guest L)) × (map (λ guest. guest.came) all ≡ map (λ guest. guest.came) guests ++ lines) × AreIn given line all (earlier ++ visits) new.came new.clients.items
+
+-- the same while an office serves the visits
+pub record GoesOnServing {L S : Type 0} (given : Option (List ℕ)) (line : Line L) (state_of : Held S → State) (let_in let_in_later : Option (List L)) (old new : Room L) (before later : OfficeValue S) : Type 0 where
+  pub visits : List Visit
+  pub each : FoldsTo (ServesVisit given state_of) before visits later
+  pub goes_on : GoesOn given line visits let_in let_in_later old new
+
+-- Clients came to the doors of an office, no more than were to come, and at an end without a failure just so many. It went with each as it should. Their visits
+-- were served one after the other, each by the office that those before it left, and this is kept of them.
+pub record ServesHall {L S : Type 0} (given : Option (List ℕ)) (line : Line L) (state_of : Held S → State) (let_in let_in_later : Option (List L)) (most : Option ℕ)
+    (old new : OfficeValue S) (result : Result (Unit {0}) Broken) : Type 0 where
+  pub guests : List (Guest L)
+  pub visits : List Visit
+  pub came : LetsInMore let_in let_in_later (map (λ guest. guest.came) guests)
+  pub few : IfSome most (λ n. length guests ≤ n)
+  pub all : OnOk result (IfSome most (λ n. length guests ≡ n))
+  pub went : WentSoWithAll given line guests visits
+  pub each : FoldsTo (ServesVisit given state_of) old visits new
+  pub keeps : HasCleanDisk (state_of new.held) → old.closed ≡ false → (earlier : List Request) → IsAt (after empty_office earlier) (state_of old.held)
+      → IsKeptOf given earlier visits new.closed (state_of new.held)

@@ -1,0 +1,4 @@
+pub mod Visits
+pub mod Turns
+pub mod Guests
+pub mod Halls

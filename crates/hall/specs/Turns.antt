@@ -1,0 +1,37 @@
+-- A client who goes on, and the turn that he has in it.
+use Rattle.std.specs.Prelude.{◌≡◌, ◌⊎◌, List, None, Option, Some, option_map, ℕ}
+use Rattle.std.specs.Io.KnownBytes.{IsAtEnd}
+use Rattle.sqlite.specs.Held.{Held}
+use Rattle.sqlite.specs.State.{State}
+use Rattle.office.specs.Values.{OfficeValue}
+use Rattle.gathering.specs.Lines.{Gathers, Line}
+use Rattle.gathering.specs.declared.client.Client.{Client}
+use Rattle.wire.specs.Lacking.{IsWhole}
+use Rattle.hall.specs.Visits.{ServesVisit, Visit}
+
+-- what a client asks has come to its end: the bytes that were gathered ask it, whatever follows them, or he sends no more
+abbrev pub HasCome : Option (List ℕ) → Option (List ℕ) → List ℕ → Type 0
+HasCome given held got = IsWhole given got ⊎ IsAtEnd held
+
+-- the answer that a client has, if he has one
+abbrev pub answer_of : {L : Type 0} → Client L → Option (List ℕ)
+answer_of client = option_map (λ answer. answer.bytes.items) client.answer
+
+-- Nothing but what is gathered of a client and the answer that he has changes: he stays who he is.
+abbrev pub IsSameClient : {L : Type 0} → Client L → Client L → Type 0
+IsSameClient old new = (new.number ≡ old.number) × (new.since ≡ old.since)
+
+-- A client had his turn as he went on: his own bytes were gathered to their end, just these were served, and that answer is now his.
+pub record HasTurn {L S : Type 0} (given : Option (List ℕ)) (line : Line L) (state_of : Held S → State) (old new : Client L) (before later : OfficeValue S) : Type 0 where
+  pub visit : Visit
+  pub number : visit.number ≡ old.number
+  pub unanswered : old.answer ≡ None
+  pub heard : L
+  pub own : Gathers line old.line heard old.got.items visit.got
+  pub come : HasCome given (line.held heard) visit.got
+  pub served : ServesVisit given state_of before visit later
+  pub his : answer_of new ≡ Some visit.answer
+
+-- he had his turn; or the office is as it was, and he has the answer that he had, or none as before
+abbrev pub MayHaveTurn : {L S : Type 0} → Option (List ℕ) → Line L → (Held S → State) → Client L → Client L → OfficeValue S → OfficeValue S → Type 0
+MayHaveTurn given line state_of old new before later = HasTurn given line state_of old new before later ⊎ ((later ≡ before) × (answer_of new ≡ answer_of old))

@@ -1,0 +1,247 @@
+//! An office that serves: clients come in, go on side by side, and have their turns one after the other.
+
+ghost use Rattle.std.specs.Prelude.{◌≡◌, ◌≤◌, ◌+◌, ◌-◌, ◌^◌, ◌<◌, ℕ, [], IfSome, List, None, Ok, OnOk, Option, length, true};
+ghost use Rattle.sqlite.specs.State.{HasCleanDisk};
+ghost use Rattle.sqlite.specs.Held.{state};
+ghost use Rattle.gathering.specs.Lines.{line_of};
+ghost use Rattle.gathering.specs.Clients.{IsOf};
+ghost use Rattle.wire.specs.Origins.{given_by};
+ghost use Rattle.hall.specs.Turns.{MayHaveTurn};
+ghost use Rattle.hall.specs.Halls.{GoesOn, GoesOnServing, IsWithin, ServesHall};
+
+use crate::attending::{Attended, attend};
+use crate::leaving::{PATIENCE, keep_within, let_go_late, make_room};
+use gathering::room::{longest, place_of};
+use gathering::{Admitted, Client, Doors, Line, Room};
+use office::Office;
+use sqlite::Alter;
+use std::alloc::Global;
+use std::time::{Clock, Duration};
+use votes::Broken;
+use wire::Origin;
+
+/// How long the next look at those who wait may be put off, while somebody waits whom no event may tell of.
+const LOOK: u64 = 1_000;
+
+/// The most who come in before those who are in go on.
+const COMERS: usize = 64;
+
+/// The time of a clock in milliseconds.
+fn moment<C: Clock>(clock: &C) -> Result<u64, Broken> {
+    match clock.monotonic() {
+        Ok(since) => Ok(u64::try_from(since.as_millis()).unwrap_or(u64::MAX)),
+        Err(_) => Err(Broken),
+    }
+}
+
+/// One client goes on; whether he stays in. His half minute begins anew once he has his answer: however long his turn took, he
+/// has all of it.
+fn go_on<L: Line, C: Clock, S: Alter>(
+    alloc: Global,
+    clock: &C,
+    origin: Option<Origin<'_>>,
+    client: &mut Client<L>,
+    office: &mut Office<S>,
+) -> Result<bool, Broken>
+    ensures is { (start : L) → IsOf (line_of L.held L.taken) start client.old → IsOf (line_of L.held L.taken) start client.new }
+    ensures number { client.new.number ≡ client.old.number }
+    ensures turn { MayHaveTurn (given_by origin.entry) (line_of L.held L.taken) (state S.Store) client.old client.new office.old office.new }
+{
+    match attend(alloc, origin, client, office) {
+        Attended::Waits => Ok(true),
+        Attended::Served => {
+            client.since = moment(clock)?;
+            Ok(true)
+        }
+        Attended::Done => Ok(false),
+        Attended::Lost => Ok(false),
+    }
+}
+
+/// The client at a place goes on. Where he is done, or lost, he leaves.
+fn go_on_at<L: Line + Drop, C: Clock, S: Alter>(
+    alloc: Global,
+    clock: &C,
+    origin: Option<Origin<'_>>,
+    room: &mut Room<L>,
+    place: usize,
+    office: &mut Office<S>,
+) -> Result<(), Broken>
+    requires { place < length room.old.clients.items }
+    ensures goes_on { (let_in : Option (List L)) → GoesOnServing (given_by origin.entry) (line_of L.held L.taken) (state S.Store) let_in let_in room.old room.new office.old office.new }
+    ensures came { room.new.came ≡ room.old.came }
+    ensures within { IsWithin room.old → OnOk result (IsWithin room.new) }
+{
+    if go_on(alloc, clock, origin, &mut room.clients[place], office)? {
+        keep_within(room);
+        return Ok(());
+    }
+    drop(room.clients.remove(place));
+    Ok(())
+}
+
+/// The client with a number goes on, if he is in.
+fn go_on_numbered<L: Line + Drop, C: Clock, S: Alter>(
+    alloc: Global,
+    clock: &C,
+    origin: Option<Origin<'_>>,
+    room: &mut Room<L>,
+    number: u64,
+    office: &mut Office<S>,
+) -> Result<(), Broken>
+    ensures goes_on { (let_in : Option (List L)) → GoesOnServing (given_by origin.entry) (line_of L.held L.taken) (state S.Store) let_in let_in room.old room.new office.old office.new }
+    ensures came { room.new.came ≡ room.old.came }
+    ensures within { IsWithin room.old → OnOk result (IsWithin room.new) }
+{
+    match place_of(room.clients.as_slice(), number) {
+        Some(place) => go_on_at(alloc, clock, origin, room, place, office),
+        None => Ok(()),
+    }
+}
+
+/// Each who may go on goes on, in the order in which that is told.
+fn go_on_all<D: Doors, C: Clock, S: Alter>(
+    alloc: Global,
+    clock: &C,
+    doors: &mut D,
+    origin: Option<Origin<'_>>,
+    room: &mut Room<D::Line>,
+    office: &mut Office<S>,
+) -> Result<(), Broken>
+    ensures goes_on { GoesOnServing (given_by origin.entry) (line_of D.Line.held D.Line.taken) (state S.Store) (D.came doors.old) (D.came doors.new) room.old room.new office.old office.new }
+    ensures came { room.new.came ≡ room.old.came }
+    ensures within { IsWithin room.old → OnOk result (IsWithin room.new) }
+{
+    for _ in 0..u64::MAX {
+        let Some(number) = doors.next_ready() else {
+            return Ok(());
+        };
+        go_on_numbered(alloc, clock, origin, room, number, office)?;
+    }
+    Ok(())
+}
+
+/// Lets in the next who waits at the doors, as far as so many may come and there is room, or room is made. Where nobody came
+/// in, how long the next look at the doors may be put off, in milliseconds.
+fn let_one_in<D: Doors>(
+    alloc: Global,
+    doors: &mut D,
+    room: &mut Room<D::Line>,
+    most: u64,
+    now: u64,
+) -> Option<u64>
+    ensures goes_on { (given : Option (List ℕ)) → GoesOn given (line_of D.Line.held D.Line.taken) [] (D.came doors.old) (D.came doors.new) room.old room.new }
+    ensures few { room.old.came ≤ most → room.new.came ≤ most }
+    ensures within { IsWithin room.old → IsWithin room.new }
+{
+    if room.came >= most || !doors.is_waited_at() {
+        return Some(PATIENCE);
+    }
+    if !make_room(room, now) {
+        return Some(LOOK);
+    }
+    match doors.admit(room.came) {
+        Admitted::One(line) => {
+            room.enter(alloc, line, now);
+            None
+        }
+        Admitted::Nobody => Some(PATIENCE),
+        Admitted::NotNow => Some(LOOK),
+    }
+}
+
+/// Lets in those who wait at the doors, as far as may be, and says how long the next look at the doors may be put off, in
+/// milliseconds.
+fn let_in<D: Doors>(
+    alloc: Global,
+    doors: &mut D,
+    room: &mut Room<D::Line>,
+    most: u64,
+    now: u64,
+) -> u64
+    ensures goes_on { (given : Option (List ℕ)) → GoesOn given (line_of D.Line.held D.Line.taken) [] (D.came doors.old) (D.came doors.new) room.old room.new }
+    ensures few { room.old.came ≤ most → room.new.came ≤ most }
+    ensures within { IsWithin room.old → IsWithin room.new }
+{
+    for _ in 0..COMERS {
+        if let Some(look) = let_one_in(alloc, doors, room, most, now) {
+            return look;
+        }
+    }
+    0
+}
+
+/// How long the next look may be put off: so long, and until the first half minute is over.
+fn pause<L>(room: &Room<L>, most: u64, now: u64) -> Duration {
+    match longest(room.clients.as_slice()) {
+        Some(place) => {
+            let waited = now.saturating_sub(room.clients[place].since);
+            Duration::from_millis(most.min(PATIENCE.saturating_sub(waited)))
+        }
+        None => Duration::from_millis(most),
+    }
+}
+
+/// Those who are in go on, those whose time is over are let go, more come in, and it waits until somebody may go on; whether
+/// all have come who were to come, and all of them left.
+fn go_round<D: Doors, C: Clock, S: Alter>(
+    alloc: Global,
+    clock: &C,
+    doors: &mut D,
+    origin: Option<Origin<'_>>,
+    most: u64,
+    room: &mut Room<D::Line>,
+    office: &mut Office<S>,
+) -> Result<bool, Broken>
+    ensures goes_on { GoesOnServing (given_by origin.entry) (line_of D.Line.held D.Line.taken) (state S.Store) (D.came doors.old) (D.came doors.new) room.old room.new office.old office.new }
+    ensures few { room.old.came ≤ most → room.new.came ≤ most }
+    ensures within { IsWithin room.old → OnOk result (IsWithin room.new) }
+    ensures all { result ≡ Ok true → (most ≤ room.new.came) × (room.new.clients.items ≡ []) }
+{
+    go_on_all(alloc, clock, doors, origin, room, office)?;
+    let now = moment(clock)?;
+    let_go_late(room, now);
+    let look = let_in(alloc, doors, room, most, now);
+    if room.came >= most && room.clients.is_empty() {
+        return Ok(true);
+    }
+    doors.wait(pause(room, look, now))?;
+    Ok(false)
+}
+
+/// Serves those who come to the doors of an office, and pages of an origin through a proxy, if one is given: until so many
+/// clients came in and all of them left, or without end, where no number is given.
+///
+/// Clients are heard side by side, and so they are told their answers. Each has his turn once what he asks has come to its
+/// end, and is served whole in it. At most 512 are in at once, with 64 MiB of what they sent and are to take. Past that the
+/// next waits at the doors, and who has waited longest is let go for him, if that is a second at least. One has half a minute
+/// for what he asks, and half a minute more to take his answer. Who is let go gets no answer. Who can't be let in now is
+/// let in later.
+///
+/// What is gathered of a client are his own bytes, from the first one on, and what he is told is the answer to just these.
+/// Nothing changes an open office but clerks' keyings, at most one a client: whatever a stop leaves is the state after those
+/// that were answered, and at most one more. Each client is told what the office's machine says where his turn comes. A
+/// closed office stays as it is.
+///
+/// `Broken` where the doors or the clock fail; what was answered before stands.
+pub fn serve_hall<D: Doors, C: Clock, S: Alter>(
+    alloc: Global,
+    clock: &C,
+    doors: &mut D,
+    origin: Option<Origin<'_>>,
+    connections: Option<u64>,
+    office: &mut Office<S>,
+) -> Result<(), Broken>
+    ensures served { ServesHall (given_by origin.entry) (line_of D.Line.held D.Line.taken) (state S.Store) (D.came doors.old) (D.came doors.new) connections office.old office.new result }
+    ensures closed { office.old.closed ≡ true → office.new ≡ office.old }
+    ensures clean { HasCleanDisk (state S.Store office.new.held) → HasCleanDisk (state S.Store office.old.held) }
+{
+    let most = connections.unwrap_or(u64::MAX);
+    let mut room = Room::new(alloc);
+    for _ in 0..u64::MAX {
+        if go_round(alloc, clock, doors, origin, most, &mut room, office)? {
+            return Ok(());
+        }
+    }
+    Err(Broken)
+}
