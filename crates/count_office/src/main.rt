@@ -29,22 +29,25 @@ mod traces;
 use desk::perform::perform;
 use desk::{
     CopyState, Failure, Folder, Order, Progress, Task, WordsFault, copy_office, journal_office,
-    order, serve_on, tell_failure, tell_words,
+    order, tell_failure, tell_words,
 };
 use fresh::Fresh;
+use hall::serve_hall;
+use mio::net::TcpListener;
 use office::Office;
+use sockets::Watch;
 use sqlite::{Alter, Connection, ErrorCode, FileStore, Files, Wary};
 use sqlite_disk::Disk;
 use std::alloc::Global;
 use std::fs::File;
 use std::io::{ErrorKind, IsTerminal};
-use std::net::{Ipv4Addr, TcpListener};
+use std::net::{Ipv4Addr, SocketAddr};
 use std::process::ExitCode;
 use std::{env, io};
 use store::Fault;
 use store::fault::fault_of;
 use traces::{Found, Site};
-use votes::{Counted, Sink};
+use votes::{Broken, Counted, Sink};
 use wire::Origin;
 
 /// The files of this machine.
@@ -129,19 +132,45 @@ fn perform_on<S: Alter, O: Sink, E: Sink>(
     }
 }
 
-/// Listens on a port of this machine.
-fn listen(rt: &HostRuntime, port: u32) -> Option<TcpListener> {
-    let port = u16::try_from(port).ok()?;
-    TcpListener::bind(rt, (Ipv4Addr::LOCALHOST, port)).ok()
+/// Listens on a port of this machine: the doors to which clients come.
+fn listen(rt: &HostRuntime, port: u32) -> io::Result<Watch> {
+    let Ok(port) = u16::try_from(port) else {
+        return Err(io::Error::from(ErrorKind::InvalidInput));
+    };
+    let address = SocketAddr::from((Ipv4Addr::LOCALHOST, port));
+    let listener = TcpListener::bind(rt, address)?;
+    Watch::new(rt, rt.alloc(), listener)
 }
 
-/// Answers so many connections on a port of this machine, over an opened connection to the database, and pages of an
-/// origin through a proxy, if one is given.
+/// Answers connections on a port of this machine, over an open office.
+fn serve_in<S: Alter>(
+    rt: &HostRuntime,
+    office: &mut Office<S>,
+    port: u32,
+    connections: Option<u32>,
+    origin: Option<Origin<'_>>,
+) -> Result<(), Failure> {
+    let mut doors = match listen(rt, port) {
+        Ok(doors) => doors,
+        Err(error) if error.kind() == ErrorKind::OutOfMemory => {
+            return Err(Failure::Office(Fault::Memory));
+        }
+        Err(_) => return Err(Failure::Output),
+    };
+    let most = connections.map(u64::from);
+    match serve_hall(rt.alloc(), rt, &mut doors, origin, most, office) {
+        Ok(()) => Ok(()),
+        Err(Broken) => Err(Failure::Output),
+    }
+}
+
+/// Opens the office that a connection has, and answers so many connections on a port of this machine, or without end; and
+/// pages of an origin through a proxy, if one is given.
 fn serve<S: Alter, E: Sink>(
     rt: &HostRuntime,
     conn: Connection<S>,
     port: u32,
-    connections: u32,
+    connections: Option<u32>,
     origin: Option<Origin<'_>>,
     err: &mut E,
 ) -> (u8, Connection<S>)
@@ -151,11 +180,7 @@ fn serve<S: Alter, E: Sink>(
         Ok(office) => office,
         Err((fault, conn)) => return (tell_failure(Failure::Office(fault), err), conn),
     };
-    let served = match listen(rt, port) {
-        Some(listener) => serve_on(rt.alloc(), rt, &listener, connections, origin, &mut office),
-        None => Err(Failure::Output),
-    };
-    let status = match served {
+    let status = match serve_in(rt, &mut office, port, connections, origin) {
         Ok(()) => 0,
         Err(failure) => tell_failure(failure, err),
     };

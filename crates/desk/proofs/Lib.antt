@@ -12,7 +12,6 @@ pub mod ScriptLemmas
 pub mod ScriptEnds
 pub mod CopyingLemmas
 pub mod JournalLemmas
-pub mod ServedLemmas
 pub mod WordsRefused
 pub mod FaultsRead
 pub mod PaperLemmas

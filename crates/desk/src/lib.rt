@@ -3,9 +3,9 @@
 //! [`order`](words) reads the words to an [`Order`](orders), and [`perform`](perform) does its task over an
 //! opened connection, to any store of `sqlite`, and prints its lines. A file that it names, or that a script
 //! names, is opened by a [`Folder`](folders). Words that are no order, and other failures, are told by
-//! [`lines`](lines). An order to serve is followed by [`serve_on`](serving), over an opened office; one to copy by
-//! [`copy_office`](copying), and one for the journal by [`journal_office`](journalling), over two connections.
-//! Which files, outputs and sockets these are, the program says.
+//! [`lines`](lines). An order to copy is followed by [`copy_office`](copying), and one for the journal by
+//! [`journal_office`](journalling), over two connections; one to serve by the crate `hall`. Which files, outputs and
+//! sockets these are, the program says.
 //!
 //! ```text
 //! match order(alloc, words) {
@@ -39,13 +39,11 @@ pub mod lines;
 mod names;
 mod overviews;
 mod papers;
-pub mod patience;
 pub mod perform;
 mod printing;
 pub mod progress;
 mod replaying;
 mod sending;
-pub mod serving;
 mod standing;
 mod steps;
 
@@ -55,5 +53,4 @@ pub use journalling::journal_office;
 pub use lines::{Failure, tell_failure, tell_words};
 pub use orders::{Errand, Job, KeyingFile, Order, Question, Task};
 pub use progress::Progress;
-pub use serving::serve_on;
 pub use words::{WordsFault, order};

@@ -40,10 +40,10 @@ mod older;
 #[cfg(test)]
 mod outputs;
 #[cfg(test)]
+mod ports;
+#[cfg(test)]
 mod progress;
 #[cfg(test)]
 mod replays;
-#[cfg(test)]
-mod sockets;
 #[cfg(test)]
 mod stops;
