@@ -5,11 +5,11 @@ use Rattle.std.proofs.lemmas.List.{get_or-set_same, length_push}
 use Rattle.std.proofs.lemmas.List.Edits.{length-remove}
 use Rattle.std.proofs.lemmas.List.Sums.{sum_by-remove, sum_by-set, sum_by_push}
 use Rattle.gathering.specs.Clients.{IsNew}
-use Rattle.gathering.specs.Rooms.{answer_bytes, bytes_held, bytes_of, most_bytes, most_clients}
+use Rattle.gathering.specs.Rooms.{answer_bytes, bytes_held, bytes_of}
 use Rattle.gathering.specs.declared.client.Answer.{Answer}
 use Rattle.gathering.specs.declared.client.Client.{Client}
 use Rattle.gathering.specs.declared.room.Room.{Room}
-use Rattle.hall.specs.Halls.{AreLetGo, IsLetGo, IsWithin}
+use Rattle.hall.specs.Halls.{AreLetGo, IsLetGo, IsWithin, most_bytes, most_clients}
 
 module _ {L : Type 0} where
   -- so many clients, and so many bytes of them, at most

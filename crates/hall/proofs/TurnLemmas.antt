@@ -14,6 +14,8 @@ use Rattle.gathering.specs.Clients.{IsHeard, IsOf, IsServedSo, IsTold}
 use Rattle.gathering.specs.declared.client.Answer.{Answer}
 use Rattle.gathering.specs.declared.client.Client.{Client}
 use Rattle.gathering.proofs.LineLemmas.{heard_more, told_more, told_none}
+use Rattle.wire.specs.Lacking.{IsLackOf, IsWhole}
+use Rattle.wire.specs.declared.lack.Lacks.TheVariants.{Nothing}
 use Rattle.hall.specs.Turns.{HasCome, IsSameClient, MayHaveTurn, answer_of}
 use Rattle.hall.specs.Visits.{EndsSo, ServesVisit, Visit}
 
@@ -25,6 +27,10 @@ none_from (Some x) is = absurd (cc is)
 pub same_answer : (old new : Answer) (before : Option Answer) → before ≡ Some old → new.bytes.items ≡ old.bytes.items
     → option_map (λ (a : Answer). a.bytes.items) (Some new) ≡ option_map (λ (a : Answer). a.bytes.items) before
 same_answer old new before is same = ap Some same ∙ sym (ap (option_map (λ (a : Answer). a.bytes.items)) is)
+
+-- bytes that lack nothing have come to their end
+pub lacks_nothing : (given held : Option (List ℕ)) (seen got : List ℕ) (lacking : _) → seen ≡ got → lacking ≡ Nothing → IsLackOf given seen lacking → HasCome given held got
+lacks_nothing given held seen got lacking same nothing it = inl (subst (λ (bytes : List ℕ). IsWhole given bytes) same (subst (λ l. IsLackOf given seen l) nothing it))
 
 -- neither of two has an answer
 pub no_answer : {L : Type 0} (old new : Client L) → old.answer ≡ None → new.answer ≡ None → answer_of new ≡ answer_of old

@@ -10,11 +10,19 @@ use Rattle.store.specs.Offices.{IsAt}
 use Rattle.office.specs.Values.{OfficeValue}
 use Rattle.votes.specs.declared.streams.Broken.{Broken}
 use Rattle.gathering.specs.Lines.{Line}
-use Rattle.gathering.specs.Rooms.{IsLongest, bytes_held, most_bytes, most_clients}
+use Rattle.gathering.specs.Rooms.{IsLongest, bytes_held}
 use Rattle.gathering.specs.declared.client.Client.{Client}
 use Rattle.gathering.specs.declared.room.Room.{Room}
 use Rattle.hall.specs.Guests.{AreIn, Guest, WentSoWithAll}
 use Rattle.hall.specs.Visits.{IsKeptOf, ServesVisit, Visit}
+
+-- the most clients who are in a room at once
+abbrev pub most_clients : ℕ
+most_clients = 512
+
+-- the most bytes that are held of all of them: 64 MiB
+abbrev pub most_bytes : ℕ
+most_bytes = 67108864
 
 -- no more clients are in a room than may be, and no more bytes are held of them
 abbrev pub IsWithin : {L : Type 0} → Room L → Type 0
