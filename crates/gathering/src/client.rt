@@ -1,6 +1,6 @@
 //! A client who was let in.
 
-ghost use Rattle.std.specs.Prelude.{◌≡◌, ℕ, ◌<◌, ◌≤◌, [], None, Ok, true, false, length};
+ghost use Rattle.std.specs.Prelude.{◌≡◌, ℕ, ◌<◌, ◌≤◌, ◌+◌, [], None, Ok, true, false, length, max};
 ghost use Rattle.std.specs.Io.KnownBytes.{IsAtEnd};
 ghost use Rattle.gathering.specs.Lines.{Delivers, Gathers, HasTaken, line_of};
 ghost use Rattle.gathering.specs.Clients.{IsNew, IsOf};
@@ -74,6 +74,7 @@ fn gather_once<L: Line>(line: &mut L, got: &mut Vec<u8>) -> Result<Came, Lost>
     ensures more { result ≡ Ok Came.Nothing → got.new.items ≡ got.old.items }
     ensures bytes { (n : ℕ) → result ≡ Ok (Came.Bytes n) → length got.old.items < length got.new.items }
     ensures end { result ≡ Ok Came.End → IsAtEnd (L.held line.new) }
+    ensures few { length got.new.items ≤ length got.old.items + CHUNK }
 {
     got.reserve(CHUNK)?;
     let mut room = [0; CHUNK];
@@ -87,12 +88,14 @@ fn gather_once<L: Line>(line: &mut L, got: &mut Vec<u8>) -> Result<Came, Lost>
     }
 }
 
-/// Gathers what has come of a line, until so many bytes are there in all, or more, or no more has come.
+/// Gathers what has come of a line, until so many bytes are there in all, or no more has come. Fewer than `CHUNK` may be there
+/// beyond them, since whoever sends on and on is to hold up nobody.
 fn gather<L: Line>(line: &mut L, got: &mut Vec<u8>, wanted: usize) -> Result<Heard, Lost>
     ensures gathers { Gathers (line_of L.held L.taken) line.old line.new got.old.items got.new.items }
     ensures enough { result ≡ Ok Heard.Enough → wanted ≤ length got.new.items }
     ensures waits { result ≡ Ok Heard.Waits → length got.new.items < wanted }
     ensures ended { result ≡ Ok Heard.Ended → IsAtEnd (L.held line.new) }
+    ensures few { length got.new.items < max (length got.old.items + 1) (wanted + CHUNK) }
 {
     while got.len() < wanted {
         match gather_once(line, got)? {
@@ -136,7 +139,8 @@ impl<L: Line> Client<L> {
         }
     }
 
-    /// Gathers more of him, who has no answer yet.
+    /// Gathers more of him, who has no answer yet, until so many bytes are there in all, or no more has come. Fewer than 16,384
+    /// may be there beyond them.
     pub fn hear(&mut self, wanted: usize) -> Result<Heard, Lost>
         requires { self.old.answer ≡ None }
         ensures gathers { Gathers (line_of L.held L.taken) self.old.line self.new.line self.old.got.items self.new.got.items }
@@ -145,6 +149,7 @@ impl<L: Line> Client<L> {
         ensures enough { result ≡ Ok Heard.Enough → wanted ≤ length self.new.got.items }
         ensures waits { result ≡ Ok Heard.Waits → length self.new.got.items < wanted }
         ensures ended { result ≡ Ok Heard.Ended → IsAtEnd (L.held self.new.line) }
+        ensures few { length self.new.got.items < max (length self.old.got.items + 1) (wanted + CHUNK) }
     {
         gather(&mut self.line, &mut self.got, wanted)
     }
