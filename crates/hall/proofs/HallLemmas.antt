@@ -1,5 +1,5 @@
 -- From one moment of a hall to another.
-use Rattle.std.proofs.Common.{◌≡◌, ◌≤◌, ◌<◌, ◌+◌, ◌-◌, ◌^◌, ◌∙◌, ◌⊎◌, ◌∷◌, ◌++◌, ℕ, Bool, false, true, List, [], None, Option, Some, All, ap, append-nil, append_assoc, arith, get_or, inl, inr, length, map, option_map, refl, remove, set, subst, sym}
+use Rattle.std.proofs.Common.{◌≡◌, ◌≤◌, ◌<◌, ◌+◌, ◌-◌, ◌^◌, ◌∙◌, ◌⊎◌, ◌∷◌, ◌++◌, ℕ, true, List, [], None, Option, Some, ap, append-nil, append_assoc, arith, get_or, inl, inr, length, map, option_map, refl, remove, set, subst, sym}
 use Rattle.std.specs.Prelude.{Err, IfSome, Ok, OnOk, Result, unwrap_or}
 use Rattle.std.specs.Result.{IsErr}
 use Rattle.std.specs.List.{FoldsTo}
@@ -11,11 +11,9 @@ use Rattle.sqlite.specs.State.{HasCleanDisk, State}
 use Rattle.office.specs.Values.{OfficeValue}
 use Rattle.votes.specs.declared.streams.Broken.{Broken}
 use Rattle.gathering.specs.Lines.{HasTaken, Line}
-use Rattle.gathering.specs.Clients.{IsHeard, IsNew, IsOf}
-use Rattle.gathering.specs.Rooms.{LetsIn}
+use Rattle.gathering.specs.Clients.{IsNew, IsOf}
 use Rattle.gathering.specs.declared.client.Answer.{Answer}
 use Rattle.gathering.specs.declared.client.Client.{Client}
-use Rattle.gathering.specs.declared.doors.Admitted.{Admitted}
 use Rattle.gathering.specs.declared.room.Room.{Room}
 use Rattle.gathering.proofs.LineLemmas.{heard_more}
 use Rattle.hall.specs.Guests.{AreIn, Guest, HadFor, IsGathered, Stands, WentSo, visits_of}

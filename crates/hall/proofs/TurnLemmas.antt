@@ -1,5 +1,5 @@
 -- A client who goes on, part by part.
-use Rattle.std.proofs.Common.{◌≡◌, ◌∙◌, ℕ, List, [], Bool, false, true, None, Option, Some, ap, inl, inr, is_some, option_map, refl, subst, sym}
+use Rattle.std.proofs.Common.{◌≡◌, ◌∙◌, ℕ, List, [], false, true, None, Option, Some, ap, inl, is_some, option_map, refl, subst, sym}
 use Rattle.sqlite.specs.Held.{Held}
 use Rattle.sqlite.specs.State.{HasCleanDisk, State}
 use Rattle.register.specs.Offices.{OfficeState}
@@ -16,7 +16,7 @@ use Rattle.gathering.specs.declared.client.Client.{Client}
 use Rattle.gathering.proofs.LineLemmas.{heard_more, told_more, told_none}
 use Rattle.wire.specs.Lacking.{IsLackOf, IsWhole}
 use Rattle.wire.specs.declared.lack.Lacks.TheVariants.{Nothing}
-use Rattle.hall.specs.Turns.{HasCome, IsSameClient, MayHaveTurn, answer_of}
+use Rattle.hall.specs.Turns.{HasCome, MayHaveTurn, answer_of}
 use Rattle.hall.specs.Visits.{EndsSo, ServesVisit, Visit}
 
 pub none_from : {X : Type 0} (found : Option X) → is_some found ≡ false → found ≡ None

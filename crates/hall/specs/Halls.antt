@@ -1,5 +1,5 @@
 -- A hall in which clients are served: who comes in, who is let go, and what is promised of all of them.
-use Rattle.std.specs.Prelude.{◌≡◌, ◌≤◌, ◌<◌, ◌+◌, ◌-◌, false, List, ◌++◌, IfSome, OnOk, Option, Result, length, map, option_map, slice_index_or, ℕ}
+use Rattle.std.specs.Prelude.{◌≡◌, ◌≤◌, ◌<◌, ◌-◌, false, List, ◌++◌, IfSome, OnOk, Option, Result, length, map, option_map, slice_index_or, ℕ}
 use Rattle.std.specs.List.{FoldsTo, remove}
 use Rattle.sqlite.specs.Held.{Held}
 use Rattle.sqlite.specs.State.{HasCleanDisk, State}
@@ -39,7 +39,7 @@ pub record IsLetGo {L : Type 0} (least now : ℕ) (old : List (Client L)) (place
 abbrev pub AreLetGo : {L : Type 0} → ℕ → ℕ → Room L → Room L → Type 0
 AreLetGo least now old new = (new.came ≡ old.came) × ((places : List ℕ) × FoldsTo (IsLetGo least now) old.clients.items places new.clients.items)
 
--- lines that came in grow by these
+-- the lines that came in grow by these
 abbrev pub LetsInMore : {L : Type 0} → Option (List L) → Option (List L) → List L → Type 0
 LetsInMore old new lines = new ≡ option_map (λ before. before ++ lines) old
 
@@ -51,7 +51,8 @@ pub record GoesOn {L : Type 0} (given : Option (List ℕ)) (line : Line L) (visi
       → (all : List (Guest L)) × (map (λ guest. guest.came) all ≡ map (λ guest. guest.came) guests ++ lines) × AreIn given line all (earlier ++ visits) new.came new.clients.items
 
 -- the same while an office serves the visits
-pub record GoesOnServing {L S : Type 0} (given : Option (List ℕ)) (line : Line L) (state_of : Held S → State) (let_in let_in_later : Option (List L)) (old new : Room L) (before later : OfficeValue S) : Type 0 where
+pub record GoesOnServing {L S : Type 0} (given : Option (List ℕ)) (line : Line L) (state_of : Held S → State) (let_in let_in_later : Option (List L))
+    (old new : Room L) (before later : OfficeValue S) : Type 0 where
   pub visits : List Visit
   pub each : FoldsTo (ServesVisit given state_of) before visits later
   pub goes_on : GoesOn given line visits let_in let_in_later old new

@@ -1,5 +1,5 @@
 -- A client who goes on, and the turn that he has in it.
-use Rattle.std.specs.Prelude.{◌≡◌, ◌⊎◌, List, None, Option, Some, option_map, ℕ}
+use Rattle.std.specs.Prelude.{◌≡◌, ◌≤◌, ◌⊎◌, IsSomeAnd, List, None, Option, Some, length, option_map, ℕ}
 use Rattle.std.specs.Io.KnownBytes.{IsAtEnd}
 use Rattle.sqlite.specs.Held.{Held}
 use Rattle.sqlite.specs.State.{State}
@@ -17,7 +17,11 @@ HasCome given held got = IsWhole given got ⊎ IsAtEnd held
 abbrev pub answer_of : {L : Type 0} → Client L → Option (List ℕ)
 answer_of client = option_map (λ answer. answer.bytes.items) client.answer
 
--- Nothing but what is gathered of a client and the answer that he has changes: he stays who he is.
+-- a client has his answer, and was told all of it
+abbrev pub IsToldAll : {L : Type 0} → Client L → Type 0
+IsToldAll client = IsSomeAnd client.answer (λ answer. length answer.bytes.items ≤ answer.sent)
+
+-- He is who he was, and his half minute is the same.
 abbrev pub IsSameClient : {L : Type 0} → Client L → Client L → Type 0
 IsSameClient old new = (new.number ≡ old.number) × (new.since ≡ old.since)
 

@@ -6,7 +6,7 @@ ghost use Rattle.sqlite.specs.Held.{state};
 ghost use Rattle.gathering.specs.Lines.{Gathers, line_of};
 ghost use Rattle.gathering.specs.Clients.{IsHeard, IsOf};
 ghost use Rattle.wire.specs.Origins.{given_by};
-ghost use Rattle.hall.specs.Turns.{HasCome, IsSameClient, MayHaveTurn, answer_of};
+ghost use Rattle.hall.specs.Turns.{HasCome, IsSameClient, IsToldAll, MayHaveTurn, answer_of};
 ghost use Rattle.hall.specs.Visits.{ServesVisit, Visit};
 
 use gathering::{Answer, Client, Gathered, Heard, Line, Lost, Writing, deliver};
@@ -100,6 +100,7 @@ fn tell_more<L: Line>(client: &mut Client<L>) -> Attended
     ensures is { (start : L) → IsOf (line_of L.held L.taken) start client.old → IsOf (line_of L.held L.taken) start client.new }
     ensures same { IsSameClient client.old client.new }
     ensures his { answer_of client.new ≡ answer_of client.old }
+    ensures done { result ≡ Attended.Done → IsToldAll client.new }
 {
     let Some(answer) = &mut client.answer else {
         return Attended::Waits;
@@ -122,6 +123,7 @@ fn take_turn<L: Line, S: Alter>(
     ensures same { IsSameClient client.old client.new }
     ensures turn { (visit : Visit) × (visit.number ≡ client.old.number) × (visit.got ≡ client.old.got.items)
         × ServesVisit (given_by origin.entry) (state S.Store) office.old visit office.new × (answer_of client.new ≡ Some visit.answer) }
+    ensures done { result ≡ Attended.Done → IsToldAll client.new }
 {
     let answer = answered(alloc, origin, client.got.as_slice(), office);
     client.answer = Some(answer);
@@ -146,6 +148,7 @@ pub fn attend<L: Line, S: Alter>(
     ensures is { (start : L) → IsOf (line_of L.held L.taken) start client.old → IsOf (line_of L.held L.taken) start client.new }
     ensures same { IsSameClient client.old client.new }
     ensures turn { MayHaveTurn (given_by origin.entry) (line_of L.held L.taken) (state S.Store) client.old client.new office.old office.new }
+    ensures done { result ≡ Attended.Done → IsToldAll client.new }
 {
     if client.answer.is_some() {
         return tell_more(client);

@@ -1,6 +1,7 @@
 //! An office that serves: clients come in, go on side by side, and have their turns one after the other.
 
-ghost use Rattle.std.specs.Prelude.{◌≡◌, ◌≤◌, ◌+◌, ◌-◌, ◌^◌, ◌<◌, ℕ, [], IfSome, List, None, Ok, OnOk, Option, length, true};
+ghost use Rattle.std.specs.Prelude.{◌≡◌, ◌≤◌, ◌+◌, ◌*◌, ◌-◌, ◌^◌, ◌<◌, ℕ, [], IfSome, List, None, Ok, OnOk, Option, length, true};
+ghost use Rattle.std.specs.Duration.{as_nanos};
 ghost use Rattle.sqlite.specs.State.{HasCleanDisk};
 ghost use Rattle.sqlite.specs.Held.{state};
 ghost use Rattle.gathering.specs.Lines.{line_of};
@@ -133,6 +134,7 @@ fn let_one_in<D: Doors>(
     ensures goes_on { (given : Option (List ℕ)) → GoesOn given (line_of D.Line.held D.Line.taken) [] (D.came doors.old) (D.came doors.new) room.old room.new }
     ensures few { room.old.came ≤ most → room.new.came ≤ most }
     ensures within { IsWithin room.old → IsWithin room.new }
+    ensures look { IfSome result (λ look. look ≤ PATIENCE) }
 {
     if room.came >= most || !doors.is_waited_at() {
         return Some(PATIENCE);
@@ -162,6 +164,7 @@ fn let_in<D: Doors>(
     ensures goes_on { (given : Option (List ℕ)) → GoesOn given (line_of D.Line.held D.Line.taken) [] (D.came doors.old) (D.came doors.new) room.old room.new }
     ensures few { room.old.came ≤ most → room.new.came ≤ most }
     ensures within { IsWithin room.old → IsWithin room.new }
+    ensures look { result ≤ PATIENCE }
 {
     for _ in 0..COMERS {
         if let Some(look) = let_one_in(alloc, doors, room, most, now) {
@@ -171,14 +174,16 @@ fn let_in<D: Doors>(
     0
 }
 
-/// How long the next look may be put off: so long, and until the first half minute is over.
-fn pause<L>(room: &Room<L>, most: u64, now: u64) -> Duration {
+/// How long the next look may be put off: so long at most, and no longer than until the first half minute is over.
+fn pause<L>(room: &Room<L>, look: u64, now: u64) -> Duration
+    ensures { as_nanos result ≤ look * 1_000_000 }
+{
     match longest(room.clients.as_slice()) {
         Some(place) => {
             let waited = now.saturating_sub(room.clients[place].since);
-            Duration::from_millis(most.min(PATIENCE.saturating_sub(waited)))
+            Duration::from_millis(look.min(PATIENCE.saturating_sub(waited)))
         }
-        None => Duration::from_millis(most),
+        None => Duration::from_millis(look),
     }
 }
 

@@ -30,4 +30,5 @@ returns-in_default g c =
         c.answered-answer.ensures.served client.number,
         c.tell_more.ensures.his,
       );
+      done = λ all. c.tell_more.ensures.done all;
     }

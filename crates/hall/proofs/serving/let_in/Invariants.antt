@@ -1,5 +1,5 @@
 -- What holds each time round the loop of `let_in`.
-use Rattle.std.proofs.Common.{◌≤◌, ℕ, [], List, Option, length}
+use Rattle.std.proofs.Common.{◌≤◌, ℕ, [], List, Option}
 use Rattle.gathering.specs.Lines.{line_of}
 use Rattle.hall.specs.Halls.{GoesOn, IsWithin}
 use Rattle.hall.proofs.serving.let_in.Given as goal

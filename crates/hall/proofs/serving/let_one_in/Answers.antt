@@ -3,7 +3,7 @@ use Rattle.std.proofs.Common.{[], refl}
 use Rattle.gathering.specs.Clients.{IsOf}
 use Rattle.gathering.specs.Lines.{line_of}
 use Rattle.hall.proofs.BoundLemmas.{within_more, within_still}
-use Rattle.hall.proofs.HallLemmas.{goes_more, goes_none, goes_then, goes_without}
+use Rattle.hall.proofs.HallLemmas.{goes_more, goes_then, goes_without}
 use Rattle.hall.proofs.serving.let_one_in.Goals as goal
 
 pub returns-in-One-clause-goes_on : goal.returns-in-One-clause-goes_on

@@ -1,5 +1,5 @@
 -- Why `serve_hall` keeps its promise.
-use Rattle.std.proofs.Common.{◌∙◌, ap, arith, refl, Ok, subst}
+use Rattle.std.proofs.Common.{◌∙◌, ap, arith, refl, Ok}
 use Rattle.sqlite.specs.Held.{state}
 use Rattle.gathering.specs.Lines.{line_of}
 use Rattle.wire.specs.Origins.{given_by}
