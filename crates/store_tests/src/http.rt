@@ -214,7 +214,10 @@ fn crowd<'a>(alloc: Global, asking: &[usize]) -> Result<Vec<Option<Client<'a>>>,
     let mut comers = Vec::new(alloc);
     for place in 0..CROWD {
         comers.push(Some(if asking.contains(&place) {
-            Client::slow(FOUR, 2)
+            Client {
+                at_once: 2,
+                ..Client::whole(FOUR)
+            }
         } else {
             Client::silent()
         }))?;
