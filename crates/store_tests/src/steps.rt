@@ -233,6 +233,7 @@ fn serve<S: Alter + Drop>(
     conn: Connection<S>,
     evening: Evening<'_>,
 ) -> Result<(Said, Connection<S>), Fail> {
+    let pages = pages_of(alloc, evening.comers.len())?;
     let mut office = match Office::open_from(alloc, conn) {
         Ok(office) => office,
         Err((fault, conn)) => {
@@ -248,7 +249,6 @@ fn serve<S: Alter + Drop>(
             ));
         }
     };
-    let pages = pages_of(alloc, evening.comers.len())?;
     let served = {
         let clock = Jumping::by(evening.seconds);
         let mut coming = Coming::new(evening, &pages);
