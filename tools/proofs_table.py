@@ -7,7 +7,7 @@ HEAD = """# Every public function and its clauses
 
 `tools/check-proofs --write` makes this page from the sources, and `tools/check-proofs` compares it with them. What the promises rest on, what is only tested, the premises and what is trusted stand in [PROOFS.md](PROOFS.md).
 
-Each function is proved safe, to return, and to meet its clauses. They stand above its body, as its documentation does, of which the first sentence is shown; a clause without a name most often says what the result is, and a dash stands where the type or the trait says all. A *wrong body* is an edit in `crates/NAME/must-fail/` that turns the meaning of the function in its row, and that the contract of its own crate refuses. Functions that aren't public, and definitions, are listed only where an edit changes them. All crates together have {public} public functions with {clauses} clauses, and {edits} wrong bodies.
+Each function is proved safe, to return, and to meet its clauses. They stand above its body, as its documentation does, of which the first sentence is shown; a clause without a name most often says what the result is, and a dash stands where the type or the trait says all. A *wrong body* is an edit in `must-fail/` or `wrong-bodies/` of the crate that turns the meaning of the function in its row, and that the contract of its own crate refuses. Functions that aren't public, and definitions, are listed only where an edit changes them. All crates together have {public} public functions with {clauses} clauses, and {edits} wrong bodies.
 """
 
 
@@ -57,7 +57,7 @@ def misplaced(crate):
             there = crate.folder / path
             times = there.read_text().count(old) if there.is_file() else 0
             if times != 1:
-                yield f"crates/{crate.name}/must-fail/{name}.edit: its old text stands {times} times in {path}"
+                yield f"{crate.name}/{name}.edit: its old text stands {times} times in {path}"
 
 
 def function_cell(crate, function):

@@ -149,7 +149,7 @@ class Crate:
         self.records = {}
         for path in sorted(folder.glob("specs/**/*.antt")):
             self.records.update(fields_in(path.read_text() + "\n"))
-        self.edits = {path.stem: path.read_text() for path in sorted(folder.glob("must-fail/*.edit"))}
+        self.edits = {path.stem: path.read_text() for part in ("must-fail", "wrong-bodies") for path in sorted(folder.glob(part + "/*.edit"))}
         self.folder = folder
 
     def is_shown(self, function):

@@ -39,6 +39,7 @@ const WRONG_PHASE: &str =
     "HTTP/1.1 409 Conflict\r\nContent-Type: application/json\r\nContent-Length: 34\r\nConnection: close\r\n\r\n{\"refusal\":9,\"text\":\"wrong phase\"}";
 
 /// Who comes, what each of them must take, and how serving must end.
+#[derive(Clone, Copy)]
 struct Case<'a> {
     evening: Evening<'a>,
     texts: &'a [&'a str],
@@ -213,7 +214,10 @@ fn crowd<'a>(alloc: Global, asking: &[usize]) -> Result<Vec<Option<Client<'a>>>,
     let mut comers = Vec::new(alloc);
     for place in 0..CROWD {
         comers.push(Some(if asking.contains(&place) {
-            Client::slow(FOUR, 2)
+            Client {
+                at_once: 2,
+                ..Client::whole(FOUR)
+            }
         } else {
             Client::silent()
         }))?;

@@ -269,6 +269,7 @@ fn serve<S: Alter + Drop>(
     conn: Connection<S>,
     evening: Evening<'_>,
 ) -> Result<(Said, Connection<S>), Fail> {
+    let pages = pages_of(alloc, evening.comers.len())?;
     let mut office = match Office::open_from(alloc, conn) {
         Ok(office) => office,
         Err((fault, conn)) => {
@@ -284,7 +285,6 @@ fn serve<S: Alter + Drop>(
             ));
         }
     };
-    let pages = pages_of(alloc, evening.comers.len())?;
     let served = {
         let clock = Jumping::by(evening.seconds);
         let mut coming = Coming::new(evening, &pages);

@@ -1,5 +1,6 @@
 -- Why `lacks` keeps its promise.
-use Rattle.std.proofs.Common.{rules, ◌-◌, length, refl}
+use Rattle.std.proofs.Common.{rules, ◌-◌, arith, length, refl}
+use Rattle.std.proofs.lemmas.List.{length-take}
 use Rattle.wire.specs.Origins.{given_by}
 use Rattle.wire.proofs.LackingLemmas.{lacks_found, lacks_head, whole_found, whole_full, whole_over}
 use Rattle.wire.proofs.lacking.lacks.Goals as goal
