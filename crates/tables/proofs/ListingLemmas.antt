@@ -97,11 +97,6 @@ module _ (t : Table) (sql : List ℕ) (tests : List Term) (reads : Reads t sql t
             (λ a b. rw (ordered_keys 0 m) (keys_shown m n (key_within t) a b)) got.ordered got.sorted);
       }
 
-  pub if_listed : {X F : Type 0} (db : Database) → BeginsTo t db.schema → (old new : State) (rows : X → List Row) (r : Result X F) → RestsAt db old
-      → IfOk r (λ x. Shown sql params old new (rows x)) → IfOk r (λ x. Lists t test db (rows x))
-  if_listed db begins old new rows (Ok x) rests shown = listed db begins old new (rows x) rests shown
-  if_listed db begins old new rows (Err e) rests shown = tt
-
   pub if_found : {X F : Type 0} (c : Contents) (old new : State) (rows : X → List Row) (r : Result X F) → Rests c old → IfOk r (λ x. Shown sql params old new (rows x))
       → IfOk r (λ x. Finds t test c (rows x))
   if_found c old new rows (Ok x) rests shown =
