@@ -62,7 +62,8 @@ impl<S: Alter> Office<S> {
                 self.closed = fault != Fault::Memory;
                 Err(CopyFault::Office(fault))
             }
-            Err(fault) => Err(fault),
+            Err(CopyFault::Taken) => Err(CopyFault::Taken),
+            Err(CopyFault::Copy(fault)) => Err(CopyFault::Copy(fault)),
         }
     }
 }

@@ -16,7 +16,7 @@ returns-in-Err-Memory-clause-kept g c clean is_open s at =
     let here = subst (λ (o : OfficeValue _). IsAt s (state g.S.Store o.held)) (sym c.self.view_is) at in
     (tt, inl refl, left_reading s _ _ _ c.rows.ensures.reads clean here)
 
-pub returns-clause-kept : goal.returns-clause-kept
-returns-clause-kept g c clean is_open s at =
+pub returns-in-Err-clause-kept : goal.returns-in-Err-clause-kept
+returns-in-Err-clause-kept g c clean is_open s at =
     let here = subst (λ (o : OfficeValue _). IsAt s (state g.S.Store o.held)) (sym c.self.view_is) at in
     (tt, inr refl, left_reading s _ _ _ c.rows.ensures.reads clean here)
