@@ -19,8 +19,9 @@ ghost use Rattle.tables.specs.Reading.{OnlyReads};
 ghost use Rattle.store.specs.Openings.{IsLeftAt};
 ghost use Rattle.office.specs.Answers.{IsReadAt, WhenOpenAt};
 ghost use Rattle.desk.specs.Journals.{IsJournalTold, IsToldElsewhere};
-ghost use Rattle.hall.specs.Handings.{IsCopyTold};
 ghost use Rattle.desk.specs.Pages.{Tells, outputs_of};
+ghost use Rattle.hall.specs.Handings.{IsCopyTold};
+ghost use Rattle.count_office.specs.Done.{EndsCopy, IsDone};
 ghost use Rattle.sqlite_wal.specs.Reads.{AreClean};
 ghost use Rattle.sqlite.specs.Closing.{IsCopied};
 
@@ -111,6 +112,7 @@ fn perform_watched<S: Alter, O: Sink, E: Sink>(
 ) -> (u8, Connection<S>)
     requires out { O.failed out.old < 2 ^ 64 - 1 }
     requires err { E.failed err.old < 2 ^ 64 - 1 }
+    ensures { IsDone task.now result.0 (state S.Store conn) (state S.Store result.1) }
 {
     let paths = Paths { rt };
     if wants_progress(rt, task) {
@@ -131,6 +133,10 @@ fn perform_on<S: Alter, O: Sink, E: Sink>(
 ) -> (u8, Connection<S>)
     requires out { O.failed out.old < 2 ^ 64 - 1 }
     requires err { E.failed err.old < 2 ^ 64 - 1 }
+    ensures performs { (task : Task) → order.now ≡ Order.Perform task → IsDone task result.0 (state S.Store conn) (state S.Store result.1) }
+    ensures journals { order.now ≡ Order.Journal → (let outputs = outputs_of O.taken O.failed E.taken E.failed in Tells (outputs out.old err.old) (outputs out.new err.new) result.0
+        (λ _ page. HasCleanDisk (state S.Store result.1) → ((db : Database) → RestsAt db (state S.Store conn) → (s : OfficeState) → IsLeftAt s db → IsJournalTold s page)
+        × IsToldElsewhere page (state S.Store conn) (state S.Store result.1))) }
 {
     match order {
         Order::Perform(task) => perform_watched(rt, task, conn, out, err),
@@ -247,6 +253,8 @@ fn finish<D: Disk + Drop, E: Sink>(
     err: &mut E,
 ) -> u8
     requires { status ≡ 0 → E.failed err.old < 2 ^ 64 - 1 }
+    ensures other { ¬ (status ≡ 0) → (result ≡ status) × (err.new ≡ err.old) }
+    ensures whole { status ≡ 0 → EndsCopy E.taken E.failed err.old err.new result }
 {
     match state {
         CopyState::Whole => {}
@@ -342,6 +350,7 @@ fn closed_copy<D: Disk + Drop, E: Sink>(
     err: &mut E,
 ) -> (u8, Option<Files<D>>)
     requires { E.failed err.old < 2 ^ 64 - 1 }
+    ensures ends { EndsCopy E.taken E.failed err.old err.new result.0 }
     ensures alone { result.0 ≡ 0 → IsSomeAnd result.1 (λ files. AreClean D.Disk files.log files.db → IsCopied made files) }
 {
     match close(made) {
