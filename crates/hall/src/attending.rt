@@ -162,7 +162,7 @@ fn read_answer<S: Alter>(
     kept: &mut Kept,
 ) -> Answer
     requires open { office.old.closed ≡ false }
-    requires asks { (what : Reading) × Asks (given_by origin.entry) got.now (reading what) }
+    requires asks { (what : Reading) × Asks (given_by origin) got.now (reading what) }
     ensures served { (number : ℕ) → ServesClient (given_by origin.entry) (state S.Store) (desk_at office.old (reads_in kept.old))
         (record { door = Door.Clients; number = number; got = got.now; answer = result.bytes.items }) (desk_at office.new (reads_in kept.new)) }
     ensures untold { result.sent ≡ 0 }

@@ -7,7 +7,7 @@ ghost use Rattle.std.specs.List.{Contains};
 ghost use Rattle.wire.specs.Asking.{Asks, reading};
 ghost use Rattle.wire.specs.Origins.{given_by};
 ghost use Rattle.wire.specs.declared.target.Reading.{Reading};
-ghost use Rattle.hall.specs.Reads.{ReadEntry, bytes_kept, reads_in};
+ghost use Rattle.hall.specs.Reads.{ReadEntry, reads_in};
 
 use gathering::Gathered;
 use std::alloc::Global;
