@@ -34,7 +34,7 @@ use Rattle.hall.proofs.TurnLemmas.{is_heard}
 -- ---- a place
 
 -- one was taken out of his place, and stands there again as another
-pub set_again : {X : Type 0} (xs : List X) (place : ℕ) (x : X) → place < length xs → insert (remove xs place) place x ≡ set xs place x
+set_again : {X : Type 0} (xs : List X) (place : ℕ) (x : X) → place < length xs → insert (remove xs place) place x ≡ set xs place x
 set_again [] place x within = absurd (omega (arith, within))
 set_again (y ∷ ys) zero x within = refl
 set_again {X} (y ∷ ys) (suc place) x within = ap (λ (zs : List X). y ∷ zs) (set_again ys place x (omega (arith, within)))
@@ -249,6 +249,17 @@ module _ {L : Type 0} (given : Given) (line : Line L) where
         serving_then let_in let_in let_in room went left before later later (goes_on_at state_of let_in room went place old new before later within at door number is turn refl refl refl)
         (serving_none let_in let_in went left later
         (goes_less let_in let_in went left place refl (omega (arith, within, length-set room.clients.items place new)) (items ∙ sym (remove_set room.clients.items place new within)) came counted))
+
+    -- one went on, and stands in his place again, or left
+    pub back_after : (let_in : Option (List (Comer L))) (room back : Room L) (place : ℕ) (old new : Client L) (before later : Desk S) → place < length room.clients.items
+        → old ≡ get_or room.clients.items place old → new.door ≡ old.door → new.number ≡ old.number → ((start : L) → IsOf line start old → IsOf line start new)
+        → MayHaveTurn given line state_of old new before later
+        → (back.clients.items ≡ insert (remove room.clients.items place) place new) ⊎ (back.clients.items ≡ remove room.clients.items place) → back.came ≡ room.came → back.counted ≡ room.counted
+        → GoesOnServing given line state_of let_in let_in room back before later
+    back_after let_in room back place old new before later within at door number is turn (inl items) came counted =
+        goes_on_at state_of let_in room back place old new before later within at door number is turn (items ∙ set_again room.clients.items place new within) came counted
+    back_after let_in room back place old new before later within at door number is turn (inr items) came counted =
+        left_after let_in room back place old new before later within at door number is turn items came counted
 
     -- those who were in went on, some were let go, and more came in
     pub serving_round : (let_in let_in_mid let_in_later : Option (List (Comer L))) (old went left new : Room L) (before later : Desk S) (least now : ℕ)

@@ -107,8 +107,11 @@ other_file file got h message other = inr (refl, λ o is for_file text. other (s
 -- its words are no text
 pub no_text : (file : FileNumbers) (got : List ℕ) (h : Handed) → IsMessage got (handed_entry h) → (list_all is_utf8 (map (λ (p : Piece). p.name.now) h.words.items) ≡ true → ⊥)
     → IsUnread file got (asked.Refused (Office Store))
-no_text file got h message bad = inr (refl, λ o is for_file text.
-    bad (ap (list_all is_utf8) (sym (words_read h)) ∙ subst (λ (x : HandedEntry). list_all is_utf8 (words_in x) ≡ true) (same_order got o (handed_entry h) is message) text))
+no_text file got h message bad = inr (
+  refl,
+  λ o is for_file text.
+      bad (ap (list_all is_utf8) (sym (words_read h)) ∙ subst (λ (x : HandedEntry). list_all is_utf8 (words_in x) ≡ true) (same_order got o (handed_entry h) is message) text),
+)
 
 -- its words weren't read: memory was wanting, or they are no text
 pub words_unread : (file : FileNumbers) (got : List ℕ) (h : Handed) (words : List Piece) (fault : Fault) → IsMessage got (handed_entry h) → words ≡ h.words.items

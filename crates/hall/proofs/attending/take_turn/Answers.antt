@@ -18,8 +18,8 @@ returns-in-Waits-clause-turn g c =
       refl,
       refl,
       subst (λ (bytes : List ℕ). ServesVisit (given_in c.args.terms) (state g.S.Store) (desk_at c.args.office.now (reads_in c.args.kept.now))
-      (record { door = client.door; number = client.number; got = bytes; answer = answer }) (desk_at c.answer_to-line.new.office (reads_in c.answer_to-line.new.kept)))
-      c.as_slice.ensures.value (c.answer_to-line.ensures.served client.number),
+          (record { door = client.door; number = client.number; got = bytes; answer = answer }) (desk_at c.answer_to-line.new.office (reads_in c.answer_to-line.new.kept)))
+          c.as_slice.ensures.value (c.answer_to-line.ensures.served client.number),
       c.tell_more.ensures.his,
     )
 
@@ -36,8 +36,8 @@ returns g c =
         refl,
         refl,
         subst (λ (bytes : List ℕ). ServesVisit (given_in c.args.terms) (state g.S.Store) (desk_at c.args.office.now (reads_in c.args.kept.now))
-        (record { door = client.door; number = client.number; got = bytes; answer = answer }) (desk_at c.answer_to-line.new.office (reads_in c.answer_to-line.new.kept)))
-        c.as_slice.ensures.value (c.answer_to-line.ensures.served client.number),
+            (record { door = client.door; number = client.number; got = bytes; answer = answer }) (desk_at c.answer_to-line.new.office (reads_in c.answer_to-line.new.kept)))
+            c.as_slice.ensures.value (c.answer_to-line.ensures.served client.number),
         c.tell_more.ensures.his,
       );
       done = c.tell_more.ensures.done;
