@@ -161,21 +161,25 @@ module _ {S : Type 0} (given : Option (List ℕ)) (state_of : Held S → State) 
   keeps_same old new reads got (what, asks) only = inr ((what, asks), λ clean is_open s at right. (right, only clean is_open s at what asks))
 
   -- this answer may be kept too, and the oldest were let go
-  pub keeps_more : (old new : OfficeValue S) (reads later : List ReadEntry) (got answer : List ℕ) → (what : Reading) × Asks given got (reading what)
+  pub keeps_more : (old new : OfficeValue S) (reads later : List ReadEntry) (got answer told : List ℕ) → told ≡ answer → (what : Reading) × Asks given got (reading what)
       → WhenOpenAt state_of old new (λ s. (what : Reading) → Asks given got (reading what) → IsRead given s got answer × IsOpenAt s new.closed (state_of new.held))
       → WhenOpenAt state_of old new (λ s. (what : Reading) → Asks given got (reading what) → IsReadAt s new.closed (state_of new.held))
-      → (gone kept : List ReadEntry) × (reads ≡ gone ++ kept) × ((later ≡ kept) ⊎ (later ≡ kept ++ record { got = got; answer = answer } ∷ []))
+      → (gone kept : List ReadEntry) × (reads ≡ gone ++ kept) × ((later ≡ kept) ⊎ (later ≡ kept ++ record { got = got; answer = told } ∷ []))
       → KeepsReads given state_of (desk_at old reads) got (desk_at new later)
-  keeps_more old new reads later got answer (what, asks) read only (gone, kept, is, now) = inr ((what, asks), λ clean is_open s at right. (
-    let still = behind s gone kept (subst (λ (rs : List ReadEntry). AreReadAt given s rs) is right) in
-    elim now [
-      | inl same ↦ subst (λ (rs : List ReadEntry). AreReadAt given s rs) (sym same) still
-      | inr more ↦
-          subst (λ (rs : List ReadEntry). AreReadAt given s rs) (sym more)
-          (All-push (λ (r : ReadEntry). IsRead given s r.got r.answer) kept (record { got = got; answer = answer }) still (read clean is_open s at what asks).0)
-    ],
-    only clean is_open s at what asks,
-  ))
+  keeps_more old new reads later got answer told same_told (what, asks) read only (gone, kept, is, now) = inr (
+    (what, asks),
+    λ clean is_open s at right. (
+      let still = behind s gone kept (subst (λ (rs : List ReadEntry). AreReadAt given s rs) is right) in
+          elim now [
+            | inl same ↦ subst (λ (rs : List ReadEntry). AreReadAt given s rs) (sym same) still
+            | inr more ↦
+                subst (λ (rs : List ReadEntry). AreReadAt given s rs) (sym more)
+                (All-push (λ (r : ReadEntry). IsRead given s r.got r.answer) kept (record { got = got; answer = told }) still
+                (subst (λ (a : List ℕ). IsRead given s got a) (sym same_told) (read clean is_open s at what asks).0))
+          ],
+      only clean is_open s at what asks,
+    ),
+  )
 
 -- nothing was told yet
 pub told_zero : {L : Type 0} (line : Line L) (now : L) (answer : List ℕ) (sent : ℕ) → sent ≡ 0 → HasTaken (line.taken now) [] → IsToldOf line now answer sent

@@ -1,7 +1,8 @@
 //! An office that serves: clients and orders come in, go on side by side, and have their turns one after the other.
 
-ghost use Rattle.std.specs.Prelude.{◌≡◌, ◌≤◌, ◌+◌, ◌*◌, ◌-◌, ◌^◌, ◌<◌, ℕ, [], IfSome, List, None, Ok, OnOk, Option, length, true};
+ghost use Rattle.std.specs.Prelude.{◌≡◌, ◌⊎◌, ◌≤◌, ◌+◌, ◌*◌, ◌-◌, ◌^◌, ◌<◌, ℕ, [], IfSome, List, None, Ok, OnOk, Option, length, true};
 ghost use Rattle.std.specs.Duration.{as_nanos};
+ghost use Rattle.std.specs.List.{insert};
 ghost use Rattle.sqlite.specs.State.{HasCleanDisk};
 ghost use Rattle.sqlite.specs.Held.{state};
 ghost use Rattle.gathering.specs.Lines.{line_of};
@@ -71,6 +72,16 @@ fn go_on<L: Line, C: Clock, A: Aside, S: Alter>(
     }
 }
 
+/// Puts one back in his place. Where memory is wanting for it, he leaves.
+fn put_back<L: Line + Drop>(room: &mut Room<L>, place: usize, client: Client<L>)
+    requires { place ≤ length room.old.clients.items }
+    ensures items { (room.new.clients.items ≡ insert room.old.clients.items place client) ⊎ (room.new.clients.items ≡ room.old.clients.items) }
+    ensures came { room.new.came ≡ room.old.came }
+    ensures counted { room.new.counted ≡ room.old.counted }
+{
+    let _ = room.clients.insert(place, client);
+}
+
 /// The one at a place goes on. Where he is done, or lost, he leaves; and so he does where memory is wanting for his place.
 fn go_on_at<L: Line + Drop, C: Clock, A: Aside, S: Alter>(
     alloc: Global,
@@ -94,13 +105,9 @@ fn go_on_at<L: Line + Drop, C: Clock, A: Aside, S: Alter>(
     if !stays? {
         return Ok(());
     }
-    match room.clients.insert(place, client) {
-        Ok(()) => {
-            keep_within(room);
-            Ok(())
-        }
-        Err(_) => Ok(()),
-    }
+    put_back(room, place, client);
+    keep_within(room);
+    Ok(())
 }
 
 /// The one with a number goes on, if he is in.
