@@ -1,6 +1,7 @@
 -- Why `files_named_in` keeps its promise.
 use Rattle.std.proofs.Common.{ap, inr, map, string_bytes}
 use Rattle.desk.specs.Cuttings.{line_entry, said_entry}
+use Rattle.desk.specs.Scripts.{lines_of, numbered_from}
 use Rattle.desk.proofs.JournalLemmas.{files_found, flaw_of_text, turns_of_text}
 use Rattle.desk.proofs.bringing.files_named_in.Goals as goal
 
