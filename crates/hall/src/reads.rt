@@ -19,6 +19,9 @@ const MAX_KEPT: usize = 16 << 20;
 /// The most answers that are kept.
 const MAX_ANSWERS: usize = 512;
 
+/// How a request for a read begins. What begins otherwise isn't read twice.
+const GET: &[u8] = b"GET ";
+
 /// A request, and what was told to it.
 #[derive(Drop)]
 pub struct KeptAnswer {
@@ -37,6 +40,9 @@ pub struct Kept {
 pub fn asks_reading(alloc: Global, origin: Option<Origin<'_>>, got: &[u8]) -> bool
     ensures { result ≡ true → (what : Reading) × Asks (given_by origin.entry) got.now (reading what) }
 {
+    if !got.starts_with(GET) {
+        return false;
+    }
     let mut reader = Gathered::new(got);
     matches!(
         read_asked(alloc, origin, &mut reader),
