@@ -1,5 +1,5 @@
 -- Answers to reads: what one tells, and what is kept of it.
-use Rattle.std.proofs.Common.{◌≡◌, ◌∙◌, ◌⊎◌, ◌∷◌, ◌++◌, ◌≤◌, ◌+◌, Bool, true, false, true≢false, ℕ, List, [], Option, Some, All, ap, arith, inl, inr, length, refl, subst, suc, sym}
+use Rattle.std.proofs.Common.{◌≡◌, ◌∙◌, ◌⊎◌, ◌∷◌, ◌++◌, Bool, false, true≢false, ℕ, List, [], Option, Some, arith, inl, inr, refl, subst, suc, sym}
 use Rattle.std.specs.List.{Contains}
 use Rattle.std.proofs.lemmas.List.Elements.{All-push}
 use Rattle.sqlite.specs.Held.{Held}
@@ -10,7 +10,6 @@ use Rattle.office.specs.Answers.{IsOpenAt, IsReadAt, WhenOpenAt}
 use Rattle.office.specs.Values.{OfficeValue}
 use Rattle.gathering.specs.Clients.{IsTold as IsToldOf}
 use Rattle.gathering.specs.Lines.{HasTaken, Line}
-use Rattle.gathering.specs.declared.client.Door.{Door}
 use Rattle.gathering.specs.declared.client.Door.TheVariants.{Clients}
 use Rattle.tables.specs.Faults.{fault_number}
 use Rattle.tables.specs.declared.fault.Fault.{Fault}
@@ -22,8 +21,8 @@ use Rattle.wire.specs.declared.serving.Served.{Served}
 use Rattle.wire.specs.declared.serving.Served.TheVariants.{Answered, ReadFailed, WriteFailed}
 use Rattle.wire.specs.declared.target.Reading.{Reading}
 use Rattle.wire.proofs.AskingLemmas.{AsksOneThing-all}
-use Rattle.hall.specs.Reads.{AreReadAt, Desk, IsRead, ReadEntry, TellsNoFault, desk_at}
-use Rattle.hall.specs.Visits.{EndsSo, HasServed, KeepsReads, ServesClient, Visit}
+use Rattle.hall.specs.Reads.{AreReadAt, IsRead, ReadEntry, TellsNoFault, desk_at}
+use Rattle.hall.specs.Visits.{EndsSo, HasServed, KeepsReads, ServesClient}
 
 -- ---- what an answer tells
 

@@ -1,5 +1,5 @@
 -- An order that has its turn, part by part.
-use Rattle.std.proofs.Common.{◌≡◌, ◌∙◌, ◌⊎◌, ◌∷◌, ◌++◌, Bool, true, false, true≢false, ℕ, List, [], None, Bor, Ok, Option, Some, ap, drop, inl, inr, map, refl, subst, sym}
+use Rattle.std.proofs.Common.{◌≡◌, ◌∙◌, ◌⊎◌, ◌∷◌, true, false, true≢false, ℕ, List, [], None, Bor, Option, Some, ap, drop, inl, inr, map, refl, subst, sym}
 use Rattle.std.specs.Io.KnownBytes.{Appends}
 use Rattle.std.specs.List.{list_all}
 use Rattle.std.specs.Str.{is_utf8}
@@ -19,7 +19,7 @@ use Rattle.handover.specs.declared.handed.Piece.{Piece}
 use Rattle.handover.proofs.Pieces.{handed_again}
 use Rattle.desk.specs.Pages.{Cut, IsShown, Outputs, Page, Shows, Tells, cut_behind, cut_error, uncut}
 use Rattle.desk.specs.declared.lines.Failure.TheVariants.{Office}
-use Rattle.hall.specs.Handings.{AsksOrder, AsksSo, ComesOf, FollowsOrder, IsForFile, IsMessage, IsUnread, TellsAsked, folder_of, shut_page, untold, words_in}
+use Rattle.hall.specs.Handings.{AsksSo, ComesOf, FollowsOrder, IsForFile, IsMessage, IsUnread, TellsAsked, folder_of, shut_page, untold, words_in}
 use Rattle.hall.specs.Outlets.{IsEnded}
 use Rattle.hall.specs.declared.handing.Asked.{Asked}
 use Rattle.hall.specs.declared.handing.Asked.TheVariants as asked

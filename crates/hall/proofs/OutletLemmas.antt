@@ -1,6 +1,6 @@
 -- What goes out of an order, one frame behind the other.
-use Rattle.std.proofs.Common.{◌≡◌, ◌∙◌, ◌≤◌, ◌<◌, ◌+◌, ◌^◌, ◌++◌, ◌⊎◌, Bool, false, true, ◌&&◌, cond, ℕ, List, None, Option, Some, ap, arith, fold, inl, inr, length, length-append, refl, subst, sym, take}
-use Rattle.std.proofs.Common.{bytes_eq, leb}
+use Rattle.std.proofs.Common.{◌≡◌, ◌∙◌, ◌<◌, ◌+◌, ◌^◌, ◌++◌, ◌⊎◌, Bool, false, true, ◌&&◌, cond, ℕ, List, None, Option, Some, ap, arith, fold, inl, inr, length, length-append, refl, subst, sym, take}
+use Rattle.std.proofs.Common.{leb}
 use Rattle.std.proofs.lemmas.Bool.{le-leb, leb-true}
 use Rattle.std.proofs.lemmas.List.{take-append-le}
 use Rattle.std.proofs.lemmas.Slice.Eq.{bytes_eq-Decides}

@@ -1,8 +1,8 @@
 -- What is kept of answers to reads.
-use Rattle.std.proofs.Common.{◌≡◌, ◌<◌, ◌∙◌, ◌∷◌, ◌++◌, ℕ, List, [], ap, append_assoc, arith, get_or, length, map, refl, remove, subst, sym}
+use Rattle.std.proofs.Common.{◌≡◌, ◌<◌, ◌∙◌, ◌∷◌, ◌++◌, ℕ, List, [], ap, append_assoc, arith, get_or, length, map, remove, subst, sym}
 use Rattle.std.specs.List.{Contains}
-use Rattle.std.proofs.lemmas.List.{get_or-map, length-map, map_push}
-use Rattle.hall.specs.Reads.{ReadEntry, read_entry, reads_in}
+use Rattle.std.proofs.lemmas.List.{get_or-map, length-map}
+use Rattle.hall.specs.Reads.{ReadEntry, read_entry}
 use Rattle.hall.specs.declared.reads.KeptAnswer.{KeptAnswer}
 
 -- the oldest was let go

@@ -1,5 +1,5 @@
 -- Why `end` keeps its promise.
-use Rattle.std.proofs.Common.{◌≡◌, ◌∙◌, ◌++◌, ◌+◌, ◌<◌, ◌^◌, List, ℕ, ap, arith, inl, inr, length, refl, take}
+use Rattle.std.proofs.Common.{◌≡◌, ◌∙◌, ◌++◌, List, ℕ, ap, arith, inl, inr, refl, take}
 use Rattle.std.proofs.lemmas.List.{length-take, take_min}
 use Rattle.gathering.specs.Lines.{line_of}
 use Rattle.gathering.specs.declared.client.Answer.{Answer}
