@@ -112,11 +112,11 @@ fn file_pieces(alloc: Global, files: &[Brought]) -> Result<Vec<Piece<'_>>, Alloc
 }
 
 /// The message of an order on the database at a path, of these words and files; or why there is none.
-fn message_of(
+fn message_of<'b>(
     rt: &HostRuntime,
     database: &str,
-    words: &[&str],
-    files: &[Brought],
+    words: &[&'b str],
+    files: &'b [Brought],
 ) -> Result<Vec<u8>, Fault> {
     let (Ok(found), Ok(folder)) = (fs::metadata(rt, database), env::current_dir(rt)) else {
         return Err(Fault::Store);
