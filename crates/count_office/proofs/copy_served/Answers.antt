@@ -14,5 +14,5 @@ returns-in-Err-clause-stays g c clean was s at = inl (record { is_open = was; at
 
 pub returns-clause-told : goal.returns-clause-told
 returns-clause-told g c =
-    failure_told g.O.Sink.taken g.O.Sink.failed g.E.Sink.taken g.E.Sink.failed (state g.S.Store) c.args.office.now c.args.office.now c.args.out.now c.args.err.now c.tell_failure-2.new.err c.failure_of.result c.tell_failure-2.result
-    c.tell_failure-2.ensures
+    failure_told g.O.Sink.taken g.O.Sink.failed g.E.Sink.taken g.E.Sink.failed (state g.S.Store) c.args.office.now c.args.office.now c.args.out.now c.args.err.now c.tell_failure-in-Err-open_from.new.err c.failure_of.result c.tell_failure-in-Err-open_from.result
+    c.tell_failure-in-Err-open_from.ensures
