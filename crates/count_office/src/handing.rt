@@ -160,11 +160,13 @@ fn pieces_of(alloc: Global, parts: &[Part]) -> Result<Vec<Piece<'_>>, Fault>
 
 /// The message of an order on the database at a path; or why there is none.
 fn message_of(rt: &HostRuntime, database: &str, parcel: &Parcel) -> Result<Vec<u8>, Fault> {
-    let (Ok(found), Ok(folder)) = (fs::metadata(rt, database), env::current_dir(rt)) else {
+    let Ok(found) = fs::metadata(rt, database) else {
         return Err(Fault::Store);
     };
-    let folder = folder.as_str().as_bytes();
-    if folder.len() > MAX_MESSAGE {
+    let Ok(folder) = env::current_dir(rt) else {
+        return Err(Fault::Store);
+    };
+    if folder.as_str().len() > MAX_MESSAGE {
         return Err(Fault::Store);
     }
     let words = pieces_of(rt.alloc(), &parcel.words)?;
@@ -173,7 +175,7 @@ fn message_of(rt: &HostRuntime, database: &str, parcel: &Parcel) -> Result<Vec<u
         version: VERSION.as_bytes(),
         device: found.dev(),
         inode: found.ino(),
-        folder,
+        folder: folder.as_str().as_bytes(),
         words,
         files,
     };
