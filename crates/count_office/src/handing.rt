@@ -68,7 +68,7 @@ fn named_by(alloc: Global, files: &[Brought]) -> Result<Vec<String>, AllocError>
 }
 
 /// The files that an order reads, each read once: its own, and for a script those that its lines name.
-fn brought(rt: &HostRuntime, order: &Order<'_>) -> Result<Vec<Brought>, AllocError> {
+fn files_of(rt: &HostRuntime, order: &Order<'_>) -> Result<Vec<Brought>, AllocError> {
     let mut files = Vec::new(rt.alloc());
     let Order::Perform(task) = order else {
         return Ok(files);
@@ -112,11 +112,11 @@ fn file_pieces(alloc: Global, files: &[Brought]) -> Result<Vec<Piece<'_>>, Alloc
 }
 
 /// The message of an order on the database at a path, of these words and files; or why there is none.
-fn message_of(
+fn message_of<'b>(
     rt: &HostRuntime,
     database: &str,
-    words: &[&str],
-    files: &[Brought],
+    words: &[&'b str],
+    files: &'b [Brought],
 ) -> Result<Vec<u8>, Fault> {
     let (Ok(found), Ok(folder)) = (fs::metadata(rt, database), env::current_dir(rt)) else {
         return Err(Fault::Store);
@@ -241,7 +241,7 @@ pub fn hand_over<O: Sink, E: Sink>(
     ensures { result ≡ None → (out.new ≡ out.old) × (err.new ≡ err.old) }
 {
     let mut stream = beside::reach(rt, database)?;
-    let Ok(files) = brought(rt, order) else {
+    let Ok(files) = files_of(rt, order) else {
         return Some(tell_failure(Failure::Office(Fault::Memory), err));
     };
     let message = match message_of(rt, database, words, &files) {

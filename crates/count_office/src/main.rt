@@ -9,7 +9,7 @@
 //! ```
 #![tactic(auto)]
 
-ghost use Rattle.std.specs.Prelude.{◌≡◌, ◌+◌, ◌-◌, ◌^◌, ◌<◌, IfSome, IsSomeAnd, Some};
+ghost use Rattle.std.specs.Prelude.{◌≡◌, ◌+◌, ◌-◌, ◌^◌, ◌<◌, IfSome, IsSomeAnd, None, Some};
 ghost use Rattle.sqlite.specs.Effect.{Database};
 ghost use Rattle.sqlite.specs.Held.{state};
 ghost use Rattle.sqlite.specs.State.{HasCleanDisk};
@@ -421,9 +421,31 @@ fn why_unopened(site: Site, order: &Order<'_>) -> Option<Fault>
     }
 }
 
-/// Hands an order on a database that another program holds over to it, if it serves that; and gives the status. Nobody may
-/// serve it: then it is told that it is held.
+/// Hands an order over to whoever serves a database, if anybody does; and gives the status.
 fn hand_over_watched<O: Sink, E: Sink>(
+    rt: &HostRuntime,
+    database: &str,
+    words: &[&str],
+    order: &Order<'_>,
+    out: &mut O,
+    err: &mut E,
+) -> Option<u8>
+    requires out { O.failed out.old < 2 ^ 64 - 1 }
+    requires err { E.failed err.old < 2 ^ 64 - 1 }
+    ensures { result ≡ None → err.new ≡ err.old }
+{
+    match order {
+        Order::Perform(task) if wants_progress(rt, task) => {
+            let mut watched = Progress::new(out, rt.stderr());
+            hand_over(rt, database, words, order, &mut watched, err)
+        }
+        _ => hand_over(rt, database, words, order, out, err),
+    }
+}
+
+/// Hands an order on a database that another program holds over to it, and gives the status. Where that one doesn't serve it,
+/// it is told that it is held.
+fn hand_over_held<O: Sink, E: Sink>(
     rt: &HostRuntime,
     database: &str,
     words: &[&str],
@@ -434,14 +456,7 @@ fn hand_over_watched<O: Sink, E: Sink>(
     requires out { O.failed out.old < 2 ^ 64 - 1 }
     requires err { E.failed err.old < 2 ^ 64 - 1 }
 {
-    let handed = match order {
-        Order::Perform(task) if wants_progress(rt, task) => {
-            let mut watched = Progress::new(out, rt.stderr());
-            hand_over(rt, database, words, order, &mut watched, err)
-        }
-        _ => hand_over(rt, database, words, order, out, err),
-    };
-    match handed {
+    match hand_over_watched(rt, database, words, order, out, err) {
         Some(status) => status,
         None => tell_failure(Failure::Office(Fault::Store), err),
     }
@@ -478,7 +493,7 @@ fn perform_at<O: Sink, E: Sink>(
             status
         }
         Err(error) if error.kind() == ErrorKind::WouldBlock => {
-            hand_over_watched(rt, found.database(), words, order, out, err)
+            hand_over_held(rt, found.database(), words, order, out, err)
         }
         Err(error) if error.kind() == ErrorKind::OutOfMemory => {
             tell_failure(Failure::Office(Fault::Memory), err)

@@ -1,9 +1,9 @@
 -- No more are in a room than may be, whoever comes in, goes on or leaves.
-use Rattle.std.proofs.Common.{◌≡◌, ◌≤◌, ◌<◌, ◌+◌, ◌∙◌, ◌⊎◌, ◌∷◌, ◌++◌, ℕ, List, [], Option, ap, arith, inl, inr, length, length-set, remove, set, subst, sym}
+use Rattle.std.proofs.Common.{◌≡◌, ◌≤◌, ◌<◌, ◌+◌, ◌∙◌, ◌⊎◌, ◌∷◌, ◌++◌, ℕ, List, [], Option, ap, arith, inl, inr, insert, length, remove, subst, sym}
 use Rattle.std.specs.List.{FoldsTo}
-use Rattle.std.proofs.lemmas.List.{get_or-set_same, length_push}
-use Rattle.std.proofs.lemmas.List.Edits.{length-remove}
-use Rattle.std.proofs.lemmas.List.Sums.{sum_by-remove, sum_by-set, sum_by_push}
+use Rattle.std.proofs.lemmas.List.{length_push}
+use Rattle.std.proofs.lemmas.List.Edits.{length-insert, length-remove}
+use Rattle.std.proofs.lemmas.List.Sums.{sum_by-remove, sum_by_push}
 use Rattle.gathering.specs.Clients.{IsNew}
 use Rattle.gathering.specs.Rooms.{answer_bytes, bytes_held, bytes_of}
 use Rattle.gathering.specs.declared.client.Answer.{Answer}
@@ -17,22 +17,23 @@ module _ {L : Type 0} where
   abbrev pub IsWithinOf : List (Client L) → Type 0
   IsWithinOf clients = (length clients ≤ most_clients) × (bytes_held clients ≤ most_bytes)
 
-  one_less : (clients : List (Client L)) (place : ℕ) (d : Client L) → place < length clients → IsWithinOf clients → IsWithinOf (remove clients place)
+  -- one left
+  pub one_less : (clients : List (Client L)) (place : ℕ) (d : Client L) → place < length clients → IsWithinOf clients → IsWithinOf (remove clients place)
   one_less clients place d within was =
       let fewer = length-remove clients place within in
       let less = sum_by-remove bytes_of clients place d within in
       (omega (arith, fewer, was.0), omega (arith, less, was.1))
 
-  -- one who is done or lost left, whatever is held of him now
-  pub within_less : (clients left : List (Client L)) (place : ℕ) (old new : Client L) → place < length clients → IsWithinOf clients → left ≡ remove (set clients place new) place → IsWithinOf left
-  within_less clients left place old new within was is =
-      let long = length-set clients place new in
-      let inside : place < length (set clients place new) = omega (arith, within, long) in
-      let fewer = length-remove (set clients place new) place inside in
-      let same = ap (λ (c : Client L). bytes_of c) (get_or-set_same clients place new old within) in
-      let less = sum_by-remove bytes_of (set clients place new) place old inside in
-      let changed = sum_by-set bytes_of clients place new old within in
-      subst (λ (cs : List (Client L)). IsWithinOf cs) (sym is) (omega (arith, fewer, long, was.0), omega (arith, less, changed, same, was.1))
+  -- one was taken out of his place, and stands there again, or left
+  pub few_back : (clients back : List (Client L)) (place : ℕ) (new : Client L) → place < length clients → length clients ≤ most_clients
+      → (back ≡ insert (remove clients place) place new) ⊎ (back ≡ remove clients place) → length back ≤ most_clients
+  few_back clients back place new within few (inl is) =
+      let fewer = length-remove clients place within in
+      let more = length-insert (remove clients place) place new (omega (arith, fewer, within)) in
+      subst (λ (cs : List (Client L)). length cs ≤ most_clients) (sym is) (omega (arith, fewer, more, few))
+  few_back clients back place new within few (inr is) =
+      let fewer = length-remove clients place within in
+      subst (λ (cs : List (Client L)). length cs ≤ most_clients) (sym is) (omega (arith, fewer, few))
 
   let_go : (least now : ℕ) (places : List ℕ) (old new : List (Client L)) → FoldsTo (IsLetGo least now) old places new → IsWithinOf old → IsWithinOf new
   let_go least now [] old new same was = subst (λ (cs : List (Client L)). IsWithinOf cs) same was
@@ -48,7 +49,7 @@ module _ {L : Type 0} where
 
   -- some were let go
   pub within_still : (least now : ℕ) (old new : Room L) → AreLetGo least now old new → IsWithin old → IsWithin new
-  within_still least now old new (came, (counted, (places, each))) was = let_go least now places old.clients.items new.clients.items each was
+  within_still least now old new (came, counted, (places, each)) was = let_go least now places old.clients.items new.clients.items each was
 
   few_still : (least now : ℕ) (places : List ℕ) (old new : List (Client L)) → FoldsTo (IsLetGo least now) old places new → length new ≤ length old
   few_still least now [] old new same = omega (arith, ap (λ (cs : List (Client L)). length cs) same)
@@ -60,7 +61,7 @@ module _ {L : Type 0} where
 
   -- some were let go, until no more bytes were held than may be
   pub within_again : (least now : ℕ) (old new : Room L) → length old.clients.items ≤ most_clients → AreLetGo least now old new → bytes_held new.clients.items ≤ most_bytes → IsWithin new
-  within_again least now old new few (came, (counted, (places, each))) bytes = (omega (arith, few, few_still least now places old.clients.items new.clients.items each), bytes)
+  within_again least now old new few (came, counted, (places, each)) bytes = (omega (arith, few, few_still least now places old.clients.items new.clients.items each), bytes)
 
   -- one came in for whom there was room, or was let go at once
   pub within_more : (old new : Room L) (comer : Comer L) (now : ℕ) (P : Client L → Type 0) → length old.clients.items < most_clients → bytes_held old.clients.items ≤ most_bytes

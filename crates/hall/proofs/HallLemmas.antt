@@ -1,11 +1,12 @@
 -- From one moment of a hall to another.
-use Rattle.std.proofs.Common.{◌≡◌, ◌≤◌, ◌<◌, ◌+◌, ◌-◌, ◌^◌, ◌∙◌, ◌⊎◌, ◌∷◌, ◌++◌, ℕ, true, List, [], None, Option, Some, ap, append-nil, append_assoc, arith, get_or, inl, inr, length, map, option_map, refl, remove, set, subst, sym}
+use Rattle.std.proofs.Common.{◌≡◌, ◌≤◌, ◌<◌, ◌+◌, ◌-◌, ◌^◌, ◌∙◌, ◌⊎◌, ◌∷◌, ◌++◌, ℕ, true, List, [], None, Option, Some, ap, append-nil, append_assoc, arith, get_or, inl, inr, insert, length, length-set, map, option_map, refl, remove, set, subst, suc, sym, zero}
 use Rattle.std.specs.Prelude.{Err, IfSome, Ok, OnOk, Result, unwrap_or}
 use Rattle.std.specs.Result.{IsErr}
 use Rattle.std.specs.List.{FoldsTo}
 use Rattle.std.specs.Vec.{with_item}
 use Rattle.std.proofs.lemmas.List.{get_or_read, map_push}
 use Rattle.std.proofs.lemmas.List.Elements.{All-nil, All-push}
+use Rattle.std.proofs.lemmas.List.Sums.{sum_by-append}
 use Rattle.sqlite.specs.Held.{Held}
 use Rattle.sqlite.specs.State.{HasCleanDisk, State}
 use Rattle.office.specs.Values.{OfficeValue}
@@ -30,6 +31,19 @@ use Rattle.hall.proofs.KeptLemmas.{cleans, kept_of, turned_away}
 use Rattle.hall.proofs.LeavingLemmas.{folds_then}
 use Rattle.hall.proofs.TurnLemmas.{is_heard}
 
+-- ---- a place
+
+-- one was taken out of his place, and stands there again as another
+set_again : {X : Type 0} (xs : List X) (place : ℕ) (x : X) → place < length xs → insert (remove xs place) place x ≡ set xs place x
+set_again [] place x within = absurd (omega (arith, within))
+set_again (y ∷ ys) zero x within = refl
+set_again {X} (y ∷ ys) (suc place) x within = ap (λ (zs : List X). y ∷ zs) (set_again ys place x (omega (arith, within)))
+
+remove_set : {X : Type 0} (xs : List X) (place : ℕ) (x : X) → place < length xs → remove (set xs place x) place ≡ remove xs place
+remove_set [] place x within = absurd (omega (arith, within))
+remove_set (y ∷ ys) zero x within = refl
+remove_set {X} (y ∷ ys) (suc place) x within = ap (λ (zs : List X). y ∷ zs) (remove_set ys place x (omega (arith, within)))
+
 -- ---- those who came in
 
 lets_in_none : {L : Type 0} (lines : Option (List (Comer L))) → LetsInMore lines lines []
@@ -45,8 +59,7 @@ lets_in_then {L} (Some lines) mid new first next a b = b ∙ ap (option_map (λ 
 
 -- how many of them count
 clients_append : {L : Type 0} (first next : List (Comer L)) → clients_among (first ++ next) ≡ clients_among first + clients_among next
-clients_append [] next = refl
-clients_append (c ∷ first) next = let more = clients_append first next in omega (arith, more)
+clients_append first next = sum_by-append (λ comer. count_at comer.door) first next
 
 module _ {L : Type 0} (given : Given) (line : Line L) where
   -- ---- a room
@@ -93,7 +106,7 @@ module _ {L : Type 0} (given : Given) (line : Line L) where
       (subst (λ (cs : List (Client L)). AreIn given line guests visits came cs) (sym gone.left) (one_left given line guests visits came old place are gone.within))
 
   pub goes_without : (least now : ℕ) (let_in let_in_later : Option (List (Comer L))) (old new : Room L) → let_in_later ≡ let_in → AreLetGo least now old new → GoesOn given line [] let_in let_in_later old new
-  goes_without least now let_in let_in_later old new same (same_came, (same_counted, (places, each))) = goes_with let_in let_in_later old new same (omega (arith, same_counted)) (λ guests visits are.
+  goes_without least now let_in let_in_later old new same (same_came, same_counted, (places, each)) = goes_with let_in let_in_later old new same (omega (arith, same_counted)) (λ guests visits are.
       stay least now places guests visits new.came old.clients.items new.clients.items each
       (subst (λ (n : ℕ). AreIn given line guests visits n old.clients.items) (sym same_came) are))
 
@@ -226,6 +239,28 @@ module _ {L : Type 0} (given : Given) (line : Line L) where
     serving_same let_in let_in_mid let_in_later old new before later same it =
         subst (λ (lines : Option (List (Comer L))). GoesOnServing given line state_of let_in lines old new before later) (sym same) it
 
+    -- one went on, and left
+    pub left_after : (let_in : Option (List (Comer L))) (room left : Room L) (place : ℕ) (old new : Client L) (before later : Desk S) → place < length room.clients.items
+        → old ≡ get_or room.clients.items place old → new.door ≡ old.door → new.number ≡ old.number → ((start : L) → IsOf line start old → IsOf line start new)
+        → MayHaveTurn given line state_of old new before later → left.clients.items ≡ remove room.clients.items place → left.came ≡ room.came → left.counted ≡ room.counted
+        → GoesOnServing given line state_of let_in let_in room left before later
+    left_after let_in room left place old new before later within at door number is turn items came counted =
+        let went = room_with room place new in
+        serving_then let_in let_in let_in room went left before later later (goes_on_at state_of let_in room went place old new before later within at door number is turn refl refl refl)
+        (serving_none let_in let_in went left later
+        (goes_less let_in let_in went left place refl (omega (arith, within, length-set room.clients.items place new)) (items ∙ sym (remove_set room.clients.items place new within)) came counted))
+
+    -- one went on, and stands in his place again, or left
+    pub back_after : (let_in : Option (List (Comer L))) (room back : Room L) (place : ℕ) (old new : Client L) (before later : Desk S) → place < length room.clients.items
+        → old ≡ get_or room.clients.items place old → new.door ≡ old.door → new.number ≡ old.number → ((start : L) → IsOf line start old → IsOf line start new)
+        → MayHaveTurn given line state_of old new before later
+        → (back.clients.items ≡ insert (remove room.clients.items place) place new) ⊎ (back.clients.items ≡ remove room.clients.items place) → back.came ≡ room.came → back.counted ≡ room.counted
+        → GoesOnServing given line state_of let_in let_in room back before later
+    back_after let_in room back place old new before later within at door number is turn (inl items) came counted =
+        goes_on_at state_of let_in room back place old new before later within at door number is turn (items ∙ set_again room.clients.items place new within) came counted
+    back_after let_in room back place old new before later within at door number is turn (inr items) came counted =
+        left_after let_in room back place old new before later within at door number is turn items came counted
+
     -- those who were in went on, some were let go, and more came in
     pub serving_round : (let_in let_in_mid let_in_later : Option (List (Comer L))) (old went left new : Room L) (before later : Desk S) (least now : ℕ)
         → GoesOnServing given line state_of let_in let_in_mid old went before later → AreLetGo least now went left → GoesOn given line [] let_in_mid let_in_later left new
@@ -255,8 +290,8 @@ module _ {L : Type 0} (given : Given) (line : Line L) where
         → GoesOnServing given line state_of let_in let_in_later old new (with_none_kept before) later → old.clients.items ≡ [] → old.came ≡ 0 → old.counted ≡ 0 → IfSome most (λ n. new.counted ≤ n)
         → OnOk result (IfSome most (λ n. new.counted ≡ n))
         → ServesHall given line state_of let_in let_in_later most before later.office result
-    hall_serves let_in let_in_later most old new before later result it none zero uncounted few all =
-        let (guests, came, are) = it.goes_on.own [] [] (are_same given line [] [] 0 old.came [] old.clients.items zero none (none_in given line)) in
+    hall_serves let_in let_in_later most old new before later result it none first uncounted few all =
+        let (guests, came, are) = it.goes_on.own [] [] (are_same given line [] [] 0 old.came [] old.clients.items first none (none_in given line)) in
         let sum = it.goes_on.counted in
         let counted : new.counted ≡ clients_among (map (λ (g : Guest L). g.came) guests) =
         subst (λ (cs : List (Comer L)). new.counted ≡ clients_among cs) (sym came) (omega (arith, sum, uncounted)) in
@@ -276,7 +311,7 @@ module _ {L : Type 0} (given : Given) (line : Line L) where
 
 -- a room with nobody in it is sound
 pub sound_empty : {L : Type 0} (given : Given) (line : Line L) (room : Room L) → room.clients.items ≡ [] → room.came ≡ 0 → IsSound given line room
-sound_empty {L} given line room none zero = ([], [], are_same given line [] [] 0 room.came [] room.clients.items zero none (none_in given line))
+sound_empty {L} given line room none first = ([], [], are_same given line [] [] 0 room.came [] room.clients.items first none (none_in given line))
 
 -- of those who are in a room that is sound, whoever has no answer was told nothing
 pub untold_at : {L : Type 0} (given : Given) (line : Line L) (room : Room L) (place : ℕ) (client : Client L) → IsSound given line room → place < length room.clients.items

@@ -1,7 +1,8 @@
 //! An office that serves: clients and orders come in, go on side by side, and have their turns one after the other.
 
-ghost use Rattle.std.specs.Prelude.{◌≡◌, ◌≤◌, ◌+◌, ◌*◌, ◌-◌, ◌^◌, ◌<◌, ℕ, [], IfSome, List, None, Ok, OnOk, Option, length, true};
+ghost use Rattle.std.specs.Prelude.{◌≡◌, ◌⊎◌, ◌≤◌, ◌+◌, ◌*◌, ◌-◌, ◌^◌, ◌<◌, ℕ, [], IfSome, List, None, Ok, OnOk, Option, length, true};
 ghost use Rattle.std.specs.Duration.{as_nanos};
+ghost use Rattle.std.specs.List.{insert};
 ghost use Rattle.sqlite.specs.State.{HasCleanDisk};
 ghost use Rattle.sqlite.specs.Held.{state};
 ghost use Rattle.gathering.specs.Lines.{line_of};
@@ -40,34 +41,48 @@ fn moment<C: Clock>(clock: &C) -> Result<u64, Broken> {
     }
 }
 
-/// One of those who are in goes on; whether he stays in. His half minute begins anew once he has his answer: however long his turn took, he
-/// has all of it.
+/// One of those who are in goes on, and is given back; whether he stays in. His half minute begins anew once he has his answer:
+/// however long his turn took, he has all of it.
 fn go_on<L: Line, C: Clock, A: Aside, S: Alter>(
     alloc: Global,
     clock: &C,
     terms: Terms<'_>,
     aside: &A,
-    client: &mut Client<L>,
+    client: Client<L>,
     office: &mut Office<S>,
     kept: &mut Kept,
-) -> Result<bool, Broken>
-    requires untold { IsUntold (line_of L.held L.taken) client.old }
-    ensures is { (start : L) → IsOf (line_of L.held L.taken) start client.old → IsOf (line_of L.held L.taken) start client.new }
-    ensures same { (client.new.door ≡ client.old.door) × (client.new.number ≡ client.old.number) }
-    ensures turn { MayHaveTurn (given_in terms.entry) (line_of L.held L.taken) (state S.Store) client.old client.new (desk_at office.old (reads_in kept.old)) (desk_at office.new (reads_in kept.new)) }
+) -> (Client<L>, Result<bool, Broken>)
+    requires untold { IsUntold (line_of L.held L.taken) client }
+    ensures is { (start : L) → IsOf (line_of L.held L.taken) start client → IsOf (line_of L.held L.taken) start result.0 }
+    ensures same { (result.0.door ≡ client.door) × (result.0.number ≡ client.number) }
+    ensures turn { MayHaveTurn (given_in terms.entry) (line_of L.held L.taken) (state S.Store) client result.0 (desk_at office.old (reads_in kept.old)) (desk_at office.new (reads_in kept.new)) }
 {
-    match attend(alloc, terms, aside, client, office, kept) {
-        Attended::Waits => Ok(true),
-        Attended::Served => {
-            client.since = moment(clock)?;
-            Ok(true)
-        }
-        Attended::Done => Ok(false),
-        Attended::Lost => Ok(false),
+    let (mut client, attended) = attend(alloc, terms, aside, client, office, kept);
+    match attended {
+        Attended::Waits => (client, Ok(true)),
+        Attended::Served => match moment(clock) {
+            Ok(now) => {
+                client.since = now;
+                (client, Ok(true))
+            }
+            Err(Broken) => (client, Err(Broken)),
+        },
+        Attended::Done => (client, Ok(false)),
+        Attended::Lost => (client, Ok(false)),
     }
 }
 
-/// The one at a place goes on. Where he is done, or lost, he leaves.
+/// Puts one back in his place. Where memory is wanting for it, he leaves.
+fn put_back<L: Line + Drop>(room: &mut Room<L>, place: usize, client: Client<L>)
+    requires { place ≤ length room.old.clients.items }
+    ensures items { (room.new.clients.items ≡ insert room.old.clients.items place client) ⊎ (room.new.clients.items ≡ room.old.clients.items) }
+    ensures came { room.new.came ≡ room.old.came }
+    ensures counted { room.new.counted ≡ room.old.counted }
+{
+    let _ = room.clients.insert(place, client);
+}
+
+/// The one at a place goes on. Where he is done, or lost, he leaves; and so he does where memory is wanting for his place.
 fn go_on_at<L: Line + Drop, C: Clock, A: Aside, S: Alter>(
     alloc: Global,
     clock: &C,
@@ -79,25 +94,19 @@ fn go_on_at<L: Line + Drop, C: Clock, A: Aside, S: Alter>(
     kept: &mut Kept,
 ) -> Result<(), Broken>
     requires place { place < length room.old.clients.items }
-    requires sound { IsSound (given_in terms.entry) (line_of L.held L.taken) room.old }
+    requires sound { IsSound (given_in terms) (line_of L.held L.taken) room.old }
     ensures goes_on { (let_in : Option (List (Comer L))) → GoesOnServing (given_in terms.entry) (line_of L.held L.taken) (state S.Store) let_in let_in room.old room.new (desk_at office.old (reads_in kept.old)) (desk_at office.new (reads_in kept.new)) }
     ensures came { room.new.came ≡ room.old.came }
     ensures counted { room.new.counted ≡ room.old.counted }
     ensures within { IsWithin room.old → OnOk result (IsWithin room.new) }
 {
-    if go_on(
-        alloc,
-        clock,
-        terms,
-        aside,
-        &mut room.clients[place],
-        office,
-        kept,
-    )? {
-        keep_within(room);
+    let client = room.clients.remove(place);
+    let (client, stays) = go_on(alloc, clock, terms, aside, client, office, kept);
+    if !stays? {
         return Ok(());
     }
-    drop(room.clients.remove(place));
+    put_back(room, place, client);
+    keep_within(room);
     Ok(())
 }
 
@@ -112,7 +121,7 @@ fn go_on_numbered<L: Line + Drop, C: Clock, A: Aside, S: Alter>(
     office: &mut Office<S>,
     kept: &mut Kept,
 ) -> Result<(), Broken>
-    requires { IsSound (given_in terms.entry) (line_of L.held L.taken) room.old }
+    requires { IsSound (given_in terms) (line_of L.held L.taken) room.old }
     ensures goes_on { (let_in : Option (List (Comer L))) → GoesOnServing (given_in terms.entry) (line_of L.held L.taken) (state S.Store) let_in let_in room.old room.new (desk_at office.old (reads_in kept.old)) (desk_at office.new (reads_in kept.new)) }
     ensures came { room.new.came ≡ room.old.came }
     ensures counted { room.new.counted ≡ room.old.counted }
@@ -135,7 +144,7 @@ fn go_on_all<D: Doors, C: Clock, A: Aside, S: Alter>(
     office: &mut Office<S>,
     kept: &mut Kept,
 ) -> Result<(), Broken>
-    requires { IsSound (given_in terms.entry) (line_of D.Line.held D.Line.taken) room.old }
+    requires { IsSound (given_in terms) (line_of D.Line.held D.Line.taken) room.old }
     ensures goes_on { GoesOnServing (given_in terms.entry) (line_of D.Line.held D.Line.taken) (state S.Store) (D.came doors.old) (D.came doors.new) room.old room.new (desk_at office.old (reads_in kept.old)) (desk_at office.new (reads_in kept.new)) }
     ensures came { room.new.came ≡ room.old.came }
     ensures counted { room.new.counted ≡ room.old.counted }
@@ -229,7 +238,7 @@ fn go_round<D: Doors, C: Clock, A: Aside, S: Alter>(
     office: &mut Office<S>,
     kept: &mut Kept,
 ) -> Result<bool, Broken>
-    requires { IsSound (given_in terms.entry) (line_of D.Line.held D.Line.taken) room.old }
+    requires { IsSound (given_in terms) (line_of D.Line.held D.Line.taken) room.old }
     ensures goes_on { GoesOnServing (given_in terms.entry) (line_of D.Line.held D.Line.taken) (state S.Store) (D.came doors.old) (D.came doors.new) room.old room.new (desk_at office.old (reads_in kept.old)) (desk_at office.new (reads_in kept.new)) }
     ensures few { room.old.counted ≤ most → room.new.counted ≤ most }
     ensures within { IsWithin room.old → OnOk result (IsWithin room.new) }

@@ -1,5 +1,5 @@
 -- Why `count_stages` keeps its promise.
-use Rattle.std.proofs.Common.{◌≡◌, ◌≢◌, ◌∙◌, ◌<◌, true, false, true≢false, length, ap, refl, sym, subst, arith}
+use Rattle.std.proofs.Common.{◌≡◌, ◌≢◌, ◌∙◌, ◌<◌, false, true≢false, length, sym, subst, arith}
 use Rattle.sqlite.specs.Held.{state}
 use Rattle.store.proofs.KeepLemmas.{wears_itself, wears_then}
 use Rattle.desk.specs.Pages.{below, cut_below, uncut, empty_page, fronted, page_of}

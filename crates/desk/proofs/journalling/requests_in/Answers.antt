@@ -1,5 +1,5 @@
 -- Why `requests_in` keeps its promise.
-use Rattle.std.proofs.Common.{◌∙◌, ap, map, sym}
+use Rattle.std.proofs.Common.{◌∙◌, ap, map}
 use Rattle.desk.specs.Cuttings.{line_entry, said_entry}
 use Rattle.desk.specs.Scripts.{lines_of, numbered_from}
 use Rattle.desk.proofs.JournalLemmas.{script_found, turns_of_text}

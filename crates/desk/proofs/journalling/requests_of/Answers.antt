@@ -1,5 +1,5 @@
 -- Why `requests_of` keeps its promise.
-use Rattle.std.proofs.Common.{◌≡◌, ◌∙◌, ◌∷◌, [], ◌++◌, map, sym, ap, ap₂}
+use Rattle.std.proofs.Common.{◌∙◌, ◌∷◌, [], ◌++◌, map, sym, ap, ap₂}
 use Rattle.std.proofs.lemmas.List.{map-append}
 use Rattle.desk.specs.declared.orders.Errand.TheVariants as errand
 use Rattle.desk.proofs.journalling.requests_of.Goals as goal

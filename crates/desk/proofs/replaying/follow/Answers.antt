@@ -1,5 +1,5 @@
 -- Why `follow` keeps its promise.
-use Rattle.std.proofs.Common.{◌∷◌, [], inl, refl}
+use Rattle.std.proofs.Common.{inl, refl}
 use Rattle.desk.proofs.replaying.follow.Goals as goal
 
 pub returns-in-Run-clause-did : goal.returns-in-Run-clause-did

@@ -1,5 +1,5 @@
 -- Why `send_turns` keeps its promise.
-use Rattle.std.proofs.Common.{◌≡◌, ◌∙◌, ◌<◌, true, false, length, ap, refl, sym, arith}
+use Rattle.std.proofs.Common.{◌≡◌, ◌∙◌, ◌<◌, true, false, length, ap, sym, arith}
 use Rattle.sqlite.specs.Held.{state}
 use Rattle.store.proofs.KeepLemmas.{wears_itself, wears_then}
 use Rattle.desk.specs.Headline.{told_above}
