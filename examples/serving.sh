@@ -38,6 +38,15 @@ ask() {
     curl --silent --show-error --max-time 60 --write-out '\nstatus %{http_code}\n' "$@" "http://127.0.0.1:$port$target"
 }
 
+# Gives an order whose output is closed.
+play_closed() {
+    local status=0
+    echo "\$ count-office $* >&-"
+    (cd "$folder" && "$office" "$@" 2>errors >&-) || status=$?
+    sed 's/^/error: /' "$folder/errors"
+    echo "status $status"
+}
+
 # What lies where the socket is made.
 look() {
     echo "\$ stat town.db-serve"
@@ -80,6 +89,7 @@ CSV
     ask /clerks/4/batches/12/keying -d '{"id":"k1","round":1,"papers":["1,2,","D"]}'
     ask /clerks/4/batches/13/keying -d '{"id":"k2","round":1,"papers":[",1,"]}'
     play town.db status 7
+    play_closed town.db status 7
     # the files that an order names are read by the order
     play town.db import-keying 9 12 1 nine.csv --id k1
     play town.db import-keying 9 12 1 none.csv --id k1

@@ -20,6 +20,10 @@ const RIGHTS: u32 = 0o600;
 /// The rights among the bits of a mode.
 const ALL_RIGHTS: u32 = 0o777;
 
+/// The descriptors of the standard streams are 0 to this one. One of them may have been closed: a stream that got it would be told
+/// what is meant for the output.
+const LAST_STREAM: i32 = 2;
+
 /// How many orders may wait to be let in.
 const QUEUE: i32 = 128;
 
@@ -109,5 +113,9 @@ pub fn reach(rt: &HostRuntime, database: &str) -> Option<UnixStream> {
     if mode & ALL_RIGHTS != RIGHTS {
         return None;
     }
-    UnixStream::connect(rt, path.as_str()).ok()
+    let stream = UnixStream::connect(rt, path.as_str()).ok()?;
+    if stream.as_raw_fd() > LAST_STREAM {
+        return Some(stream);
+    }
+    stream.try_clone().ok()
 }
