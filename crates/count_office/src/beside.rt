@@ -4,7 +4,7 @@
 //! database holds it (`held.rt`), so a socket that is there already is one that a stop left.
 
 use mio::net::UnixListener;
-use std::fs::{self, Files};
+use std::fs::{self, File, Files};
 use std::io::{self, ErrorKind};
 use std::net::Net;
 use std::os::fd::{AsFd, AsRawFd};
@@ -20,8 +20,7 @@ const RIGHTS: u32 = 0o600;
 /// The rights among the bits of a mode.
 const ALL_RIGHTS: u32 = 0o777;
 
-/// The descriptors of the standard streams are 0 to this one. One of them may have been closed: a stream that got it would be told
-/// what is meant for the output.
+/// The descriptors of the standard streams are 0 to this one.
 const LAST_STREAM: i32 = 2;
 
 /// How many orders may wait to be let in.
@@ -104,6 +103,20 @@ impl Beside {
     }
 }
 
+/// Holds the descriptors of standard streams that were closed: else a socket would get one, and what is meant for an output
+/// would go to whoever is behind it.
+pub fn closed_streams(rt: &HostRuntime) -> io::Result<Vec<File>> {
+    let mut held = Vec::new(rt.alloc());
+    for _ in 0..=LAST_STREAM {
+        let nothing = File::open(rt, "/dev/null")?;
+        if nothing.as_raw_fd() > LAST_STREAM {
+            break;
+        }
+        held.push(nothing)?;
+    }
+    Ok(held)
+}
+
 /// Reaches the office that serves a database; none, where nobody serves it.
 ///
 /// The socket has to be the database owner's, and for him alone: another's may give out what he likes.
@@ -113,9 +126,8 @@ pub fn reach(rt: &HostRuntime, database: &str) -> Option<UnixStream> {
     if mode & ALL_RIGHTS != RIGHTS {
         return None;
     }
-    let stream = UnixStream::connect(rt, path.as_str()).ok()?;
-    if stream.as_raw_fd() > LAST_STREAM {
-        return Some(stream);
-    }
-    stream.try_clone().ok()
+    let streams = closed_streams(rt).ok()?;
+    let stream = UnixStream::connect(rt, path.as_str()).ok();
+    drop(streams);
+    stream
 }

@@ -4,24 +4,19 @@ ghost use Rattle.std.specs.Prelude.{◌-◌, ◌^◌, ◌<◌};
 
 use crate::Place;
 use crate::aside::Machine;
-use crate::beside::{Beside, reason_of};
+use crate::beside::{Beside, closed_streams, reason_of};
 use desk::{Failure, tell_failure};
 use hall::{FileNumbers, Terms, serve_hall};
 use mio::net::{TcpListener, UnixListener};
 use office::Office;
 use sockets::Watch;
 use sqlite::{Alter, Connection};
-use std::fs::File;
 use std::io;
 use std::io::{ErrorKind, Write};
 use std::net::{Ipv4Addr, SocketAddr};
-use std::os::fd::AsRawFd;
 use store::Fault;
 use votes::{Broken, Sink};
 use wire::Origin;
-
-/// The descriptors of the standard streams are 0 to this one.
-const LAST_STREAM: i32 = 2;
 
 /// What `serve` was given: its port, after how many clients it ends, if it does, and the origin of a proxy, if one is given.
 #[derive(Clone, Copy)]
@@ -29,20 +24,6 @@ pub struct Serving<'a> {
     pub port: u32,
     pub connections: Option<u32>,
     pub origin: Option<Origin<'a>>,
-}
-
-/// Holds the descriptors of standard streams that were closed: else a socket would get one, and what is meant for the error
-/// output would go to whoever is behind it.
-fn closed_streams(rt: &HostRuntime) -> io::Result<Vec<File>> {
-    let mut held = Vec::new(rt.alloc());
-    for _ in 0..=LAST_STREAM {
-        let nothing = File::open(rt, "/dev/null")?;
-        if nothing.as_raw_fd() > LAST_STREAM {
-            break;
-        }
-        held.push(nothing)?;
-    }
-    Ok(held)
 }
 
 /// The doors of an office: a port of this machine, and the socket beside its database, if there is one.
