@@ -50,15 +50,6 @@ impl<'a> Client<'a> {
         }
     }
 
-    /// The door at which he comes in.
-    fn door(&self) -> Door {
-        if self.is_order {
-            Door::Orders
-        } else {
-            Door::Clients
-        }
-    }
-
     /// One who sends so many bytes at once, and takes as many.
     pub fn slow(sends: &'a [u8], at_once: usize) -> Client<'a> {
         Client {
@@ -201,6 +192,12 @@ impl<'c, 'p> Coming<'c, 'p> {
             told: 0,
         }
     }
+
+    /// The next comes in, under this number.
+    fn lets_in(&mut self, number: u64) {
+        self.next = self.next.saturating_add(1);
+        self.came = number.saturating_add(1);
+    }
 }
 
 impl<'c, 'p> Doors for Coming<'c, 'p> {
@@ -238,15 +235,21 @@ impl<'c, 'p> Doors for Coming<'c, 'p> {
             self.next = self.next.saturating_add(1);
             return Admitted::NotNow;
         };
-        if !client.is_order && !clients_too {
-            return Admitted::Nobody;
+        if client.is_order {
+            self.lets_in(number);
+            return Admitted::One(Comer {
+                door: Door::Orders,
+                line: Talk::new(*client, page),
+            });
         }
-        self.next = self.next.saturating_add(1);
-        self.came = number.saturating_add(1);
-        Admitted::One(Comer {
-            door: client.door(),
-            line: Talk::new(*client, page),
-        })
+        if clients_too {
+            self.lets_in(number);
+            return Admitted::One(Comer {
+                door: Door::Clients,
+                line: Talk::new(*client, page),
+            });
+        }
+        Admitted::Nobody
     }
 
     fn is_waited_at(&self) -> bool {

@@ -5,7 +5,7 @@ use super::begun::{BEGUN, KEYED, KEYING};
 use super::clients::{Client, Evening};
 use super::disks::Disks;
 use super::machine::{Machine, hear, play_acts, rows};
-use super::steps::Step;
+use super::steps::{Said, Step};
 use rand_core::utils::NextWord;
 use rand_pcg::Pcg32;
 use std::alloc::{AllocError, Global};
@@ -126,6 +126,16 @@ fn first_answer(page: &str) -> Option<(&str, &str)> {
     Some((status, behind.strip_prefix('\n').unwrap_or(behind)))
 }
 
+/// Serves clients who come at once, and says what they took.
+fn served<'a, M: Machine + Drop>(
+    alloc: Global,
+    machine: M,
+    clients: &'a [Option<Client<'a>>],
+) -> Result<(Vec<Said>, M), Fail> {
+    let evening = Evening::of(clients);
+    machine.play(alloc, &[Step::Serve(evening)])
+}
+
 fn clients_are_answered_as_they_ask<M: Machine + Drop>(
     rt: &(impl Abort + AllocGlobal),
 ) -> Result<(), Fail> {
@@ -140,7 +150,7 @@ fn clients_are_answered_as_they_ask<M: Machine + Drop>(
         .map(|bytes| Some(Client::whole(bytes)))
         .collect(alloc)?;
     let (before, machine): (String, M) = rows(alloc, keyed_by_both(rt)?)?;
-    let (said, machine) = machine.play(alloc, &[Step::Serve(Evening::of(&clients))])?;
+    let (said, machine) = served(alloc, machine, &clients)?;
     let mut page = said.first().ok_or("nothing was said")?.told().1;
     for bytes in &all {
         let (status, behind) = first_answer(page).ok_or("an answer is missing")?;

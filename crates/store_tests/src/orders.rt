@@ -7,7 +7,6 @@ use super::disks::Disks;
 use super::machine::{Machine, hear, hear_unchanged, play_acts};
 use super::steps::{Case, Step, TERMS};
 use desk::version::VERSION;
-use handover::{Handed, Piece, put_over, put_said, write};
 use std::alloc::Global;
 use std::process::Abort;
 use std::test::Fail;
@@ -66,46 +65,53 @@ impl<'a> Given<'a> {
         }
     }
 
-    /// Its message.
+    /// Its message, spelled here byte by byte.
     fn message(&self, alloc: Global) -> Result<Vec<u8>, Fail> {
-        let mut words = Vec::new(alloc);
+        let mut spelling = Vec::new(alloc);
+        put_string(&mut spelling, self.version.as_bytes())?;
+        spelling.extend_from_slice(&TERMS.file.device.to_be_bytes())?;
+        spelling.extend_from_slice(&self.inode.to_be_bytes())?;
+        put_string(&mut spelling, b"/tmp")?;
+        put_count(&mut spelling, self.words.len())?;
         for word in self.words {
-            words.push(Piece {
-                name: word.as_bytes(),
-                bytes: None,
-            })?;
+            put_string(&mut spelling, word.as_bytes())?;
+            spelling.push(0)?;
         }
-        let mut files = Vec::new(alloc);
+        put_count(&mut spelling, self.files.len())?;
         for (path, bytes) in self.files {
-            files.push(Piece {
-                name: path.as_bytes(),
-                bytes: Some(*bytes),
-            })?;
+            put_string(&mut spelling, path.as_bytes())?;
+            spelling.push(1)?;
+            put_string(&mut spelling, bytes)?;
         }
-        let spelling = write(
-            alloc,
-            &Handed {
-                version: self.version.as_bytes(),
-                device: TERMS.file.device,
-                inode: self.inode,
-                folder: b"/tmp",
-                words,
-                files,
-            },
-        )?;
         let mut message = Vec::from_slice(alloc, &(spelling.len() as u64).to_be_bytes())?;
         message.extend_from_slice(&spelling)?;
         Ok(message)
     }
 }
 
-/// What an order is told in frames: each of these, and at the end its status with what goes to the error output.
+/// Puts a number as four bytes.
+fn put_count(out: &mut Vec<u8>, count: usize) -> Result<(), Fail> {
+    Ok(out.extend_from_slice(&(count as u32).to_be_bytes())?)
+}
+
+/// Puts how many bytes there are, and the bytes.
+fn put_string(out: &mut Vec<u8>, bytes: &[u8]) -> Result<(), Fail> {
+    put_count(out, bytes.len())?;
+    Ok(out.extend_from_slice(bytes)?)
+}
+
+/// What an order is told in frames, spelled here byte by byte: each of these, and at the end its status with what goes to the
+/// error output.
 fn frames(alloc: Global, told: &[&str], status: u8, err: &str) -> Result<String, Fail> {
     let mut bytes = Vec::new(alloc);
     for text in told {
-        put_said(&mut bytes, text.as_bytes())?;
+        bytes.push(1)?;
+        put_string(&mut bytes, text.as_bytes())?;
     }
-    put_over(&mut bytes, status, err.as_bytes())?;
+    bytes.push(2)?;
+    put_count(&mut bytes, err.len().saturating_add(1))?;
+    bytes.push(status)?;
+    bytes.extend_from_slice(err.as_bytes())?;
     Ok(String::from_utf8(bytes)?)
 }
 
