@@ -12,9 +12,15 @@ mod worked;
 use count::{Bundles, Stage};
 use paper::{Columns, Prefs};
 use std::alloc::{AllocError, Global};
+use std::process::Abort;
 use std::test::Fail;
 use votes::{MAX_PAPERS, Votes};
-use worked::Expected;
+use worked::{Expected, Worked};
+
+/// This has to be so of a worked election.
+fn holds(rt: &impl Abort, worked: &Worked, what: &str, is_so: bool) {
+    assert!(rt; is_so, "{}: {what}", worked.name);
+}
 
 /// The candidates 1 to n.
 fn first_columns(n: u8) -> Columns {
@@ -87,21 +93,27 @@ fn are_units(votes: &[Votes], units: &[u64]) -> bool {
     true
 }
 
-/// Whether a stage records what it has to.
-fn records(stage: &Stage, expected: &Expected) -> bool {
+/// Whether the figures of a stage are what they have to be.
+fn has_figures(stage: &Stage, expected: &Expected) -> bool {
     let sums = (stage.non_transferable.units(), stage.lost.units());
-    stage.action == expected.action
-        && sums == expected.sums
-        && stage.elected.as_slice() == expected.elected
-        && are_units(&stage.votes, expected.votes)
+    sums == expected.sums && are_units(&stage.votes, expected.votes)
 }
 
-/// Whether these are all stages, and each records what it has to.
-fn record_all(stages: &[Stage], expected: &[Expected]) -> bool {
+/// Whether a stage records what it has to.
+fn records(stage: &Stage, expected: &Expected) -> bool {
+    let has_figures = has_figures(stage, expected);
+    stage.action == expected.action && stage.elected.as_slice() == expected.elected && has_figures
+}
+
+/// These are all stages of a worked election, and each records what it has to.
+fn record_all(rt: &impl Abort, worked: &Worked, stages: &[Stage], expected: &[Expected]) {
+    holds(
+        rt,
+        worked,
+        "how many stages",
+        stages.len() == expected.len(),
+    );
     for (stage, expected) in stages.iter().zip(expected) {
-        if !records(stage, expected) {
-            return false;
-        }
+        assert!(rt; records(stage, expected), "{}: {stage:?}", worked.name);
     }
-    stages.len() == expected.len()
 }

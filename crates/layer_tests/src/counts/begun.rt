@@ -3,14 +3,14 @@
 //! What a test does with one is written over any count. So a proof of that knows nothing of how a count keeps its papers, and is
 //! short.
 
-ghost use Rattle.std.specs.Prelude.{◌≡◌, []};
+ghost use Rattle.std.specs.Prelude.{◌≡◌, [], IfOk};
 ghost use Rattle.count.specs.Bundles.{papers_of};
 ghost use Rattle.count.specs.Law.Contest.{IsContest, contest_for};
 
 use super::worked::Worked;
 use super::{bundles_of, first_columns, papers_of};
 use count::{BundleBook, Bundles, CountBook, ParcelBook, is_bundled_contest, is_contest};
-use paper::Columns;
+use paper::{Columns, Prefs};
 use std::alloc::{AllocError, Global};
 use std::process::Abort;
 use std::test::Fail;
@@ -21,6 +21,20 @@ pub trait Counting {
         requires { B.history book.old ≡ [] };
 }
 
+/// Does so with a book of these papers, which lie in parcels.
+fn on_papers<C: Counting>(
+    rt: &impl Abort,
+    alloc: Global,
+    worked: &Worked,
+    papers: &[Prefs],
+    counting: &C,
+) -> Result<(), Fail> {
+    let candidates = first_columns(worked.candidates);
+    assert!(rt; is_contest(&candidates, worked.seats, papers));
+    let mut book = ParcelBook::new(alloc, candidates, worked.seats, papers)?;
+    counting.count(rt, &mut book)
+}
+
 /// Does so with a book whose papers lie in parcels.
 pub fn by_parcels<C: Counting>(
     rt: &impl Abort,
@@ -29,14 +43,7 @@ pub fn by_parcels<C: Counting>(
     counting: &C,
 ) -> Result<(), Fail> {
     let papers = papers_of(alloc, worked.papers)?;
-    let candidates = first_columns(worked.candidates);
-    assert!(rt;
-        is_contest(&candidates, worked.seats, &papers),
-        "{}",
-        worked.name
-    );
-    let mut book = ParcelBook::new(alloc, candidates, worked.seats, &papers)?;
-    counting.count(rt, &mut book)
+    on_papers(rt, alloc, worked, &papers, counting)
 }
 
 /// A new book, begun once more where a growth was refused.
@@ -64,11 +71,7 @@ pub fn on_bundles<C: Counting>(
     counting: &C,
 ) -> Result<(), Fail> {
     let candidates = first_columns(worked.candidates);
-    assert!(rt;
-        is_bundled_contest(&candidates, worked.seats, bundles),
-        "{}",
-        worked.name
-    );
+    assert!(rt; is_bundled_contest(&candidates, worked.seats, bundles));
     let mut book = begin_again(alloc, candidates, worked.seats, bundles)?;
     counting.count(rt, &mut book)
 }

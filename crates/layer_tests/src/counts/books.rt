@@ -10,8 +10,8 @@ ghost use Rattle.count.specs.Law.Right.{IsRight, IsRightForSome};
 use super::begun::{Counting, by_bundles, by_parcels};
 use super::kept::goes_on_from_what_was_kept;
 use super::rows::is_read_back_at_each;
-use super::worked::{Expected, WORKED, Worked};
-use super::{bundles_of, first_columns, record_all, with_all};
+use super::worked::{Expected, Worked, elections};
+use super::{bundles_of, first_columns, holds, record_all, with_all};
 use count::{
     BundleBook, Bundles, CountBook, CountEnd, Due, KeptCount, NextStage, Placed, Stage, count_to,
     due_by, is_bundled_contest, run_count,
@@ -32,15 +32,13 @@ struct ComesTo<'a> {
 
 impl<'a> Counting for ComesTo<'a> {
     fn count<B: CountBook>(&self, rt: &impl Abort, book: &mut B) -> Result<(), Fail> {
-        count_to(book, self.worked.lots, self.stages)?;
-        let (found, elected) = (book.stages().len(), book.elected());
-        let due = due_by(book, self.worked.lots);
-        assert!(rt;
-            found == self.stages && elected == self.elected,
-            "{}",
-            self.worked.name
-        );
-        assert!(rt; due == Due::Act(self.next.action), "{}", self.worked.name);
+        let worked = self.worked;
+        count_to(book, worked.lots, self.stages)?;
+        let found = book.stages().len();
+        holds(rt, worked, "how many stages", found == self.stages);
+        holds(rt, worked, "the elected", book.elected() == self.elected);
+        let next = Due::Act(self.next.action);
+        holds(rt, worked, "what is due", due_by(book, worked.lots) == next);
         Ok(())
     }
 }
@@ -66,13 +64,8 @@ fn ends_as_worked<B: CountBook>(rt: &impl Abort, book: &mut B, worked: &Worked) 
     requires { IsRight (B.contest book.old) worked.now.lots.now (B.history book.old) }
 {
     let end = run_count(book, worked.lots)?;
-    assert!(rt; end == CountEnd::Finished, "{}", worked.name);
-    assert!(rt;
-        record_all(book.stages(), worked.stages),
-        "{}: {:?}",
-        worked.name,
-        book.stages()
-    );
+    holds(rt, worked, "its end", end == CountEnd::Finished);
+    record_all(rt, worked, book.stages(), worked.stages);
     Ok(())
 }
 
@@ -88,6 +81,28 @@ impl<'a> Counting for ComesAsWorked<'a> {
     }
 }
 
+/// A book of these bundles after so many stages.
+fn counted<'a>(
+    alloc: Global,
+    candidates: Columns,
+    worked: &Worked,
+    bundles: &'a Bundles,
+    stages: usize,
+) -> Result<BundleBook<'a>, AllocError>
+    requires { IsContest (contest_for candidates worked.now.seats (papers_of bundles.now)) }
+{
+    let mut book = BundleBook::new(alloc, candidates, worked.seats, bundles)?;
+    count_to(&mut book, worked.lots, stages)?;
+    Ok(book)
+}
+
+/// Where a book stands.
+fn stands(alloc: Global, book: &BundleBook<'_>) -> Result<NextStage, AllocError> {
+    let places = Vec::from_slice(alloc, book.places())?;
+    let stages = Vec::from_slice(alloc, book.stages())?;
+    Ok(NextStage { places, stages })
+}
+
 /// Where a worked election stands by its bundles after so many stages.
 pub fn standing(
     rt: &impl Abort,
@@ -97,16 +112,9 @@ pub fn standing(
     stages: usize,
 ) -> Result<NextStage, Fail> {
     let candidates = first_columns(worked.candidates);
-    assert!(rt;
-        is_bundled_contest(&candidates, worked.seats, bundles),
-        "{}",
-        worked.name
-    );
-    let mut book = BundleBook::new(alloc, candidates, worked.seats, bundles)?;
-    count_to(&mut book, worked.lots, stages)?;
-    let places = Vec::from_slice(alloc, book.places())?;
-    let stages = Vec::from_slice(alloc, book.stages())?;
-    Ok(NextStage { places, stages })
+    assert!(rt; is_bundled_contest(&candidates, worked.seats, bundles));
+    let book = counted(alloc, candidates, worked, bundles, stages)?;
+    Ok(stands(alloc, &book)?)
 }
 
 /// The bundles of the first worked election after its second stage: a list, how many papers have it, who
@@ -118,12 +126,15 @@ const PLACES: [(&[u8], u32, u8, u64); 4] = [
     (&[3], 2, 3, 100000),
 ];
 
+/// Whether papers lie so.
+fn are_with(placed: &Placed, holder: u8, units: u64) -> bool {
+    placed.holder == holder && placed.value.units() == units
+}
+
 /// Whether a bundle lies so.
 fn lies_as(list: &Prefs, papers: u32, placed: &Placed, expected: &(&[u8], u32, u8, u64)) -> bool {
-    list.as_slice() == expected.0
-        && papers == expected.1
-        && placed.holder == expected.2
-        && placed.value.units() == expected.3
+    let are_there = are_with(placed, expected.2, expected.3);
+    list.as_slice() == expected.0 && papers == expected.1 && are_there
 }
 
 /// Each bundle lies where it has to.
@@ -136,7 +147,7 @@ fn lie_as(rt: &impl Abort, bundles: &Bundles, places: &[Placed]) {
 
 #[test]
 fn bundles_lie_where_their_papers_do(rt: HostRuntime) -> Result<(), Fail> {
-    let worked = WORKED.first().ok_or("no such election")?;
+    let worked = elections().first().ok_or("no such election")?;
     let bundles = bundles_of(rt.alloc(), worked.papers)?;
     let stood = standing(&rt, rt.alloc(), worked, &bundles, 2)?;
     lie_as(&rt, &bundles, &stood.places);
@@ -176,13 +187,9 @@ fn goes_on_from(
     let mut stood = BundleBook::new(alloc, candidates, worked.seats, bundles)?;
     count_to(&mut stood, worked.lots, stages)?;
     let (places, made) = (stood.places(), stood.stages());
-    assert!(rt;
-        places.len() == bundles.len() && made.len() == stages,
-        "{}",
-        worked.name
-    );
+    holds(rt, worked, "how many places", places.len() == bundles.len());
     let mut book = resume_again(alloc, candidates, worked.seats, bundles, places, made)?;
-    assert!(rt; book.stages().len() == stages, "{}", worked.name);
+    holds(rt, worked, "how many stages", book.stages().len() == stages);
     ends_as_worked(rt, &mut book, worked)
 }
 
@@ -197,7 +204,7 @@ fn goes_on_from_each(rt: &impl Abort, alloc: Global, worked: &Worked) -> Result<
 
 #[test]
 fn counts_go_on_from_each_stage(rt: HostRuntime) -> Result<(), Fail> {
-    for worked in &WORKED {
+    for worked in elections() {
         goes_on_from_each(&rt, rt.alloc(), worked)?;
     }
     Ok(())
@@ -212,7 +219,7 @@ fn both_books_count(rt: &impl Abort, alloc: Global, worked: &Worked) -> Result<(
 
 #[test]
 fn worked_elections_are_counted(rt: HostRuntime) -> Result<(), Fail> {
-    for worked in &WORKED {
+    for worked in elections() {
         goes_to_each(&rt, rt.alloc(), worked)?;
         both_books_count(&rt, rt.alloc(), worked)?;
         goes_on_from_what_was_kept::<KeptCount>(&rt, rt.alloc(), worked)?;

@@ -37,11 +37,17 @@ static BUNDLES: [(&[u8], u32); 6] = [
     (&[5], 1),
 ];
 
+/// Adds a paper with this list.
+fn add_list(bundles: &mut Bundles, list: &[u8]) -> Result<(), Fail> {
+    let list = prefs_of(list)?;
+    Ok(add(bundles, list)?)
+}
+
 /// The bundles of scattered papers, added one by one.
 fn scattered(alloc: Global) -> Result<Bundles, Fail> {
     let mut bundles = Bundles::new(alloc);
     for list in &SCATTERED {
-        add(&mut bundles, prefs_of(*list)?)?;
+        add_list(&mut bundles, *list)?;
     }
     Ok(bundles)
 }
@@ -54,35 +60,37 @@ fn add_several(bundles: &mut Bundles, list: Prefs, papers: u32) -> Result<(), Al
     Err(AllocError)
 }
 
-/// Each bundle, added twice, all its papers at once.
+/// Adds equal papers twice, all of them at once.
+fn add_twice(bundles: &mut Bundles, list: &[u8], papers: u32) -> Result<(), Fail> {
+    let list = prefs_of(list)?;
+    add_several(bundles, list, papers)?;
+    Ok(add_several(bundles, list, papers)?)
+}
+
+/// Each bundle, added twice.
 fn doubled(alloc: Global) -> Result<Bundles, Fail> {
     let mut bundles = Bundles::new(alloc);
-    for (list, papers) in BUNDLES.iter().chain(&BUNDLES) {
-        add_several(&mut bundles, prefs_of(*list)?, *papers)?;
+    for (list, papers) in &BUNDLES {
+        add_twice(&mut bundles, *list, *papers)?;
     }
     Ok(bundles)
 }
 
-/// A bundle has this list, and so many times the papers beside it.
-fn is_bundle(
-    rt: &impl Abort,
-    list: &Prefs,
-    papers: u32,
-    (expected, number): &(&[u8], u32),
-    times: u64,
-) {
-    assert!(rt;
-        list.as_slice() == *expected
-            && u64::from(papers) == times.saturating_mul(u64::from(*number)),
-        "{list:?}: {papers}"
-    );
+/// Whether a bundle has this list, and so many times the papers beside it.
+fn is_bundle(list: &Prefs, papers: u32, expected: &(&[u8], u32), times: u64) -> bool {
+    let wanted = times.saturating_mul(u64::from(expected.1));
+    list.as_slice() == expected.0 && u64::from(papers) == wanted
 }
 
 /// These are the six bundles, with so many times their papers.
 fn are_bundles(rt: &impl Abort, bundles: &Bundles, times: u64) {
-    assert!(rt; u64::from(bundles.papers()) == times.saturating_mul(15) && bundles.len() == 6);
+    let papers = u64::from(bundles.papers());
+    assert!(rt; papers == times.saturating_mul(15) && bundles.len() == 6);
     for ((list, papers), expected) in bundles.iter().zip(&BUNDLES) {
-        is_bundle(rt, list, *papers, expected, times);
+        assert!(rt;
+            is_bundle(list, *papers, expected, times),
+            "{list:?}: {papers}"
+        );
     }
 }
 
@@ -90,7 +98,10 @@ fn are_bundles(rt: &impl Abort, bundles: &Bundles, times: u64) {
 fn is_found(rt: &impl Abort, bundles: &Bundles) {
     assert!(rt; bundles.len() > 4);
     let (list, papers) = bundles.get(4);
-    is_bundle(rt, list, papers, &BUNDLES[4], 1);
+    assert!(rt;
+        is_bundle(list, papers, &BUNDLES[4], 1),
+        "{list:?}: {papers}"
+    );
 }
 
 #[test]

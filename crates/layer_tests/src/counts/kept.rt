@@ -1,7 +1,7 @@
 //! Counts that go on from what was kept of them.
 
 use super::worked::{Expected, Worked};
-use super::{bundles_of, first_columns, records, with_all};
+use super::{bundles_of, first_columns, holds, records, with_all};
 use count::{Due, KeptCount, NextStage, Placed, Stage};
 use paper::Columns;
 use std::alloc::Global;
@@ -66,24 +66,12 @@ impl Kept for KeptCount {
     }
 }
 
-/// Goes on by a stage, which has to record this.
-fn gone_on<K: Kept + Drop>(
-    alloc: Global,
-    worked: &Worked,
-    kept: &K,
-    expected: &Expected,
-) -> Result<K, Fail> {
-    let Some(next) = kept.following(alloc, worked)? else {
-        return Err(Fail::from("no stage is due"));
-    };
-    let is_recorded = match next.newest() {
+/// Whether its newest stage records this.
+fn has_recorded<K: Kept>(kept: &K, expected: &Expected) -> bool {
+    match kept.newest() {
         Some(stage) => records(stage, expected),
         None => false,
-    };
-    if is_recorded {
-        return Ok(next);
     }
-    Err(Fail::from(worked.name))
 }
 
 /// Counts a worked election stage by stage, each by what was kept of the stage before.
@@ -95,16 +83,19 @@ pub fn goes_on_from_what_was_kept<K: Kept + Drop>(
     let mut kept = K::begun(alloc, worked)?;
     let mut elected = Columns::empty();
     for expected in worked.stages {
-        kept = gone_on(alloc, worked, &kept, expected)?;
+        kept = kept.following(alloc, worked)?.ok_or("no stage is due")?;
         elected = with_all(elected, expected.elected);
-        assert!(rt;
-            kept.those_elected() == elected,
-            "{}: {elected:?}",
-            worked.name
+        holds(
+            rt,
+            worked,
+            "the newest stage",
+            has_recorded(&kept, expected),
         );
+        holds(rt, worked, "the elected", kept.those_elected() == elected);
     }
-    assert!(rt; kept.is_finished(worked), "{}", worked.name);
-    assert!(rt; kept.following(alloc, worked)?.is_none(), "{}", worked.name);
+    holds(rt, worked, "nothing is due", kept.is_finished(worked));
+    let is_last = kept.following(alloc, worked)?.is_none();
+    holds(rt, worked, "no stage follows", is_last);
     Ok(())
 }
 

@@ -3,7 +3,7 @@
 ghost use Rattle.std.specs.Prelude.{◌≡◌, []};
 
 use super::begun::{Counting, by_parcels};
-use super::worked::{WORKED, Worked};
+use super::worked::{Worked, elections};
 use count::{
     Action, AdvanceError, CountBook, CountEnd, Due, TiedFor, count_to, due_by, dues_to, run_count,
 };
@@ -14,7 +14,7 @@ use std::test::Fail;
 
 /// The election with a lot for an exclusion: 4 papers for candidate 1, two for 2, and two for 3.
 fn tied() -> Result<&'static Worked, &'static str> {
-    WORKED.get(4).ok_or("no such election")
+    elections().get(4).ok_or("no such election")
 }
 
 /// The lot that it asks for.

@@ -3,7 +3,7 @@
 ghost use Rattle.std.specs.Prelude.{◌≡◌, []};
 
 use super::begun::{Counting, by_parcels, on_bundles};
-use super::worked::{WORKED, Worked};
+use super::worked::{Worked, elections};
 use super::{add, papers_of};
 use count::{AdvanceError, Bundles, CountBook, Due};
 use paper::Prefs;
@@ -48,7 +48,7 @@ impl Counting for AdvancesAgain {
 
 /// The election with a surplus of papers at two values.
 fn with_surpluses() -> Result<&'static Worked, &'static str> {
-    WORKED.get(1).ok_or("no such election")
+    elections().get(1).ok_or("no such election")
 }
 
 #[test]

@@ -2,7 +2,7 @@
 
 use super::books::standing;
 use super::worked::Worked;
-use super::{bundles_of, first_columns, record_all};
+use super::{bundles_of, first_columns, holds, record_all};
 use count::{Bundles, KeptCount, NextStage};
 use register::tabulated::count_of;
 use register::{PlacedBundle, Tabulation};
@@ -42,18 +42,9 @@ fn is_as_it_stood(
     stages: usize,
 ) {
     let expected = &worked.stages[..stages.min(worked.stages.len())];
-    assert!(rt; kept.stages().len() == stages, "{}", worked.name);
-    assert!(rt;
-        record_all(kept.stages(), expected),
-        "{}: {:?}",
-        worked.name,
-        kept.stages()
-    );
-    assert!(rt;
-        kept.places() == stood.places.as_slice(),
-        "{}: {stages}",
-        worked.name
-    );
+    record_all(rt, worked, kept.stages(), expected);
+    let is_so = kept.stages().len() == stages && kept.places() == stood.places.as_slice();
+    holds(rt, worked, "how it stands", is_so);
 }
 
 /// Tabulates a worked election after so many stages, and reads it back.
