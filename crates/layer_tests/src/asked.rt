@@ -2,6 +2,7 @@
 
 ghost use Rattle.std.specs.Prelude.{◌-◌, ◌^◌, ◌<◌};
 
+use crate::printed::is_text;
 use std::alloc::{AllocError, Global};
 use std::fmt::Write;
 use std::io;
@@ -90,7 +91,7 @@ fn asks_in<R: Source>(
     requires { R.failed reader.old < 2 ^ 64 - 1 }
 {
     let text = asked_text(rt.alloc(), origin, reader)?;
-    assert_eq!(rt; text.as_str(), asked);
+    is_text(rt, text.as_str(), asked);
     Ok(())
 }
 

@@ -22,6 +22,11 @@ fn holds(rt: &impl Abort, worked: &Worked, what: &str, is_so: bool) {
     assert!(rt; is_so, "{}: {what}", worked.name);
 }
 
+/// This has to be so of the bundle of a list.
+fn holds_of_list(rt: &impl Abort, list: &Prefs, is_so: bool) {
+    assert!(rt; is_so, "{list:?}");
+}
+
 /// The candidates 1 to n.
 fn first_columns(n: u8) -> Columns {
     let mut columns = Columns::empty();
@@ -107,12 +112,8 @@ fn records(stage: &Stage, expected: &Expected) -> bool {
 
 /// These are all stages of a worked election, and each records what it has to.
 fn record_all(rt: &impl Abort, worked: &Worked, stages: &[Stage], expected: &[Expected]) {
-    holds(
-        rt,
-        worked,
-        "how many stages",
-        stages.len() == expected.len(),
-    );
+    let are_all = stages.len() == expected.len();
+    holds(rt, worked, "how many stages", are_all);
     for (stage, expected) in stages.iter().zip(expected) {
         assert!(rt; records(stage, expected), "{}: {stage:?}", worked.name);
     }

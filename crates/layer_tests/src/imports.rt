@@ -1,6 +1,7 @@
 //! Import files, read whole or refused, and the texts of their faults.
 
-use keyfile::{FileDigest, FileFault, Flaw, read_candidates, read_keying};
+use crate::printed::is_text;
+use keyfile::{CandidateRow, FileDigest, FileFault, Flaw, read_candidates, read_keying};
 use paper::Columns;
 use std::alloc::{AllocError, Global};
 use std::fmt::Write;
@@ -36,41 +37,42 @@ fn three() -> Columns {
     Columns::empty().with(1).with(2).with(3)
 }
 
-/// The papers of clerk 4's keying of batch 12, each behind a bar, or the fault. Want of memory is the error.
+/// Some papers, each behind a bar.
+fn papers_text(alloc: Global, papers: &[String]) -> Result<String, AllocError> {
+    let mut text = String::new(alloc);
+    for paper in papers {
+        text.push('|')?;
+        text.push_str(paper.as_str())?;
+    }
+    Ok(text)
+}
+
+/// The papers of clerk 4's keying of batch 12, or the fault. Want of memory is the error.
 fn keying_text<R: Read + Drop>(
     alloc: Global,
     file: R,
     digest: Option<FileDigest>,
 ) -> Result<String, AllocError> {
     match read_keying(alloc, file, three(), 12, 4, digest) {
-        Ok(papers) => {
-            let mut text = String::new(alloc);
-            for paper in &papers {
-                text.push('|')?;
-                text.push_str(paper.as_str())?;
-            }
-            Ok(text)
-        }
+        Ok(papers) => papers_text(alloc, &papers),
         Err(fault) => fault_text(alloc, fault),
     }
 }
 
-/// The candidates of a file, each behind a bar, or the fault.
+/// Some candidates, each behind a bar.
+fn rows_text(alloc: Global, rows: &[CandidateRow]) -> Result<String, AllocError> {
+    let mut text = String::new(alloc);
+    for row in rows {
+        let name = row.name.as_str();
+        write!(text, "|{} {} {name}", row.ward, row.candidate)?;
+    }
+    Ok(text)
+}
+
+/// The candidates of a file, or the fault. Want of memory is the error.
 fn candidates_text<R: Read + Drop>(alloc: Global, file: R) -> Result<String, AllocError> {
     match read_candidates(alloc, file, None) {
-        Ok(rows) => {
-            let mut text = String::new(alloc);
-            for row in &rows {
-                write!(
-                    text,
-                    "|{} {} {}",
-                    row.ward,
-                    row.candidate,
-                    row.name.as_str()
-                )?;
-            }
-            Ok(text)
-        }
+        Ok(rows) => rows_text(alloc, &rows),
         Err(fault) => fault_text(alloc, fault),
     }
 }
@@ -183,7 +185,7 @@ fn gives<R: Read + Drop>(
     wanted: &str,
 ) -> Result<(), Fail> {
     let text = keying_text(rt.alloc(), file, digest)?;
-    assert_eq!(rt; text.as_str(), wanted);
+    is_text(rt, text.as_str(), wanted);
     Ok(())
 }
 
@@ -203,7 +205,7 @@ fn all_give(
 /// A file of candidates gives them.
 fn gives_candidates(rt: &(impl Abort + AllocGlobal), file: &str, wanted: &str) -> Result<(), Fail> {
     let text = candidates_text(rt.alloc(), file.as_bytes())?;
-    assert_eq!(rt; text.as_str(), wanted);
+    is_text(rt, text.as_str(), wanted);
     Ok(())
 }
 

@@ -2,7 +2,7 @@
 
 ghost use Rattle.std.specs.Prelude.{◌-◌, ◌^◌, ◌<◌};
 
-use crate::printed::{Printed, candidates_of, print, stage_of, three_stages};
+use crate::printed::{Printed, candidates_of, is_text, print, stage_of, three_stages};
 use count::{Action, Stage};
 use paper::Columns;
 use sheet::{
@@ -335,8 +335,8 @@ fn is_foreign(text: &str) -> bool {
 fn compare(rt: &impl Abort, text: &str, above: &str, body: &str) -> Result<(), Fail> {
     match around_style(text) {
         Some((head, below)) => {
-            assert_eq!(rt; head, above);
-            assert_eq!(rt; below, body);
+            is_text(rt, head, above);
+            is_text(rt, below, body);
             assert!(rt; !is_foreign(text));
             Ok(())
         }

@@ -1,5 +1,6 @@
 //! Marks as they are read, and papers as they are judged.
 
+use crate::printed::is_text;
 use paper::{
     CandidateStatus, Columns, Keyed, MarkFault, Marked, Marks, Prefs, Standing, available_from,
     judge, next_available,
@@ -14,7 +15,8 @@ fn three() -> Columns {
 /// What is keyed by a text of a paper with columns 1, 2, 3, which is its text again.
 fn keyed(rt: &(impl Abort + AllocGlobal), text: &str) -> Result<Keyed, Fail> {
     let keyed = Marks::read(text.as_bytes(), three())?;
-    assert_eq!(rt; keyed.text(rt.alloc())?.as_str(), text);
+    let again = keyed.text(rt.alloc())?;
+    is_text(rt, again.as_str(), text);
     Ok(keyed)
 }
 
@@ -43,15 +45,22 @@ fn is_judged(rt: &impl Abort, paper: &Marked, (text, wanted, code): &(&str, &[u8
     }
 }
 
+/// A text is that of a doubtful paper.
+fn is_doubtful(rt: &(impl Abort + AllocGlobal), text: &str) -> Result<(), Fail> {
+    let keyed = keyed(rt, text)?;
+    assert!(rt; matches!(keyed, Keyed::Doubtful));
+    Ok(())
+}
+
 #[test]
 fn papers_are_judged(rt: HostRuntime) -> Result<(), Fail> {
     for case in &JUDGED {
-        is_judged(&rt, &marked(&rt, case.0)?, case);
+        let paper = marked(&rt, case.0)?;
+        is_judged(&rt, &paper, case);
     }
-    assert!(&rt; matches!(keyed(&rt, "D")?, Keyed::Doubtful));
     // Millions are held.
-    assert_eq!(&rt; std::mem::size_of::<Prefs>(), 30);
-    Ok(())
+    assert!(&rt; std::mem::size_of::<Prefs>() == 30);
+    is_doubtful(&rt, "D")
 }
 
 /// The fault of a text.

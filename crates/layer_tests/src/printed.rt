@@ -21,6 +21,11 @@ pub trait Printed {
         requires { W.failed sink.old < 2 ^ 64 - 1 };
 }
 
+/// A text has to be this.
+pub fn is_text(rt: &impl Abort, found: &str, wanted: &str) {
+    assert_eq!(rt; found, wanted);
+}
+
 /// What a sink in memory takes of it.
 fn written<P: Printed>(alloc: Global, printed: &P) -> Result<Vec<u8>, Broken> {
     let mut page = Vec::new(alloc);
@@ -32,8 +37,7 @@ fn written<P: Printed>(alloc: Global, printed: &P) -> Result<Vec<u8>, Broken> {
 fn breaks<P: Printed>(rt: &impl Abort, printed: &P, text: &str) {
     let mut room = [0; 20];
     let mut sink = Counted::new(room.as_mut_slice());
-    assert!(rt; printed.write(&mut sink).is_err());
-    assert_eq!(rt; sink.failures(), 1);
+    assert!(rt; printed.write(&mut sink).is_err() && sink.failures() == 1);
     assert!(rt; text.as_bytes().starts_with(&room));
 }
 
@@ -63,7 +67,7 @@ pub fn prints<P: Printed>(
     wanted: &str,
 ) -> Result<(), Fail> {
     let text = print(rt, printed)?;
-    assert_eq!(rt; text.as_str(), wanted);
+    is_text(rt, text.as_str(), wanted);
     Ok(())
 }
 

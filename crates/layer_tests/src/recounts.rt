@@ -1,7 +1,7 @@
 //! Texts checked against ballots, by the call itself: what is told of each, and the texts of an uncontested ward. (What else is
 //! told of ballots and texts is played in examples/transcripts/checks.txt.)
 
-use crate::printed::candidates_of;
+use crate::printed::{candidates_of, is_text};
 use count::Bundles;
 use recount::{Checked, Problem, check};
 use sheet::{Ward, ballots_text, can_be_printed, sheet_text};
@@ -77,7 +77,7 @@ fn tells(
     wanted: &str,
 ) -> Result<(), Fail> {
     let told = told(rt.alloc(), ballots.as_bytes(), text.as_bytes())?;
-    assert_eq!(rt; told.as_str(), wanted);
+    is_text(rt, told.as_str(), wanted);
     Ok(())
 }
 

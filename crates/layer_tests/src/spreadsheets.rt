@@ -1,6 +1,6 @@
 //! The stages of a ward as a table for a spreadsheet, byte for byte.
 
-use crate::printed::{candidates_of, three_stages};
+use crate::printed::{candidates_of, is_text, three_stages};
 use count::Stage;
 use sheet::{Ward, can_be_printed, spreadsheet_text};
 use std::process::Abort;
@@ -43,7 +43,7 @@ fn tabulates(
     };
     assert!(rt; can_be_printed(&ward));
     let text = spreadsheet_text(rt.alloc(), &ward, stages)?;
-    assert_eq!(rt; text.as_str(), table);
+    is_text(rt, text.as_str(), table);
     Ok(())
 }
 

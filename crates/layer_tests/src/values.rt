@@ -1,5 +1,6 @@
 //! Votes, their text, and the streams that it goes to.
 
+use crate::printed::is_text;
 use std::alloc::{AllocError, Global};
 use std::io;
 use std::io::{ErrorKind, Read, Write};
@@ -94,11 +95,10 @@ fn written(alloc: Global, votes: Votes) -> Result<Vec<u8>, Broken> {
 }
 
 fn prints(rt: &(impl Abort + AllocGlobal), votes: Votes, text: &str) -> Result<(), Fail> {
-    assert_eq!(rt; text_of(rt.alloc(), votes)?.as_str(), text);
-    assert!(rt;
-        written(rt.alloc(), votes)?.as_slice() == text.as_bytes(),
-        "{text}"
-    );
+    let printed = text_of(rt.alloc(), votes)?;
+    is_text(rt, printed.as_str(), text);
+    let page = written(rt.alloc(), votes)?;
+    assert!(rt; page.as_slice() == text.as_bytes());
     Ok(())
 }
 
@@ -150,26 +150,20 @@ fn writes_narrowly(alloc: Global, room: usize) -> (bool, u64, Vec<u8>) {
     (is_whole, failures, page)
 }
 
-/// Where there is less room than for all of its text, a beginning is taken, and one failure counted.
-fn keeps_a_beginning(rt: &(impl Abort + AllocGlobal), text: &[u8], room: usize) {
+/// Whether a beginning is taken, and one failure counted, where there is less room than for all of its text.
+fn keeps_a_beginning(alloc: Global, text: &[u8], room: usize) -> bool {
     let whole = room == text.len();
-    let (is_whole, failures, page) = writes_narrowly(rt.alloc(), room);
-    assert!(rt;
-        is_whole == whole && failures == u64::from(!whole),
-        "room {room}"
-    );
+    let (is_whole, failures, page) = writes_narrowly(alloc, room);
     let page = page.as_slice();
-    assert!(rt;
-        text.starts_with(page) && whole == (page == text),
-        "room {room}"
-    );
+    let is_beginning = text.starts_with(page) && whole == (page == text);
+    is_beginning && is_whole == whole && failures == u64::from(!whole)
 }
 
 #[test]
 fn a_sink_that_fails_keeps_a_beginning(rt: HostRuntime) {
     let text = b"2499751.00000".as_slice();
     for room in 0..=text.len() {
-        keeps_a_beginning(&rt, text, room);
+        assert!(rt; keeps_a_beginning(rt.alloc(), text, room), "room {room}");
     }
 }
 
@@ -219,6 +213,16 @@ fn gives_ballot<S: Source>(rt: &impl Abort, source: &mut S) {
     assert_eq!(rt; source.failures(), 0);
 }
 
+/// So many bytes are taken, or none where the call fails.
+fn puts<S: Sink>(rt: &impl Abort, sink: &mut S, bytes: &[u8], taken: Option<usize>) {
+    assert!(rt; put(sink, bytes) == taken);
+}
+
+/// So many bytes are given, or none where the call fails.
+fn fetches<S: Source>(rt: &impl Abort, source: &mut S, room: &mut [u8], given: Option<usize>) {
+    assert!(rt; fetch(source, room) == given);
+}
+
 /// A failure is of one call.
 fn fails_call_by_call<S: Sink + Source>(
     rt: &impl Abort,
@@ -226,12 +230,12 @@ fn fails_call_by_call<S: Sink + Source>(
     long: &[u8],
     room: &mut [u8],
 ) {
-    assert!(rt; put(torn, long).is_none());
-    assert_eq!(rt; Sink::failures(torn), 1);
-    assert!(rt; put(torn, long) == Some(long.len()));
-    assert!(rt; fetch(torn, room).is_none());
-    assert!(rt; fetch(torn, room) == Some(1));
-    assert_eq!(rt; Source::failures(torn), 2);
+    puts(rt, torn, long, None);
+    assert!(rt; Sink::failures(torn) == 1);
+    puts(rt, torn, long, Some(long.len()));
+    fetches(rt, torn, room, None);
+    fetches(rt, torn, room, Some(1));
+    assert!(rt; Source::failures(torn) == 2);
 }
 
 #[test]

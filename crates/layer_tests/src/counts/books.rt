@@ -11,7 +11,7 @@ use super::begun::{Counting, by_bundles, by_parcels};
 use super::kept::goes_on_from_what_was_kept;
 use super::rows::is_read_back_at_each;
 use super::worked::{Expected, Worked, elections};
-use super::{bundles_of, first_columns, holds, record_all, with_all};
+use super::{bundles_of, first_columns, holds, holds_of_list, record_all, with_all};
 use count::{
     BundleBook, Bundles, CountBook, CountEnd, Due, KeptCount, NextStage, Placed, Stage, count_to,
     due_by, is_bundled_contest, run_count,
@@ -139,9 +139,9 @@ fn lies_as(list: &Prefs, papers: u32, placed: &Placed, expected: &(&[u8], u32, u
 
 /// Each bundle lies where it has to.
 fn lie_as(rt: &impl Abort, bundles: &Bundles, places: &[Placed]) {
-    assert_eq!(rt; places.len(), PLACES.len());
+    assert!(rt; places.len() == PLACES.len());
     for (((list, papers), placed), expected) in bundles.iter().zip(places).zip(&PLACES) {
-        assert!(rt; lies_as(list, *papers, placed, expected), "{list:?}");
+        holds_of_list(rt, list, lies_as(list, *papers, placed, expected));
     }
 }
 

@@ -1,6 +1,6 @@
 //! Equal papers kept once.
 
-use super::{add, prefs_of};
+use super::{add, holds_of_list, prefs_of};
 use count::Bundles;
 use paper::Prefs;
 use std::alloc::{AllocError, Global};
@@ -87,10 +87,7 @@ fn are_bundles(rt: &impl Abort, bundles: &Bundles, times: u64) {
     let papers = u64::from(bundles.papers());
     assert!(rt; papers == times.saturating_mul(15) && bundles.len() == 6);
     for ((list, papers), expected) in bundles.iter().zip(&BUNDLES) {
-        assert!(rt;
-            is_bundle(list, *papers, expected, times),
-            "{list:?}: {papers}"
-        );
+        holds_of_list(rt, list, is_bundle(list, *papers, expected, times));
     }
 }
 
@@ -98,10 +95,7 @@ fn are_bundles(rt: &impl Abort, bundles: &Bundles, times: u64) {
 fn is_found(rt: &impl Abort, bundles: &Bundles) {
     assert!(rt; bundles.len() > 4);
     let (list, papers) = bundles.get(4);
-    assert!(rt;
-        is_bundle(list, papers, &BUNDLES[4], 1),
-        "{list:?}: {papers}"
-    );
+    holds_of_list(rt, list, is_bundle(list, papers, &BUNDLES[4], 1));
 }
 
 #[test]

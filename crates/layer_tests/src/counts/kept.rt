@@ -85,12 +85,8 @@ pub fn goes_on_from_what_was_kept<K: Kept + Drop>(
     for expected in worked.stages {
         kept = kept.following(alloc, worked)?.ok_or("no stage is due")?;
         elected = with_all(elected, expected.elected);
-        holds(
-            rt,
-            worked,
-            "the newest stage",
-            has_recorded(&kept, expected),
-        );
+        let has_recorded = has_recorded(&kept, expected);
+        holds(rt, worked, "the newest stage", has_recorded);
         holds(rt, worked, "the elected", kept.those_elected() == elected);
     }
     holds(rt, worked, "nothing is due", kept.is_finished(worked));
@@ -120,7 +116,7 @@ const PLACES: [(u8, u64, bool); 3] = [
 fn places_that_no_count_has_are_not_taken_up(rt: HostRuntime) -> Result<(), Fail> {
     for (holder, units, wanted) in &PLACES {
         let found = are_taken_up(rt.alloc(), *holder, *units)?;
-        assert_eq!(rt; found, *wanted, "{holder} {units}");
+        assert!(rt; found == *wanted, "{holder} {units}");
     }
     Ok(())
 }

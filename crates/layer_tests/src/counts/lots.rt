@@ -4,6 +4,7 @@ ghost use Rattle.std.specs.Prelude.{◌≡◌, []};
 
 use super::begun::{Counting, by_parcels};
 use super::worked::{Worked, elections};
+use crate::printed::is_text;
 use count::{
     Action, AdvanceError, CountBook, CountEnd, Due, TiedFor, count_to, due_by, dues_to, run_count,
 };
@@ -36,6 +37,16 @@ const ADVANCES: [(Option<u8>, Result<(), AdvanceError>); 6] = [
     (None, Err(AdvanceError::Finished)),
 ];
 
+/// An advance with this lot answers so.
+fn answers<B: CountBook>(
+    rt: &impl Abort,
+    book: &mut B,
+    lot: Option<u8>,
+    answer: &Result<(), AdvanceError>,
+) {
+    assert!(rt; book.advance(lot) == *answer, "lot {lot:?}");
+}
+
 /// Each advance answers so, and the count is finished then.
 #[derive(Drop)]
 struct TakesLots;
@@ -43,10 +54,9 @@ struct TakesLots;
 impl Counting for TakesLots {
     fn count<B: CountBook>(&self, rt: &impl Abort, book: &mut B) -> Result<(), Fail> {
         for (lot, answer) in &ADVANCES {
-            assert!(rt; book.advance(*lot) == *answer, "lot {lot:?}");
+            answers(rt, book, *lot, answer);
         }
-        assert!(rt; book.due() == Due::Finished);
-        assert_eq!(rt; book.stages().len(), 3);
+        assert!(rt; book.stages().len() == 3 && book.due() == Due::Finished);
         Ok(())
     }
 }
@@ -57,7 +67,14 @@ fn lots_are_asked_for(rt: HostRuntime) -> Result<(), Fail> {
 }
 
 /// Recorded lots; where a count with them ends; and what is due after its second stage, where it comes there.
-const LOTS: [(&[(u8, u8)], &str, Due); 4] = [
+type Recorded = (&'static [(u8, u8)], &'static str, Due);
+
+/// The cases. (A proof that reads them by this call knows none of them, and is short.)
+fn cases() -> &'static [Recorded] {
+    &LOTS
+}
+
+static LOTS: [Recorded; 4] = [
     (&[], "lot needed at 2", Due::Finished),
     (&[(3, 2)], "lot needed at 2", Due::Finished),
     (&[(2, 1)], "lot not among at 2", Due::Finished),
@@ -84,7 +101,7 @@ struct Ends<'a> {
 impl<'a> Counting for Ends<'a> {
     fn count<B: CountBook>(&self, rt: &impl Abort, book: &mut B) -> Result<(), Fail> {
         let end = run_count(book, self.lots)?;
-        assert_eq!(rt; end_text(end), self.end);
+        is_text(rt, end_text(end), self.end);
         Ok(())
     }
 }
@@ -115,13 +132,19 @@ struct DueAtEach<'a> {
 impl<'a> Counting for DueAtEach<'a> {
     fn count<B: CountBook>(&self, rt: &impl Abort, book: &mut B) -> Result<(), Fail> {
         let told = dues_to(self.alloc, book, self.lots, 3)?;
-        assert_eq!(rt; told.len(), 4);
-        assert!(rt; told.starts_with(&[Due::Act(Action::First), tied_lot()]));
-        if let Some(last) = &self.last {
-            assert!(rt; told.ends_with(last));
-        }
+        assert!(rt; are_due(&told, self.last));
         Ok(())
     }
+}
+
+/// Whether these four are due, of which the first two are always so, and the last two may be known.
+fn are_due(told: &[Due], last: Option<[Due; 2]>) -> bool {
+    let first = [Due::Act(Action::First), tied_lot()];
+    let ends = match last {
+        Some(last) => told.ends_with(&last),
+        None => true,
+    };
+    ends && told.starts_with(&first) && told.len() == 4
 }
 
 /// Recorded lots lead a count there.
@@ -129,7 +152,7 @@ fn decide(
     rt: &impl Abort,
     alloc: Global,
     tied: &Worked,
-    (lots, end, later): &(&[(u8, u8)], &str, Due),
+    (lots, end, later): &Recorded,
 ) -> Result<(), Fail> {
     let (lots, end, comes_there) = (*lots, *end, *end == "finished");
     by_parcels(rt, alloc, tied, &Ends { lots, end })?;
@@ -147,7 +170,7 @@ fn decide(
 #[test]
 fn recorded_lots_decide(rt: HostRuntime) -> Result<(), Fail> {
     let tied = tied()?;
-    for case in &LOTS {
+    for case in cases() {
         decide(&rt, rt.alloc(), tied, case)?;
     }
     Ok(())

@@ -11,14 +11,23 @@ use std::alloc::Global;
 use std::process::Abort;
 use std::test::Fail;
 
+/// Adds the stage that is due.
+fn advance<B: CountBook>(book: &mut B) -> Result<(), AdvanceError> {
+    book.advance(None)
+}
+
+/// Whether a book has so many stages, and this is due.
+fn stands_at<B: CountBook>(book: &B, stages: usize, due: &Due) -> bool {
+    book.stages().len() == stages && book.due() == *due
+}
+
 /// Adds a stage, and once more where a growth was refused, which has to leave the book as it was.
 fn advance_again<B: CountBook>(rt: &impl Abort, book: &mut B, stages: usize) {
     let due = book.due();
-    if book.advance(None) == Err(AdvanceError::Memory) {
-        assert!(rt; book.stages().len() == stages && book.due() == due);
-        assert!(rt; book.advance(None).is_ok());
+    if advance(book) == Err(AdvanceError::Memory) {
+        assert!(rt; stands_at(book, stages, &due) && advance(book).is_ok());
     }
-    assert_eq!(rt; book.stages().len(), stages.saturating_add(1));
+    assert!(rt; book.stages().len() == stages.saturating_add(1));
 }
 
 /// Adds a paper, and once more where a growth was refused, which has to leave the bundles as they were.
