@@ -119,33 +119,49 @@ const ASKED: [(&str, (&str, &str, u8)); 5] = [
     ("ballots text", (IS_SHEET, "", 0)),
 ];
 
-/// Asks the checker over outputs that take no more bytes than they have room for.
+/// Asks the checker over outputs that take no more bytes than they have room for, and gives its status.
+fn asked_over(alloc: Global, text: &str, out: &mut [u8], err: &mut [u8]) -> Result<u8, Fail> {
+    let words = Ok(words_of(alloc, "ballots text")?);
+    let (mut to_out, mut to_err) = (Counted::new(out), Counted::new(err));
+    Ok(asked(alloc, &words, text, &mut to_out, &mut to_err))
+}
+
+/// What is told of a text over outputs that have room for just this.
 fn breaks(
     rt: &(impl Abort + AllocGlobal),
-    text: &str,
-    out: &mut [u8],
-    err: &mut [u8],
-    told: (&str, &str),
+    (text, out_told, err_told): &(&str, &str, &str),
 ) -> Result<(), Fail> {
-    let words = Ok(words_of(rt.alloc(), "ballots text")?);
-    let (mut to_out, mut to_err) = (Counted::new(&mut *out), Counted::new(&mut *err));
-    let status = asked(rt.alloc(), &words, text, &mut to_out, &mut to_err);
+    let mut out = vec![in rt.alloc(); 0; out_told.len()]?;
+    let mut err = vec![in rt.alloc(); 0; err_told.len()]?;
+    let status = asked_over(rt.alloc(), *text, &mut out, &mut err)?;
     assert!(rt; status == 3);
-    is_told(rt, out, told.0);
-    is_told(rt, err, told.1);
+    is_told(rt, &out, *out_told);
+    is_told(rt, &err, *err_told);
     Ok(())
+}
+
+/// A text, and what an output and an error output take that have no room for more.
+const BROKEN: [(&str, &str, &str); 3] = [
+    (SHEET, "the text", "error: the output failed\n"),
+    (SHEET, "", "error"),
+    ("", "", "line 1"),
+];
+
+/// The checker's words can't be read.
+fn tells_no_words(rt: &(impl Abort + AllocGlobal)) {
+    let not_text = ("", "error: a word is not UTF-8\n", 2);
+    tells(rt, &Err(WordsFault::NotUtf8), &not_text);
+    tells(rt, &Err(WordsFault::Memory), &MEMORY);
 }
 
 #[test]
 fn what_fails_is_told(rt: HostRuntime) -> Result<(), Fail> {
-    let not_text = ("", "error: a word is not UTF-8\n", 2);
-    tells(&rt, &Err(WordsFault::NotUtf8), &not_text);
-    tells(&rt, &Err(WordsFault::Memory), &MEMORY);
+    tells_no_words(&rt);
     for (words, told) in &ASKED {
         asks(&rt, *words, told)?;
     }
-    let failed = ("the text", "error: the output failed\n");
-    breaks(&rt, SHEET, &mut [0; 8], &mut [0; 25], failed)?;
-    breaks(&rt, SHEET, &mut [], &mut [0; 5], ("", "error"))?;
-    breaks(&rt, "", &mut [], &mut [0; 6], ("", "line 1"))
+    for case in &BROKEN {
+        breaks(&rt, case)?;
+    }
+    Ok(())
 }

@@ -288,17 +288,18 @@ fn asks_nested(rt: &(impl Abort + AllocGlobal)) -> Result<(), Fail> {
     asks_keying(rt, "Content-Length: 200\r\n", nested.as_str(), "BadRequest")
 }
 
-/// The longest body that may be, of spaces alone. It is read at once: one byte at a time it would take long.
+/// A keying whose body is the longest that may be, of spaces alone.
+fn spaces(alloc: Global) -> Result<String, AllocError> {
+    let headers = format!(in alloc; "Content-Length: {MAX_BODY_BYTES}\r\n")?;
+    let head = keying(alloc, headers.as_str(), "")?;
+    repeated(alloc, head.as_str(), " ", MAX_BODY_BYTES as usize)
+}
+
+/// It is read at once: one byte at a time it would take long.
 fn asks_spaces(rt: &(impl Abort + AllocGlobal)) -> Result<(), Fail> {
-    let headers = format!(in rt.alloc(); "Content-Length: {MAX_BODY_BYTES}\r\n")?;
-    let head = keying(rt.alloc(), headers.as_str(), "")?;
-    let request = repeated(rt.alloc(), head.as_str(), " ", MAX_BODY_BYTES as usize)?;
-    asks_in(
-        rt,
-        None,
-        &mut Counted::new(request.as_bytes()),
-        "BadRequest",
-    )
+    let request = spaces(rt.alloc())?;
+    let mut reader = Counted::new(request.as_bytes());
+    asks_in(rt, None, &mut reader, "BadRequest")
 }
 
 #[test]

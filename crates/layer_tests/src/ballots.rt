@@ -56,18 +56,22 @@ impl<'a> Printed for WardBallots<'a> {
     }
 }
 
-/// The papers of the ward.
+/// The candidates of the ward.
+const NAMED: [(u8, &str); 3] = [(1, "Ann"), (3, "B. \"Bob\" \\ Brün"), (6, "Cy")];
+
+/// Its papers.
 const PAPERS: [(u32, &[u8]); 4] = [(1, &[6]), (2, &[1, 6]), (3, &[1, 3, 6]), (2, &[1])];
 
-fn prints_poll(rt: &(impl Abort + AllocGlobal)) -> Result<(), Fail> {
-    let named = [(1, "Ann"), (3, "B. \"Bob\" \\ Brün"), (6, "Cy")];
-    let candidates = candidates_of(rt.alloc(), &named)?;
-    let bundles = bundles_of(rt.alloc(), &PAPERS)?;
+fn prints_poll_of(
+    rt: &(impl Abort + AllocGlobal),
+    candidates: &[(u8, String)],
+    bundles: &Bundles,
+) -> Result<(), Fail> {
     let ward = Ward {
         number: 7,
         name: "Harbour # 7",
         seats: 2,
-        candidates: &candidates,
+        candidates,
         poll: Some(Poll {
             valid: 8,
             rejected: [1, 20, 300, 4000, 50000],
@@ -75,10 +79,16 @@ fn prints_poll(rt: &(impl Abort + AllocGlobal)) -> Result<(), Fail> {
     };
     let printed = WardBallots {
         ward: &ward,
-        bundles: &bundles,
+        bundles,
         lots: &[(2, 3), (4, 6)],
     };
     prints(rt, &printed, GAPS)
+}
+
+fn prints_poll(rt: &(impl Abort + AllocGlobal)) -> Result<(), Fail> {
+    let candidates = candidates_of(rt.alloc(), &NAMED)?;
+    let bundles = bundles_of(rt.alloc(), &PAPERS)?;
+    prints_poll_of(rt, &candidates, &bundles)
 }
 
 fn prints_uncontested(rt: &(impl Abort + AllocGlobal)) -> Result<(), Fail> {

@@ -168,6 +168,22 @@ fn asks_each(
     Ok(())
 }
 
+/// Which of some headers are foreign to an office that was given an origin with a port, and to one that was given
+/// another without.
+fn asks_proxied(
+    rt: &(impl Abort + AllocGlobal),
+    with_port: Option<Origin<'_>>,
+    without: Option<Origin<'_>>,
+    all: &[(&str, bool, bool)],
+) -> Result<(), Fail> {
+    for (headers, by_port, by_none) in all {
+        asks_with(rt, None, *headers, true)?;
+        asks_with(rt, with_port, *headers, !*by_port)?;
+        asks_with(rt, without, *headers, !*by_none)?;
+    }
+    Ok(())
+}
+
 #[test]
 fn pages_from_elsewhere_and_through_a_proxy(rt: HostRuntime) -> Result<(), Fail> {
     let with_port = Origin::parse("https://count.example.org:8443");
@@ -175,11 +191,7 @@ fn pages_from_elsewhere_and_through_a_proxy(rt: HostRuntime) -> Result<(), Fail>
     assert!(rt; with_port.is_some() && without.is_some());
     asks_each(&rt, with_port, &FOREIGN, true)?;
     asks_each(&rt, with_port, &OWN, false)?;
-    for (headers, by_port, by_none) in &PROXIED {
-        asks_with(&rt, None, *headers, true)?;
-        asks_with(&rt, with_port, *headers, !*by_port)?;
-        asks_with(&rt, without, *headers, !*by_none)?;
-    }
+    asks_proxied(&rt, with_port, without, &PROXIED)?;
     asks(
         &rt,
         b"GET /nothing\r\nOrigin: http://evil.example\r\n\r\n",

@@ -74,6 +74,34 @@ fn has_recorded<K: Kept>(kept: &K, expected: &Expected) -> bool {
     }
 }
 
+/// Goes on by a stage, which has to record this; so many are elected then.
+fn gone_on<K: Kept + Drop>(
+    rt: &impl Abort,
+    alloc: Global,
+    worked: &Worked,
+    kept: &K,
+    (expected, elected): (&Expected, Columns),
+) -> Result<K, Fail> {
+    let next = kept.following(alloc, worked)?.ok_or("no stage is due")?;
+    let has_recorded = has_recorded(&next, expected);
+    holds(rt, worked, "the newest stage", has_recorded);
+    holds(rt, worked, "the elected", next.those_elected() == elected);
+    Ok(next)
+}
+
+/// Nothing is due any more.
+fn is_at_its_end<K: Kept + Drop>(
+    rt: &impl Abort,
+    alloc: Global,
+    worked: &Worked,
+    kept: &K,
+) -> Result<(), Fail> {
+    holds(rt, worked, "nothing is due", kept.is_finished(worked));
+    let is_last = kept.following(alloc, worked)?.is_none();
+    holds(rt, worked, "no stage follows", is_last);
+    Ok(())
+}
+
 /// Counts a worked election stage by stage, each by what was kept of the stage before.
 pub fn goes_on_from_what_was_kept<K: Kept + Drop>(
     rt: &impl Abort,
@@ -83,16 +111,10 @@ pub fn goes_on_from_what_was_kept<K: Kept + Drop>(
     let mut kept = K::begun(alloc, worked)?;
     let mut elected = Columns::empty();
     for expected in worked.stages {
-        kept = kept.following(alloc, worked)?.ok_or("no stage is due")?;
         elected = with_all(elected, expected.elected);
-        let has_recorded = has_recorded(&kept, expected);
-        holds(rt, worked, "the newest stage", has_recorded);
-        holds(rt, worked, "the elected", kept.those_elected() == elected);
+        kept = gone_on(rt, alloc, worked, &kept, (expected, elected))?;
     }
-    holds(rt, worked, "nothing is due", kept.is_finished(worked));
-    let is_last = kept.following(alloc, worked)?.is_none();
-    holds(rt, worked, "no stage follows", is_last);
-    Ok(())
+    is_at_its_end(rt, alloc, worked, &kept)
 }
 
 /// Whether two papers that lie so are taken up.
