@@ -393,16 +393,6 @@ fn undeclared<'a>(ward: &'a Ward<'a>, stages: &'a [Stage], lots: &'a [(u8, u8)])
     }
 }
 
-/// Nine stages stand in two tables; and lots.
-fn prints_tables_and_lots(rt: &(impl Abort + AllocGlobal), ward: &Ward) -> Result<(), Fail> {
-    let nobody = Columns::empty();
-    let equal = stage_of(Action::First, [300000; 3], nobody, 0);
-    let excluded = stage_of(Action::Exclude(3), [300000, 300000, 0], nobody, 0);
-    has_words(rt, &undeclared(ward, &[excluded; 9], &[]), &TABLES)?;
-    let lots = &[(2, 3), (3, 1)];
-    has_words(rt, &undeclared(ward, &[equal, excluded], lots), &LOTS)
-}
-
 /// A ward of the page of all wards.
 fn listed(
     alloc: Global,
@@ -471,12 +461,32 @@ fn poll_of(rejected: [u32; 5]) -> Option<Poll> {
     Some(Poll { valid: 9, rejected })
 }
 
+/// The ward of a poll with rejected papers of each code.
+fn with_rejected<'a>(candidates: &'a [(u8, String)]) -> Ward<'a> {
+    harbour(candidates, 2, poll_of([1, 20, 300, 4000, 50000]))
+}
+
+/// Nine stages stand in two tables; and lots.
+fn prints_tables_and_lots(
+    rt: &(impl Abort + AllocGlobal),
+    candidates: &[(u8, String)],
+) -> Result<(), Fail> {
+    let ward = with_rejected(candidates);
+    let nobody = Columns::empty();
+    let equal = stage_of(Action::First, [300000; 3], nobody, 0);
+    let excluded = stage_of(Action::Exclude(3), [300000, 300000, 0], nobody, 0);
+    let nine = [excluded; 9];
+    has_words(rt, &undeclared(&ward, &nine, &[]), &TABLES)?;
+    let stages = [equal, excluded];
+    has_words(rt, &undeclared(&ward, &stages, &[(2, 3), (3, 1)]), &LOTS)
+}
+
 /// Prints the page of a declared ward, and those before its first stage and at more of them.
 fn prints_contested(
     rt: &(impl Abort + AllocGlobal),
     candidates: &[(u8, String)],
 ) -> Result<(), Fail> {
-    let ward = harbour(candidates, 2, poll_of([1, 20, 300, 4000, 50000]));
+    let ward = with_rejected(candidates);
     let stages = three_stages();
     let printed = WardPage {
         ward: &ward,
@@ -486,7 +496,7 @@ fn prints_contested(
         lots: &[(3, 2)],
     };
     prints_page(rt, &printed, HEAD, DECLARED)?;
-    prints_tables_and_lots(rt, &ward)?;
+    prints_tables_and_lots(rt, candidates)?;
     let ward = harbour(candidates, 2, poll_of([0; 5]));
     prints_page(rt, &undeclared(&ward, &[], &[]), HEAD, NO_STAGE)
 }
