@@ -74,7 +74,7 @@ fn cases() -> &'static [Recorded] {
     &LOTS
 }
 
-static LOTS: [Recorded; 4] = [
+const LOTS: [Recorded; 4] = [
     (&[], "lot needed at 2", Due::Finished),
     (&[(3, 2)], "lot needed at 2", Due::Finished),
     (&[(2, 1)], "lot not among at 2", Due::Finished),
