@@ -69,11 +69,7 @@ fn lots_are_asked_for(rt: HostRuntime) -> Result<(), Fail> {
 /// Recorded lots; where a count with them ends; and what is due after its second stage, where it comes there.
 type Recorded = (&'static [(u8, u8)], &'static str, Due);
 
-/// The cases. (A proof that reads them by this call knows none of them, and is short.)
-fn cases() -> &'static [Recorded] {
-    &LOTS
-}
-
+/// The cases.
 const LOTS: [Recorded; 4] = [
     (&[], "lot needed at 2", Due::Finished),
     (&[(3, 2)], "lot needed at 2", Due::Finished),
@@ -170,7 +166,7 @@ fn decide(
 #[test]
 fn recorded_lots_decide(rt: HostRuntime) -> Result<(), Fail> {
     let tied = tied()?;
-    for case in cases() {
+    for case in &LOTS {
         decide(&rt, rt.alloc(), tied, case)?;
     }
     Ok(())
