@@ -3,7 +3,7 @@
 
 ghost use Rattle.std.specs.Prelude.{◌-◌, ◌^◌, ◌<◌};
 
-use crate::printed::is_text;
+use crate::printed::is_told;
 use crate::recounts::{BALLOTS, SHEET};
 use recount::{Folder, Unread, WordsFault, run};
 use std::alloc::{AllocError, Global};
@@ -72,15 +72,6 @@ fn asked<O: Sink, E: Sink>(
         text,
     };
     run(alloc, words, &folder, out, err)
-}
-
-/// This was told.
-fn is_told(rt: &impl Abort, found: &[u8], wanted: &str) {
-    is_text(
-        rt,
-        std::str::from_utf8(found).unwrap_or("not UTF-8"),
-        wanted,
-    );
 }
 
 /// Asks the checker by some words, and compares what it tells on the output and the error output, and its status.

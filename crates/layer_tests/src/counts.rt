@@ -22,9 +22,9 @@ fn holds(rt: &impl Abort, worked: &Worked, what: &str, is_so: bool) {
     assert!(rt; is_so, "{}: {what}", worked.name);
 }
 
-/// This has to be so of the bundle of a list.
-fn holds_of_list(rt: &impl Abort, list: &Prefs, is_so: bool) {
-    assert!(rt; is_so, "{list:?}");
+/// This has to be so of the bundle of a list and so many papers.
+fn holds_of_list(rt: &impl Abort, list: &Prefs, papers: u32, is_so: bool) {
+    assert!(rt; is_so, "{list:?}: {papers}");
 }
 
 /// The candidates 1 to n.
@@ -110,11 +110,16 @@ fn records(stage: &Stage, expected: &Expected) -> bool {
     stage.action == expected.action && stage.elected.as_slice() == expected.elected && has_figures
 }
 
+/// A stage of a worked election records what it has to.
+fn record_one(rt: &impl Abort, worked: &Worked, stage: &Stage, expected: &Expected) {
+    assert!(rt; records(stage, expected), "{}: {stage:?}", worked.name);
+}
+
 /// These are all stages of a worked election, and each records what it has to.
 fn record_all(rt: &impl Abort, worked: &Worked, stages: &[Stage], expected: &[Expected]) {
     let are_all = stages.len() == expected.len();
-    holds(rt, worked, "how many stages", are_all);
+    holds(rt, worked, "how many stages are recorded", are_all);
     for (stage, expected) in stages.iter().zip(expected) {
-        assert!(rt; records(stage, expected), "{}: {stage:?}", worked.name);
+        record_one(rt, worked, stage, expected);
     }
 }

@@ -84,10 +84,8 @@ const FAULTS: [(&str, MarkFault, u32); 9] = [
 /// A text has its fault.
 fn has_fault(rt: &impl Abort, (text, fault, number): &(&str, MarkFault, u32)) {
     let found = fault_of(text.as_bytes(), three());
-    assert!(rt;
-        found == Some(*fault) && fault.number() == *number,
-        "at {text}"
-    );
+    assert!(rt; found == Some(*fault), "at {text}");
+    assert!(rt; fault.number() == *number, "at {text}");
 }
 
 /// What is keyed of a paper with no columns.

@@ -26,6 +26,15 @@ pub fn is_text(rt: &impl Abort, found: &str, wanted: &str) {
     assert_eq!(rt; found, wanted);
 }
 
+/// Bytes have to be this text.
+pub fn is_told(rt: &impl Abort, found: &[u8], wanted: &str) {
+    is_text(
+        rt,
+        std::str::from_utf8(found).unwrap_or("not UTF-8"),
+        wanted,
+    );
+}
+
 /// What a sink in memory takes of it.
 fn written<P: Printed>(alloc: Global, printed: &P) -> Result<Vec<u8>, Broken> {
     let mut page = Vec::new(alloc);
@@ -48,7 +57,7 @@ fn reaches_sinks<P: Printed>(
     text: &str,
 ) -> Result<(), Fail> {
     let page = written(rt.alloc(), printed)?;
-    assert!(rt; page.as_slice() == text.as_bytes());
+    is_told(rt, &page, text);
     breaks(rt, printed, text);
     Ok(())
 }

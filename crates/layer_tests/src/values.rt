@@ -1,6 +1,6 @@
 //! Votes, their text, and the streams that it goes to.
 
-use crate::printed::is_text;
+use crate::printed::{is_text, is_told};
 use std::alloc::{AllocError, Global};
 use std::io;
 use std::io::{ErrorKind, Read, Write};
@@ -98,7 +98,7 @@ fn prints(rt: &(impl Abort + AllocGlobal), votes: Votes, text: &str) -> Result<(
     let printed = text_of(rt.alloc(), votes)?;
     is_text(rt, printed.as_str(), text);
     let page = written(rt.alloc(), votes)?;
-    assert!(rt; page.as_slice() == text.as_bytes());
+    is_told(rt, &page, text);
     Ok(())
 }
 
@@ -201,7 +201,10 @@ fn gives<S: Source>(
     room: &mut [u8],
     (count, held): (usize, &[u8]),
 ) {
-    assert!(rt; fetch(source, room) == Some(count) && &*room == held);
+    assert!(rt;
+        fetch(source, room) == Some(count) && &*room == held,
+        "{count} bytes given"
+    );
 }
 
 /// A source that holds `ballot` gives it by four bytes.
@@ -215,12 +218,12 @@ fn gives_ballot<S: Source>(rt: &impl Abort, source: &mut S) {
 
 /// So many bytes are taken, or none where the call fails.
 fn puts<S: Sink>(rt: &impl Abort, sink: &mut S, bytes: &[u8], taken: Option<usize>) {
-    assert!(rt; put(sink, bytes) == taken);
+    assert!(rt; put(sink, bytes) == taken, "{taken:?} taken");
 }
 
 /// So many bytes are given, or none where the call fails.
 fn fetches<S: Source>(rt: &impl Abort, source: &mut S, room: &mut [u8], given: Option<usize>) {
-    assert!(rt; fetch(source, room) == given);
+    assert!(rt; fetch(source, room) == given, "{given:?} given");
 }
 
 /// A failure is of one call.

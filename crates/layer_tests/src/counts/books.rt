@@ -141,7 +141,7 @@ fn lies_as(list: &Prefs, papers: u32, placed: &Placed, expected: &(&[u8], u32, u
 fn lie_as(rt: &impl Abort, bundles: &Bundles, places: &[Placed]) {
     assert!(rt; places.len() == PLACES.len());
     for (((list, papers), placed), expected) in bundles.iter().zip(places).zip(&PLACES) {
-        holds_of_list(rt, list, lies_as(list, *papers, placed, expected));
+        holds_of_list(rt, list, *papers, lies_as(list, *papers, placed, expected));
     }
 }
 
@@ -189,7 +189,7 @@ fn goes_on_from(
     let (places, made) = (stood.places(), stood.stages());
     holds(rt, worked, "how many places", places.len() == bundles.len());
     let mut book = resume_again(alloc, candidates, worked.seats, bundles, places, made)?;
-    holds(rt, worked, "how many stages", book.stages().len() == stages);
+    holds(rt, worked, "where it starts", book.stages().len() == stages);
     ends_as_worked(rt, &mut book, worked)
 }
 

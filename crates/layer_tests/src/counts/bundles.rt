@@ -85,9 +85,10 @@ fn is_bundle(list: &Prefs, papers: u32, expected: &(&[u8], u32), times: u64) -> 
 /// These are the six bundles, with so many times their papers.
 fn are_bundles(rt: &impl Abort, bundles: &Bundles, times: u64) {
     let papers = u64::from(bundles.papers());
-    assert!(rt; papers == times.saturating_mul(15) && bundles.len() == 6);
+    let are_six = papers == times.saturating_mul(15) && bundles.len() == 6;
+    assert!(rt; are_six, "{papers} papers");
     for ((list, papers), expected) in bundles.iter().zip(&BUNDLES) {
-        holds_of_list(rt, list, is_bundle(list, *papers, expected, times));
+        holds_of_list(rt, list, *papers, is_bundle(list, *papers, expected, times));
     }
 }
 
@@ -95,7 +96,7 @@ fn are_bundles(rt: &impl Abort, bundles: &Bundles, times: u64) {
 fn is_found(rt: &impl Abort, bundles: &Bundles) {
     assert!(rt; bundles.len() > 4);
     let (list, papers) = bundles.get(4);
-    holds_of_list(rt, list, is_bundle(list, papers, &BUNDLES[4], 1));
+    holds_of_list(rt, list, papers, is_bundle(list, papers, &BUNDLES[4], 1));
 }
 
 #[test]

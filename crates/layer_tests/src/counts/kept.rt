@@ -1,7 +1,7 @@
 //! Counts that go on from what was kept of them.
 
 use super::worked::{Expected, Worked};
-use super::{bundles_of, first_columns, holds, records, with_all};
+use super::{bundles_of, first_columns, holds, record_one, with_all};
 use count::{Due, KeptCount, NextStage, Placed, Stage};
 use paper::Columns;
 use std::alloc::Global;
@@ -66,11 +66,11 @@ impl Kept for KeptCount {
     }
 }
 
-/// Whether its newest stage records this.
-fn has_recorded<K: Kept>(kept: &K, expected: &Expected) -> bool {
+/// Its newest stage records this.
+fn has_recorded<K: Kept>(rt: &impl Abort, worked: &Worked, kept: &K, expected: &Expected) {
     match kept.newest() {
-        Some(stage) => records(stage, expected),
-        None => false,
+        Some(stage) => record_one(rt, worked, stage, expected),
+        None => holds(rt, worked, "the newest stage", false),
     }
 }
 
@@ -83,9 +83,8 @@ fn gone_on<K: Kept + Drop>(
     (expected, elected): (&Expected, Columns),
 ) -> Result<K, Fail> {
     let next = kept.following(alloc, worked)?.ok_or("no stage is due")?;
-    let has_recorded = has_recorded(&next, expected);
-    holds(rt, worked, "the newest stage", has_recorded);
-    holds(rt, worked, "the elected", next.those_elected() == elected);
+    has_recorded(rt, worked, &next, expected);
+    holds(rt, worked, "those elected", next.those_elected() == elected);
     Ok(next)
 }
 

@@ -27,7 +27,10 @@ fn advance_again<B: CountBook>(rt: &impl Abort, book: &mut B, stages: usize) {
     if advance(book) == Err(AdvanceError::Memory) {
         assert!(rt; stands_at(book, stages, &due) && advance(book).is_ok());
     }
-    assert!(rt; book.stages().len() == stages.saturating_add(1));
+    assert!(rt;
+        book.stages().len() == stages.saturating_add(1),
+        "after {stages}"
+    );
 }
 
 /// Adds a paper, and once more where a growth was refused, which has to leave the bundles as they were.

@@ -2,7 +2,7 @@
 
 use super::books::standing;
 use super::worked::Worked;
-use super::{bundles_of, first_columns, holds, record_all};
+use super::{bundles_of, first_columns, record_all};
 use count::{Bundles, KeptCount, NextStage};
 use register::tabulated::count_of;
 use register::{PlacedBundle, Tabulation};
@@ -44,7 +44,7 @@ fn is_as_it_stood(
     let expected = &worked.stages[..stages.min(worked.stages.len())];
     record_all(rt, worked, kept.stages(), expected);
     let is_so = kept.stages().len() == stages && kept.places() == stood.places.as_slice();
-    holds(rt, worked, "how it stands", is_so);
+    assert!(rt; is_so, "{}: {stages}", worked.name);
 }
 
 /// Tabulates a worked election after so many stages, and reads it back.
