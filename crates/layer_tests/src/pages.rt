@@ -516,7 +516,7 @@ fn prints_uncontested(
         lots: &[],
     };
     prints_page(rt, &printed, HEAD, UNCONTESTED)?;
-    prints_page(rt, &undeclared(&ward, &stages, &[]), HEAD, NOT_DECLARED)
+    prints_page(rt, &undeclared(&ward, &[], &[]), HEAD, NOT_DECLARED)
 }
 
 /// Candidates whose names look like markup or are written from right to left.
