@@ -36,7 +36,7 @@ error_ends taken calls old new text ends (inl all) = all.2
 error_ends taken calls old new text ends (inr part) = part.2
 
 module _ {O E : Type 0} (taken : O → Option (List ℕ)) (calls : O → ℕ) (taken_err : E → Option (List ℕ)) (calls_err : E → ℕ) where
-  outputs : O → E → Outputs
+  abbrev outputs : O → E → Outputs
   outputs out err = outputs_of taken calls taken_err calls_err out err
 
   -- a failure that is told of an office that is left as it is
@@ -47,18 +47,19 @@ module _ {O E : Type 0} (taken : O → Option (List ℕ)) (calls : O → ℕ) (t
       record { page = failed failure; cut = told.0; shown = told.1; is = λ clean was s at. inr (inr (failure, refl)) }
 
   module _ {S : Type 0} (state_of : Held S → State) (old new : OfficeValue S) (left : CopyState) (blank full : State) where
+    -- what is told of the copy, of the office that was open
+    abbrev TellsCopy : O → O → E → E → ℕ → Type 0
+    TellsCopy out out_new err err_new ends = Tells (outputs out err) (outputs out_new err_new) ends (λ cut page. WhenOpenAt state_of old new (λ s. IsCopyTold s page))
+
     -- what a copy tells, and behind it, with status 0, how its files are closed
     pub closed_told : (out out_new : O) (err err_mid err_new : E) (status ends : ℕ)
         → Tells (outputs out err) (outputs out_new err_mid) status (λ cut page. HoldsCopy left page blank full × WhenOpenAt state_of old new (λ s. IsCopiedOpen s page left blank full) × (old.closed ≡ true → page ≡ closed_page))
         → (¬ (status ≡ 0) → (ends ≡ status) × (err_new ≡ err_mid)) → (status ≡ 0 → EndsCopy taken_err calls_err err_mid err_new ends)
-        → Tells (outputs out err) (outputs out_new err_new) ends (λ cut page. WhenOpenAt state_of old new (λ s. IsCopyTold s page))
+        → TellsCopy out out_new err err_new ends
     closed_told out out_new err err_mid err_new status ends told other whole = by (status == 0) refl
       where
-        Goal : Type 0
-        Goal = Tells (outputs out err) (outputs out_new err_new) ends (λ cut page. WhenOpenAt state_of old new (λ s. IsCopyTold s page))
-
         -- it is all that is told
-        alone : ends ≡ status → err_new ≡ err_mid → Goal
+        alone : ends ≡ status → err_new ≡ err_mid → TellsCopy out out_new err err_new ends
         alone same stays = record {
           page = told.page;
           cut = told.cut;
@@ -68,7 +69,7 @@ module _ {O E : Type 0} (taken : O → Option (List ℕ)) (calls : O → ℕ) (t
         }
 
         -- and the failure is told below it
-        below_it : status ≡ 0 → IsErrorTold taken_err calls_err err_mid err_new (failed CopyFailed).err 3 ends → Goal
+        below_it : status ≡ 0 → IsErrorTold taken_err calls_err err_mid err_new (failed CopyFailed).err 3 ends → TellsCopy out out_new err err_new ends
         below_it zero error =
             let first = whole_at_zero told.cut (outputs out err) (outputs out_new err_mid) told.page status zero told.shown in
             let next = error_shown taken calls taken_err calls_err out_new err_mid err_new (failed CopyFailed) ends refl error in
@@ -81,10 +82,10 @@ module _ {O E : Type 0} (taken : O → Option (List ℕ)) (calls : O → ℕ) (t
                   copy_unclosed s told.page left blank full (shown_zero told.cut (outputs out err) (outputs out_new err_mid) told.page status told.shown zero).1 (told.is.1 clean was s at);
             }
 
-        at_zero : status ≡ 0 → EndsCopy taken_err calls_err err_mid err_new ends → Goal
+        at_zero : status ≡ 0 → EndsCopy taken_err calls_err err_mid err_new ends → TellsCopy out out_new err err_new ends
         at_zero zero (inl same) = alone (same.0 ∙ sym zero) same.1
         at_zero zero (inr error) = below_it zero error
 
-        by : (t : Bool) → (status == 0) ≡ t → Goal
+        by : (t : Bool) → (status == 0) ≡ t → TellsCopy out out_new err err_new ends
         by true e = let zero = eqb-true status 0 e in at_zero zero (whole zero)
         by false e = let it = other (λ zero. true≢false (sym (ap (λ n. n == 0) zero) ∙ e)) in alone it.0 it.1

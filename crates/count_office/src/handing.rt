@@ -1,6 +1,7 @@
 //! An order on a database that another program serves: it is handed over to that one, and what it tells is printed as it comes.
 
-ghost use Rattle.std.specs.Prelude.{◌≡◌, ◌≢◌, ◌-◌, ◌^◌, ◌<◌, Err, None, OnErr};
+ghost use Rattle.std.specs.Prelude.{◌≡◌, ◌≢◌, ◌-◌, ◌^◌, ◌<◌, Err, None, IfOk, IfSome, OnErr};
+ghost use Rattle.handover.specs.Spelling.{PieceFits, PiecesFit, piece_entries, piece_entry};
 
 use crate::beside;
 use desk::version::VERSION;
@@ -26,11 +27,18 @@ const SAID: u8 = 1;
 
 const OVER: u8 = 2;
 
-/// A file that an order names, with its bytes, or without where it can't be read.
+/// A word of an order; or a file that it names, with its bytes, or without where it can't be read.
 #[derive(Drop)]
-struct Brought {
-    path: String,
+struct Part {
+    name: String,
     bytes: Option<Vec<u8>>,
+}
+
+/// The words of an order, and the files that it reads.
+#[derive(Drop)]
+struct Parcel {
+    words: Vec<Part>,
+    files: Vec<Part>,
 }
 
 /// The bytes of a file, no more of them than a message may have and one; none, where it can't be read.
@@ -44,21 +52,21 @@ fn bytes_at(rt: &HostRuntime, path: &str) -> Option<Vec<u8>> {
 }
 
 /// Reads the file at a path, unless it was read before.
-fn bring(rt: &HostRuntime, files: &mut Vec<Brought>, path: &str) -> Result<(), AllocError> {
-    if files.iter().any(|file| file.path.as_str() == path) {
+fn bring(rt: &HostRuntime, files: &mut Vec<Part>, path: &str) -> Result<(), AllocError> {
+    if files.iter().any(|file| file.name.as_str() == path) {
         return Ok(());
     }
     let bytes = bytes_at(rt, path);
-    let path = String::from_str(rt.alloc(), path)?;
-    files.push(Brought { path, bytes })?;
+    let name = String::from_str(rt.alloc(), path)?;
+    files.push(Part { name, bytes })?;
     Ok(())
 }
 
 /// The paths that the script names which was read first.
-fn named_by(alloc: Global, files: &[Brought]) -> Result<Vec<String>, AllocError> {
+fn named_by(alloc: Global, files: &[Part]) -> Result<Vec<String>, AllocError> {
     match files.first() {
         Some(
-            Brought {
+            Part {
                 bytes: Some(script),
                 ..
             },
@@ -68,7 +76,7 @@ fn named_by(alloc: Global, files: &[Brought]) -> Result<Vec<String>, AllocError>
 }
 
 /// The files that an order reads, each read once: its own, and for a script those that its lines name.
-fn files_of(rt: &HostRuntime, order: &Order<'_>) -> Result<Vec<Brought>, AllocError> {
+fn files_of(rt: &HostRuntime, order: &Order<'_>) -> Result<Vec<Part>, AllocError> {
     let mut files = Vec::new(rt.alloc());
     let Order::Perform(task) = order else {
         return Ok(files);
@@ -84,49 +92,85 @@ fn files_of(rt: &HostRuntime, order: &Order<'_>) -> Result<Vec<Brought>, AllocEr
     Ok(files)
 }
 
-/// Words as they are handed over.
-fn word_pieces<'b>(alloc: Global, words: &[&'b str]) -> Result<Vec<Piece<'b>>, AllocError> {
-    let mut pieces = Vec::new(alloc);
+/// The words of an order.
+fn words_of(alloc: Global, words: &[&str]) -> Result<Vec<Part>, AllocError> {
+    let mut parts = Vec::new(alloc);
     for word in words {
-        pieces.push(Piece {
-            name: word.as_bytes(),
+        parts.push(Part {
+            name: String::from_str(alloc, word)?,
             bytes: None,
         })?;
     }
-    Ok(pieces)
+    Ok(parts)
 }
 
-/// Files as they are handed over.
-fn file_pieces(alloc: Global, files: &[Brought]) -> Result<Vec<Piece<'_>>, AllocError> {
-    let mut pieces = Vec::new(alloc);
-    for file in files {
-        pieces.push(Piece {
-            name: file.path.as_bytes(),
-            bytes: match &file.bytes {
-                Some(bytes) => Some(bytes.as_slice()),
-                None => None,
-            },
-        })?;
+/// What is handed over of an order of these words.
+fn parcel_of(rt: &HostRuntime, words: &[&str], order: &Order<'_>) -> Result<Parcel, AllocError> {
+    Ok(Parcel {
+        words: words_of(rt.alloc(), words)?,
+        files: files_of(rt, order)?,
+    })
+}
+
+/// A word or a file as it is handed over; none, where it is longer than a message may be.
+fn piece_of(part: &Part) -> Option<Piece<'_>>
+    ensures { IfSome result (λ piece. PieceFits (piece_entry piece)) }
+{
+    let name = part.name.as_bytes();
+    if name.len() > MAX_MESSAGE {
+        return None;
     }
-    Ok(pieces)
+    match &part.bytes {
+        Some(bytes) if bytes.len() > MAX_MESSAGE => None,
+        Some(bytes) => Some(Piece {
+            name,
+            bytes: Some(bytes.as_slice()),
+        }),
+        None => Some(Piece { name, bytes: None }),
+    }
 }
 
-/// The message of an order on the database at a path, of these words and files; or why there is none.
-fn message_of(
-    rt: &HostRuntime,
-    database: &str,
-    words: &[&str],
-    files: &[Brought],
-) -> Result<Vec<u8>, Fault> {
-    let (Ok(found), Ok(folder)) = (fs::metadata(rt, database), env::current_dir(rt)) else {
+/// Words or files as they are handed over; none, where one is longer than a message may be, or there are more.
+fn fitting(alloc: Global, parts: &[Part]) -> Result<Option<Vec<Piece<'_>>>, AllocError>
+    ensures { IfOk result (λ found. IfSome found (λ pieces. PiecesFit (piece_entries pieces.items))) }
+{
+    let mut pieces = Vec::new(alloc);
+    for part in parts {
+        match piece_of(part) {
+            Some(piece) => pieces.push(piece)?,
+            None => return Ok(None),
+        }
+    }
+    if pieces.len() > MAX_MESSAGE {
+        return Ok(None);
+    }
+    Ok(Some(pieces))
+}
+
+/// Words or files as they are handed over; or why they aren't.
+fn pieces_of(alloc: Global, parts: &[Part]) -> Result<Vec<Piece<'_>>, Fault>
+    ensures { IfOk result (λ pieces. PiecesFit (piece_entries pieces.items)) }
+{
+    match fitting(alloc, parts) {
+        Ok(Some(pieces)) => Ok(pieces),
+        Ok(None) => Err(Fault::Store),
+        Err(AllocError) => Err(Fault::Memory),
+    }
+}
+
+/// The message of an order on the database at a path; or why there is none.
+fn message_of(rt: &HostRuntime, database: &str, parcel: &Parcel) -> Result<Vec<u8>, Fault> {
+    let Ok(found) = fs::metadata(rt, database) else {
         return Err(Fault::Store);
     };
-    let (Ok(words), Ok(files)) = (
-        word_pieces(rt.alloc(), words),
-        file_pieces(rt.alloc(), files),
-    ) else {
-        return Err(Fault::Memory);
+    let Ok(folder) = env::current_dir(rt) else {
+        return Err(Fault::Store);
     };
+    if folder.as_str().len() > MAX_MESSAGE {
+        return Err(Fault::Store);
+    }
+    let words = pieces_of(rt.alloc(), &parcel.words)?;
+    let files = pieces_of(rt.alloc(), &parcel.files)?;
     let handed = Handed {
         version: VERSION.as_bytes(),
         device: found.dev(),
@@ -241,10 +285,10 @@ pub fn hand_over<O: Sink, E: Sink>(
     ensures { result ≡ None → (out.new ≡ out.old) × (err.new ≡ err.old) }
 {
     let mut stream = beside::reach(rt, database)?;
-    let Ok(files) = files_of(rt, order) else {
+    let Ok(parcel) = parcel_of(rt, words, order) else {
         return Some(tell_failure(Failure::Office(Fault::Memory), err));
     };
-    let message = match message_of(rt, database, words, &files) {
+    let message = match message_of(rt, database, &parcel) {
         Ok(message) => message,
         Err(fault) => return Some(tell_failure(Failure::Office(fault), err)),
     };

@@ -22,11 +22,11 @@ returns-in-Some-clause-told g c =
 pub returns-in-Some-clause-stays : goal.returns-in-Some-clause-stays
 returns-in-Some-clause-stays g c clean was s at = inl (record { is_open = was; at = at })
 
-pub returns-in-None-clause-told : goal.returns-in-None-clause-told
-returns-in-None-clause-told g c =
+pub returns-clause-told : goal.returns-clause-told
+returns-clause-told g c =
     let made = c.copy_open-status in
     closed_told g.O.Sink.taken g.O.Sink.failed g.E.Sink.taken g.E.Sink.failed (state g.S.Store) c.args.office.now made.new.office made.result.1 _ _
     c.args.out.now made.new.out c.args.err.now made.new.err c.finish.new.err made.result.0 c.finish.result made.ensures.copied c.finish.ensures.other c.finish.ensures.whole
 
-pub returns-in-None-clause-clean : goal.returns-in-None-clause-clean
-returns-in-None-clause-clean g c clean = c.copy_open-status.ensures.reads.clean clean
+pub returns-clause-clean : goal.returns-clause-clean
+returns-clause-clean g c clean = c.copy_open-status.ensures.reads.clean clean

@@ -2,8 +2,8 @@
 use Rattle.std.proofs.Common.{◌≡◌}
 use Rattle.count_office.proofs.handing.print_said.Given as goal
 
-abbrev pub invariant-loop-out : goal.invariant-loop-out
-invariant-loop-out g l = g.O.Sink.failed l.out ≡ g.O.Sink.failed l.fn.out
+abbrev pub invariant-loop-left : goal.invariant-loop-left
+invariant-loop-left g l = g.O.Sink.failed l.out ≡ g.O.Sink.failed l.fn.out
 
-abbrev pub decreases-loop-out : goal.decreases-loop-out
-decreases-loop-out g l = l.left
+abbrev pub decreases-loop-left : goal.decreases-loop-left
+decreases-loop-left g l = l.left
