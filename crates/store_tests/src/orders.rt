@@ -91,7 +91,10 @@ impl<'a> Given<'a> {
 
 /// Puts a number as four bytes.
 fn put_count(out: &mut Vec<u8>, count: usize) -> Result<(), Fail> {
-    Ok(out.extend_from_slice(&(count as u32).to_be_bytes())?)
+    let Ok(count) = u32::try_from(count) else {
+        return Err(Fail::from("no count of four bytes"));
+    };
+    Ok(out.extend_from_slice(&count.to_be_bytes())?)
 }
 
 /// Puts how many bytes there are, and the bytes.
@@ -115,13 +118,33 @@ fn frames(alloc: Global, told: &[&str], status: u8, err: &str) -> Result<String,
     Ok(String::from_utf8(bytes)?)
 }
 
-/// Orders come at once, and are told this.
+/// A step in which orders come at once, and are told this.
 fn told_of<'a>(orders: &'a [Option<Client<'a>>], told: &'a str) -> Case<'a> {
     let evening = Evening {
         connections: Some(0),
         ..Evening::of(orders)
     };
     (Step::Serve(evening), (0, told, "Ok(())"))
+}
+
+/// Orders come at once, and are told this.
+fn are_told<'a, M: Machine + Drop>(
+    rt: &(impl Abort + AllocGlobal),
+    machine: M,
+    orders: &'a [Option<Client<'a>>],
+    told: &'a str,
+) -> Result<M, Fail> {
+    hear(rt, machine, &[told_of(orders, told)])
+}
+
+/// The same, and they change nothing.
+fn are_told_unchanged<'a, M: Machine + Drop>(
+    rt: &(impl Abort + AllocGlobal),
+    machine: M,
+    orders: &'a [Option<Client<'a>>],
+    told: &'a str,
+) -> Result<M, Fail> {
+    hear_unchanged(rt, machine, &[told_of(orders, told)])
 }
 
 /// Orders that aren't followed, each with its status and why: of another program, for another file, which no office does while it
@@ -163,7 +186,7 @@ fn are_refused<M: Machine + Drop>(rt: &(impl Abort + AllocGlobal), machine: M) -
         .iter()
         .map(|message| Some(Client::order(message)))
         .collect(alloc)?;
-    hear_unchanged(rt, machine, &[told_of(&orders, told.as_str())])
+    are_told_unchanged(rt, machine, &orders, told.as_str())
 }
 
 /// Messages that are no orders: one that is too long and one that ends too early are let go, and one that spells nothing is
@@ -180,7 +203,40 @@ fn are_none<M: Machine + Drop>(rt: &(impl Abort + AllocGlobal), machine: M) -> R
         Some(Client::order(b"\0\0\0\0\x7f\0\0\0abc")),
         Some(early),
     ];
-    hear_unchanged(rt, machine, &[told_of(&orders, told.as_str())])
+    are_told_unchanged(rt, machine, &orders, told.as_str())
+}
+
+/// An order, a client's keying, and an order that comes a few bytes at a time.
+fn around_a_keying<'a>(
+    before: &'a [u8],
+    keying: &'a [u8],
+    behind: &'a [u8],
+) -> [Option<Client<'a>>; 3] {
+    let slow = Client {
+        at_once: 3,
+        sips: 3,
+        ..Client::order(behind)
+    };
+    [
+        Some(Client::order(before)),
+        Some(Client::whole(keying)),
+        Some(slow),
+    ]
+}
+
+/// One client comes, and orders beside him, and they are told this.
+fn with_one_client<'a, M: Machine + Drop>(
+    rt: &(impl Abort + AllocGlobal),
+    machine: M,
+    comers: &'a [Option<Client<'a>>],
+    told: &'a str,
+) -> Result<M, Fail> {
+    let evening = Evening {
+        connections: Some(1),
+        ..Evening::of(comers)
+    };
+    let step = Step::Serve(evening);
+    hear(rt, machine, &[(step, (0, told, "Ok(())"))])
 }
 
 /// Orders have their turns among clients: one before a keying and one behind it tell how the ward stood. They come a few bytes
@@ -200,25 +256,13 @@ fn come_among_clients<M: Machine + Drop>(
         "ward 7 keying: 3 candidates, 1 batches, 0 taken, 0 differing, 0 doubtful open, 0 stages";
     let told = frames(alloc, &[before, "\n"], 0, "")?;
     let keyed = frames(alloc, IMPORTED, 0, "")?;
-    let comers = [
-        Some(Client::order(status.as_slice())),
-        Some(Client::whole(KEYING.as_bytes())),
-        Some(Client {
-            at_once: 3,
-            sips: 3,
-            ..Client::order(import.as_slice())
-        }),
-    ];
-    let mut out = String::new(alloc);
-    for text in [told.as_str(), "\n", KEYED, "\n", keyed.as_str()] {
-        out.push_str(text)?;
-    }
-    let evening = Evening {
-        connections: Some(1),
-        ..Evening::of(&comers)
-    };
-    let step = Step::Serve(evening);
-    hear(rt, machine, &[(step, (0, out.as_str(), "Ok(())"))])
+    let comers = around_a_keying(status.as_slice(), KEYING.as_bytes(), import.as_slice());
+    let mut out = told;
+    out.push('\n')?;
+    out.push_str(KEYED)?;
+    out.push('\n')?;
+    out.push_str(keyed.as_str())?;
+    with_one_client(rt, machine, &comers, out.as_str())
 }
 
 /// A script has one turn. Its refusal is told behind the number of its line, and what was done before stands.
@@ -233,7 +277,7 @@ fn follow_scripts<M: Machine + Drop>(
     let message = given.message(rt.alloc())?;
     let told = frames(rt.alloc(), IMPORTED, 1, "line 2: refused 9: wrong phase\n")?;
     let orders = [Some(Client::order(message.as_slice()))];
-    hear(rt, machine, &[told_of(&orders, told.as_str())])
+    are_told(rt, machine, &orders, told.as_str())
 }
 
 /// The lines of orders break at each byte that they take. The keying is kept from the first of them on, and told again.
@@ -260,7 +304,7 @@ fn break_at_each_byte<M: Machine + Drop>(
     }
     orders.push(Some(Client::order(message.as_slice())))?;
     told.push_str(whole.as_str())?;
-    hear(rt, machine, &[told_of(&orders, told.as_str())])
+    are_told(rt, machine, &orders, told.as_str())
 }
 
 fn are_handed_over<M: Machine + Drop>(rt: &(impl Abort + AllocGlobal)) -> Result<(), Fail> {
