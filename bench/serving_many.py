@@ -3,7 +3,7 @@
 
     bench/serving_many.py [--write] [PAPERS]        100000 where none is given; a multiple of 500
 
-Keyings: twenty clerks key batches of 500 papers, while 300 connections say nothing; beside it one clerk who keys alone. They key as
+Keyings: twenty clerks key batches of 500 papers, while 300 connections say nothing; before it one at a time. They key as
 fast as they are answered, or with a pause of a second on average. Requests: how many a second are answered to 1, 20 and 200 clients,
 each of whom asks again and again for a clerk's work; beside it what `ab` counts, where it is there. Sheets: of a ward of a tenth of
 the papers, read anew each time, and told again. Orders: of a ward of so many papers, each given alone, and handed over to an office
@@ -125,12 +125,13 @@ def keyings(folder, sizes):
     town, bodies = ward_to_key(folder, sizes.rounds)
     part = [{clerk: works[turn * sizes.rounds:(turn + 1) * sizes.rounds] for clerk, works in bodies.items()} for turn in range(3)]
     serve = begun(town)
-    lone = keyed(serve, {1: part[0][1]}, 0)
-    rows = [("one clerk alone", lone),
+    alone = [keyed(serve, {clerk: works}, 0) for clerk, works in part[0].items()]
+    lone = sorted(took for times, _ in alone for took in times), sum(seconds for _, seconds in alone)
+    rows = [("one clerk at a time", lone),
             (f"{CLERKS} clerks beside {SILENT} silent connections", keyed_beside_silent(serve, part[1], 0)),
             ("the same, each with a pause of a second on average", keyed_beside_silent(serve, part[2], 1))]
     ended(serve)
-    lines = [f"| Keyings of {BATCH} papers | keyings | the middle one, ms | the slowest, ms | as the slowest of one clerk alone | a second |", "|---|" + "---|" * 5]
+    lines = [f"| Keyings of {BATCH} papers | keyings | the middle one, ms | the slowest, ms | as the slowest of one clerk | a second |", "|---|" + "---|" * 5]
     for what, (times, seconds) in rows:
         lines.append(f"| {what} | {len(times)} | {1000 * times[len(times) // 2]:.1f} | {1000 * times[-1]:.1f} | {times[-1] / lone[0][-1]:.1f} times | {len(times) / seconds:.0f} |")
     return lines
