@@ -3,10 +3,11 @@
 //! `Office` stands over any store of `sqlite`. `create` makes an empty office, and `open_from` opens one. `migrate`
 //! brings an office of an earlier program over to this one, and `copy` makes the same office in another database.
 //! `rows` reads all entries of one, and `leads_to` says whether requests lead from an empty office to such entries.
-//! `handle` answers one request and `run` a list of them; `status`, `next_step`, `columns`, `work`, `sheet`, `result`,
-//! `text` and `index` tell of the state, and change nothing, as `wards`, `batches`, `doubtful`, `differences`,
-//! `papers` and `receipts` tell the office alone. A fault inside a transaction closes the office: it answers 104 until
-//! it is opened again, and what is found then is the state before the request or the one after it, whole.
+//! `handle` answers one request and `run` a list of them; `status`, `next_step`, `columns`, `work`, `paper`, `sheet`,
+//! `result`, `text` and `index` tell of the state, and change nothing, as `wards`, `batches`, `doubtful`,
+//! `differences`, `papers` and `receipts` tell the office alone. A fault inside a transaction closes the office: it
+//! answers 104 until it is opened again, and what is found then is the state before the request or the one after it,
+//! whole.
 //!
 //! ```text
 //! let mut office = Office::open_from(alloc, conn)?;
@@ -32,6 +33,6 @@ mod sheets;
 
 pub use answers::{Answer, Run, Stop};
 pub use offices::Office;
-pub use register::{NextStep, Receipt, Status, Work};
+pub use register::{BallotPaper, NextStep, Receipt, Status, Work};
 pub use sheets::{Text, texts_are_there};
 pub use store::{CopyFault, Holdings, Migrated, Rows};

@@ -7,6 +7,7 @@ pub mod Bodies
 pub mod Asking
 pub mod Lacking
 pub mod Replies
+pub mod Pages
 pub mod Responses
 pub mod Told
 pub mod Serving

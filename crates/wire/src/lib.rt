@@ -36,6 +36,8 @@ pub mod target;
 mod unread;
 // what is answered
 mod bodies;
+mod page;
+mod paper;
 mod response;
 mod work;
 // one connection

@@ -1,0 +1,2 @@
+-- Clerks' codes.
+pub mod Codes
