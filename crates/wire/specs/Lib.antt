@@ -4,10 +4,10 @@ pub mod Targets
 pub mod Lengths
 pub mod Origins
 pub mod Bodies
+pub mod Gates
 pub mod Asking
 pub mod Lacking
 pub mod Replies
-pub mod Pages
 pub mod Responses
 pub mod Told
 pub mod Serving
