@@ -1,5 +1,5 @@
 -- The bytes of an answer over HTTP.
-use Rattle.std.specs.Prelude.{◌∷◌, List, [], ◌++◌, codes, decimal, length, unwrap_or, ℕ}
+use Rattle.std.specs.Prelude.{◌∷◌, List, [], ◌++◌, Option, Some, None, codes, decimal, length, unwrap_or, ℕ}
 use Rattle.http.specs.StatusCode.{reason_phrase}
 use Rattle.wire.specs.Asking.{ShowEntry, left, page, verb_text}
 use Rattle.wire.specs.Gates.{PageEntry}
@@ -95,6 +95,12 @@ text_response text = record { status = 200; more = nothing; content = Text; body
 -- that a clerk's code is asked for
 abbrev pub unauthorized_response : ℕ → ResponseEntry
 unauthorized_response clerk = record { status = 401; more = asks_code clerk; content = Json; body = codes "{\"error\":\"unauthorized\"}" }
+
+-- the clerk whose code is asked for by a denial, if one's is
+abbrev pub clerk_kept_out : Denial → Option ℕ
+clerk_kept_out (Unauthorized clerk) = Some clerk
+clerk_kept_out (WrongCode clerk) = Some clerk
+clerk_kept_out other = None
 
 -- that a clerk is to wait
 abbrev pub waits_response : ResponseEntry

@@ -1,10 +1,10 @@
 //! The bytes of an answer.
 
-ghost use Rattle.std.specs.Prelude.{◌≡◌, ℕ, IfOk, IfSome, OnErr, length, string_bytes};
+ghost use Rattle.std.specs.Prelude.{◌≡◌, IfOk, None, OnErr, length, string_bytes};
 ghost use Rattle.wire.specs.Told.{IsTold, IsWritten, told_bytes};
 ghost use Rattle.wire.specs.Asking.{show_entry};
 ghost use Rattle.wire.specs.Gates.{page_entry};
-ghost use Rattle.wire.specs.Responses.{asks_code, code_line, denied_response, fault_response, guard_lines, guards, lines_and_body, media_type, nothing, phrase, response_bytes, shown_response, unauthorized_response, waits_response};
+ghost use Rattle.wire.specs.Responses.{clerk_kept_out, code_line, denied_response, fault_response, guard_lines, lines_and_body, media_type, nothing, phrase, response_bytes, shown_response, unauthorized_response, waits_response};
 
 use crate::denial::{Denial, Verb};
 use crate::given::{Page, Show};
@@ -89,28 +89,30 @@ fn only_text(allowed: Verb) -> &'static str
     }
 }
 
-/// The answer to a request that is denied, where it stands fixed: that is but where a clerk's code is asked for.
-pub(crate) fn denied_text(why: Denial) -> Option<&'static str>
-    ensures { IfSome result (λ text. text.now ≡ response_bytes (denied_response why)) }
+/// The clerk whose code is asked for by a denial, if one's is.
+fn clerk_kept_out(why: Denial) -> Option<u32>
+    ensures { result ≡ clerk_kept_out why }
 {
     match why {
-        Denial::BadRequest => Some(BAD_REQUEST),
-        Denial::Forbidden => Some(FORBIDDEN),
-        Denial::NotFound => Some(NOT_FOUND),
-        Denial::MethodNotAllowed { allowed } => Some(only_text(allowed)),
-        Denial::TooLarge => Some(TOO_LARGE),
-        Denial::Unauthorized { .. } | Denial::WrongCode { .. } => None,
+        Denial::Unauthorized { clerk } => Some(clerk),
+        Denial::WrongCode { clerk } => Some(clerk),
+        _ => None,
     }
 }
 
-/// The clerk whose code is asked for by a denial, and 0 of any other.
-fn clerk_denied(why: Denial) -> u32
-    ensures unauthorized { (clerk : ℕ) → why ≡ Denial.Unauthorized clerk → result ≡ clerk }
-    ensures wrong { (clerk : ℕ) → why ≡ Denial.WrongCode clerk → result ≡ clerk }
+/// The answer to a request that is denied, which stands fixed where no clerk's code is asked for.
+pub(crate) fn denied_text(why: Denial) -> &'static str
+    requires { clerk_kept_out why ≡ None }
+    ensures { result.now ≡ response_bytes (denied_response why) }
 {
     match why {
-        Denial::Unauthorized { clerk } | Denial::WrongCode { clerk } => clerk,
-        _ => 0,
+        Denial::BadRequest => BAD_REQUEST,
+        Denial::Forbidden => FORBIDDEN,
+        Denial::NotFound => NOT_FOUND,
+        Denial::MethodNotAllowed { allowed } => only_text(allowed),
+        Denial::TooLarge => TOO_LARGE,
+        Denial::Unauthorized { .. } => "",
+        Denial::WrongCode { .. } => "",
     }
 }
 
@@ -269,15 +271,12 @@ impl Response {
     pub(crate) fn denied(alloc: Global, why: Denial) -> Response
         ensures { IsTold (denied_response why) result }
     {
-        match denied_text(why) {
-            Some(text) => Response {
+        match clerk_kept_out(why) {
+            Some(clerk) => Response::of_text(401, unauthorized_text(alloc, clerk)),
+            None => Response {
                 status: denied_status(why),
-                bytes: Bytes::Fixed(text),
+                bytes: Bytes::Fixed(denied_text(why)),
             },
-            None => Response::of_text(
-                denied_status(why),
-                unauthorized_text(alloc, clerk_denied(why)),
-            ),
         }
     }
 
