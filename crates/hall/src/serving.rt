@@ -7,8 +7,9 @@ ghost use Rattle.sqlite.specs.Held.{state};
 ghost use Rattle.gathering.specs.Lines.{line_of};
 ghost use Rattle.gathering.specs.Clients.{IsOf};
 ghost use Rattle.gathering.specs.declared.client.Comer.{Comer};
+ghost use Rattle.codes.specs.Tries.{entries_of};
 ghost use Rattle.hall.specs.Guests.{IsSound};
-ghost use Rattle.hall.specs.Reads.{desk_at, reads_in};
+ghost use Rattle.hall.specs.Reads.{desk_at, kept_in};
 ghost use Rattle.hall.specs.Terms.{Given, given_in};
 ghost use Rattle.hall.specs.Turns.{IsUntold, MayHaveTurn};
 ghost use Rattle.hall.specs.Halls.{GoesOn, GoesOnServing, IsWithin, ServesHall};
@@ -18,6 +19,7 @@ use crate::attending::{Attended, attend};
 use crate::leaving::{PATIENCE, keep_within, let_go_late, make_room};
 use crate::reads::Kept;
 use crate::terms::Terms;
+use codes::Tries;
 use gathering::room::{longest, place_of};
 use gathering::{Admitted, Client, Doors, Line, Room};
 use office::Office;
@@ -54,9 +56,10 @@ fn go_on<L: Line, C: Clock, A: Aside, S: Alter>(
     requires untold { IsUntold (line_of L.held L.taken) client.old }
     ensures is { (start : L) → IsOf (line_of L.held L.taken) start client.old → IsOf (line_of L.held L.taken) start client.new }
     ensures same { (client.new.door ≡ client.old.door) × (client.new.number ≡ client.old.number) }
-    ensures turn { MayHaveTurn (given_in terms.entry) (line_of L.held L.taken) (state S.Store) client.old client.new (desk_at office.old (reads_in kept.old)) (desk_at office.new (reads_in kept.new)) }
+    ensures turn { (now : ℕ) × MayHaveTurn (given_in terms.entry) (line_of L.held L.taken) (state S.Store) now client.old client.new (desk_at office.old (kept_in kept.old)) (desk_at office.new (kept_in kept.new)) }
 {
-    match attend(alloc, terms, aside, client, office, kept) {
+    let now = moment(clock)?;
+    match attend(alloc, terms, now, aside, client, office, kept) {
         Attended::Waits => Ok(true),
         Attended::Served => {
             client.since = moment(clock)?;
@@ -80,7 +83,7 @@ fn go_on_at<L: Line + Drop, C: Clock, A: Aside, S: Alter>(
 ) -> Result<(), Broken>
     requires place { place < length room.old.clients.items }
     requires sound { IsSound (given_in terms.entry) (line_of L.held L.taken) room.old }
-    ensures goes_on { (let_in : Option (List (Comer L))) → GoesOnServing (given_in terms.entry) (line_of L.held L.taken) (state S.Store) let_in let_in room.old room.new (desk_at office.old (reads_in kept.old)) (desk_at office.new (reads_in kept.new)) }
+    ensures goes_on { (let_in : Option (List (Comer L))) → GoesOnServing (given_in terms.entry) (line_of L.held L.taken) (state S.Store) let_in let_in room.old room.new (desk_at office.old (kept_in kept.old)) (desk_at office.new (kept_in kept.new)) }
     ensures came { room.new.came ≡ room.old.came }
     ensures counted { room.new.counted ≡ room.old.counted }
     ensures within { IsWithin room.old → OnOk result (IsWithin room.new) }
@@ -113,7 +116,7 @@ fn go_on_numbered<L: Line + Drop, C: Clock, A: Aside, S: Alter>(
     kept: &mut Kept,
 ) -> Result<(), Broken>
     requires { IsSound (given_in terms.entry) (line_of L.held L.taken) room.old }
-    ensures goes_on { (let_in : Option (List (Comer L))) → GoesOnServing (given_in terms.entry) (line_of L.held L.taken) (state S.Store) let_in let_in room.old room.new (desk_at office.old (reads_in kept.old)) (desk_at office.new (reads_in kept.new)) }
+    ensures goes_on { (let_in : Option (List (Comer L))) → GoesOnServing (given_in terms.entry) (line_of L.held L.taken) (state S.Store) let_in let_in room.old room.new (desk_at office.old (kept_in kept.old)) (desk_at office.new (kept_in kept.new)) }
     ensures came { room.new.came ≡ room.old.came }
     ensures counted { room.new.counted ≡ room.old.counted }
     ensures within { IsWithin room.old → OnOk result (IsWithin room.new) }
@@ -136,7 +139,7 @@ fn go_on_all<D: Doors, C: Clock, A: Aside, S: Alter>(
     kept: &mut Kept,
 ) -> Result<(), Broken>
     requires { IsSound (given_in terms.entry) (line_of D.Line.held D.Line.taken) room.old }
-    ensures goes_on { GoesOnServing (given_in terms.entry) (line_of D.Line.held D.Line.taken) (state S.Store) (D.came doors.old) (D.came doors.new) room.old room.new (desk_at office.old (reads_in kept.old)) (desk_at office.new (reads_in kept.new)) }
+    ensures goes_on { GoesOnServing (given_in terms.entry) (line_of D.Line.held D.Line.taken) (state S.Store) (D.came doors.old) (D.came doors.new) room.old room.new (desk_at office.old (kept_in kept.old)) (desk_at office.new (kept_in kept.new)) }
     ensures came { room.new.came ≡ room.old.came }
     ensures counted { room.new.counted ≡ room.old.counted }
     ensures within { IsWithin room.old → OnOk result (IsWithin room.new) }
@@ -230,7 +233,7 @@ fn go_round<D: Doors, C: Clock, A: Aside, S: Alter>(
     kept: &mut Kept,
 ) -> Result<bool, Broken>
     requires { IsSound (given_in terms.entry) (line_of D.Line.held D.Line.taken) room.old }
-    ensures goes_on { GoesOnServing (given_in terms.entry) (line_of D.Line.held D.Line.taken) (state S.Store) (D.came doors.old) (D.came doors.new) room.old room.new (desk_at office.old (reads_in kept.old)) (desk_at office.new (reads_in kept.new)) }
+    ensures goes_on { GoesOnServing (given_in terms.entry) (line_of D.Line.held D.Line.taken) (state S.Store) (D.came doors.old) (D.came doors.new) room.old room.new (desk_at office.old (kept_in kept.old)) (desk_at office.new (kept_in kept.new)) }
     ensures few { room.old.counted ≤ most → room.new.counted ≤ most }
     ensures within { IsWithin room.old → OnOk result (IsWithin room.new) }
     ensures all { result ≡ Ok true → (most ≤ room.new.counted) × (room.new.clients.items ≡ []) }
@@ -246,7 +249,7 @@ fn go_round<D: Doors, C: Clock, A: Aside, S: Alter>(
     Ok(false)
 }
 
-/// Serves those who come to the doors of an office, and pages of an origin through a proxy, if one is given: until so many
+/// Serves those who come to the doors of an office, by what it was given, the origin of a proxy and the gate, if any: until so many
 /// clients came in and all who are in left, or without end, where no number is given. Orders that are handed over come in too, before
 /// clients, and don't count.
 ///
@@ -255,6 +258,9 @@ fn go_round<D: Doors, C: Clock, A: Aside, S: Alter>(
 /// next waits at the doors, and who has waited longest is let go for him, if that is a second at least. One has half a minute
 /// for what he asks, and half a minute more to take his answer. Who is let go gets no answer. Who can't be let in now is
 /// let in later.
+///
+/// At the gate ten wrong codes under a clerk's number within a minute make everyone wait who asks there, for a minute: they
+/// are told so, and nothing else. The moments are those that the clock shows, and `tries` are the wrong codes that came before.
 ///
 /// What is gathered of a client, or of an order, are his own bytes, from the first one on, and what he is told is the answer
 /// to just these. Nothing changes an open office but clerks' keyings, at most one a client, and the requests of orders: whatever a
@@ -267,17 +273,18 @@ pub fn serve_hall<D: Doors, C: Clock, A: Aside, S: Alter>(
     clock: &C,
     doors: &mut D,
     terms: Terms<'_>,
+    tries: Tries,
     aside: &A,
     connections: Option<u64>,
     office: &mut Office<S>,
 ) -> Result<(), Broken>
-    ensures served { ServesHall (given_in terms.entry) (line_of D.Line.held D.Line.taken) (state S.Store) (D.came doors.old) (D.came doors.new) connections office.old office.new result }
+    ensures served { ServesHall (given_in terms.entry) (line_of D.Line.held D.Line.taken) (state S.Store) (D.came doors.old) (D.came doors.new) connections (entries_of tries) office.old office.new result }
     ensures closed { office.old.closed ≡ true → office.new ≡ office.old }
     ensures clean { HasCleanDisk (state S.Store office.new.held) → HasCleanDisk (state S.Store office.old.held) }
 {
     let most = connections.unwrap_or(u64::MAX);
     let mut room = Room::new(alloc);
-    let mut kept = Kept::new(alloc);
+    let mut kept = Kept::new(alloc, tries);
     for _ in 0..u64::MAX {
         if go_round(
             alloc, clock, doors, terms, aside, most, &mut room, office, &mut kept,

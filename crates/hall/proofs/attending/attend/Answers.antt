@@ -2,6 +2,7 @@
 use Rattle.std.proofs.Common.{◌∙◌, Ok, ap, refl, sym}
 use Rattle.sqlite.specs.Held.{state}
 use Rattle.gathering.specs.Lines.{line_of}
+use Rattle.hall.specs.Reads.{desk_at, kept_in}
 use Rattle.hall.specs.Terms.{given_in}
 use Rattle.hall.proofs.TurnLemmas.{has_turn, none_from}
 use Rattle.hall.proofs.attending.attend.Goals as goal
@@ -11,5 +12,5 @@ returns-in-Ok-true-clause-turn g c =
     let heard = c.in-Ok-true.ensures in
     let same = heard.same.0 in
     let given = given_in c.args.terms in
-    has_turn (line_of g.L.Line.held g.L.Line.taken) given (state g.S.Store) c.args.client.now c.hear.new.client c.take_turn.new.client c.args.office.now c.take_turn.new.office
+    has_turn (line_of g.L.Line.held g.L.Line.taken) given (state g.S.Store) c.args.now c.args.client.now c.hear.new.client c.take_turn.new.client (desk_at c.args.office.now (kept_in c.args.kept.now)) (desk_at c.take_turn.new.office (kept_in c.take_turn.new.kept))
     (none_from c.args.client.now.answer (sym c.is_some.ensures ∙ c.if-is_some.false)) heard.gathers same.0 same.1 (heard.come (ap Ok c.in-Ok-true.field-0-test) given refl) c.take_turn.ensures.turn

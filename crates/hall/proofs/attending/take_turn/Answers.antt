@@ -8,7 +8,8 @@ returns-in-Waits-clause-is g c = λ start heard. c.tell_more.ensures.is start c.
 pub returns-in-Waits-clause-turn : goal.returns-in-Waits-clause-turn
 returns-in-Waits-clause-turn g c =
     let client = c.args.client.now in (
-      record { door = client.door; number = client.number; got = client.got.items; answer = c.answer_to-answer.result.bytes.items },
+      record { door = client.door; number = client.number; moment = c.args.now; got = client.got.items; answer = c.answer_to-answer.result.bytes.items },
+      refl,
       refl,
       refl,
       refl,
@@ -23,7 +24,8 @@ returns-in_default g c =
       is = λ start heard. c.tell_more.ensures.is start c.answer_to-answer.ensures.told;
       same = c.tell_more.ensures.same;
       turn = (
-        record { door = client.door; number = client.number; got = client.got.items; answer = c.answer_to-answer.result.bytes.items },
+        record { door = client.door; number = client.number; moment = c.args.now; got = client.got.items; answer = c.answer_to-answer.result.bytes.items },
+        refl,
         refl,
         refl,
         refl,

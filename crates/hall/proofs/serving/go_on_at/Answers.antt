@@ -2,7 +2,7 @@
 use Rattle.std.proofs.Common.{◌≤◌, arith, length, length-set, refl, set}
 use Rattle.sqlite.specs.Held.{state}
 use Rattle.gathering.specs.Lines.{line_of}
-use Rattle.hall.specs.Reads.{desk_at, reads_in}
+use Rattle.hall.specs.Reads.{desk_at, kept_in}
 use Rattle.hall.specs.Terms.{given_in}
 use Rattle.hall.proofs.BoundLemmas.{within_again, within_less}
 use Rattle.hall.proofs.HallLemmas.{goes_less, goes_on_at, goes_without, room_with, serving_none, serving_then, untold_at}
@@ -14,7 +14,7 @@ returns-in_err-go_on-clause-goes_on g c = λ let_in.
     let line = line_of g.L.Line.held g.L.Line.taken in
     let room = c.args.room.now in
     let went = room_with given line room c.args.place c.go_on.new.client in
-    goes_on_at given line (state g.S.Store) let_in room went c.args.place c.index_mut.result.now c.go_on.new.client (desk_at c.args.office.now (reads_in c.args.kept.now)) (desk_at c.go_on.new.office (reads_in c.go_on.new.kept))
+    goes_on_at given line (state g.S.Store) let_in room went c.args.place c.index_mut.result.now c.go_on.new.client (desk_at c.args.office.now (kept_in c.args.kept.now)) (desk_at c.go_on.new.office (kept_in c.go_on.new.kept))
     c.requires.place c.index_mut.ensures.value c.go_on.ensures.same.0 c.go_on.ensures.same.1 c.go_on.ensures.is c.go_on.ensures.turn refl refl refl
 
 pub returns-then-branch-clause-goes_on : goal.returns-then-branch-clause-goes_on
@@ -23,10 +23,10 @@ returns-then-branch-clause-goes_on g c = λ let_in.
     let line = line_of g.L.Line.held g.L.Line.taken in
     let room = c.args.room.now in
     let went = room_with given line room c.args.place c.go_on.new.client in
-    serving_then given line (state g.S.Store) let_in let_in let_in room went c.keep_within.new.room (desk_at c.args.office.now (reads_in c.args.kept.now)) (desk_at c.go_on.new.office (reads_in c.go_on.new.kept)) (desk_at c.go_on.new.office (reads_in c.go_on.new.kept))
-    (goes_on_at given line (state g.S.Store) let_in room went c.args.place c.index_mut.result.now c.go_on.new.client (desk_at c.args.office.now (reads_in c.args.kept.now)) (desk_at c.go_on.new.office (reads_in c.go_on.new.kept))
+    serving_then given line (state g.S.Store) let_in let_in let_in room went c.keep_within.new.room (desk_at c.args.office.now (kept_in c.args.kept.now)) (desk_at c.go_on.new.office (kept_in c.go_on.new.kept)) (desk_at c.go_on.new.office (kept_in c.go_on.new.kept))
+    (goes_on_at given line (state g.S.Store) let_in room went c.args.place c.index_mut.result.now c.go_on.new.client (desk_at c.args.office.now (kept_in c.args.kept.now)) (desk_at c.go_on.new.office (kept_in c.go_on.new.kept))
     c.requires.place c.index_mut.ensures.value c.go_on.ensures.same.0 c.go_on.ensures.same.1 c.go_on.ensures.is c.go_on.ensures.turn refl refl refl)
-    (serving_none given line (state g.S.Store) let_in let_in went c.keep_within.new.room (desk_at c.go_on.new.office (reads_in c.go_on.new.kept)) (goes_without given line 0 0 let_in let_in went c.keep_within.new.room refl c.keep_within.ensures.go))
+    (serving_none given line (state g.S.Store) let_in let_in went c.keep_within.new.room (desk_at c.go_on.new.office (kept_in c.go_on.new.kept)) (goes_without given line 0 0 let_in let_in went c.keep_within.new.room refl c.keep_within.ensures.go))
 
 pub returns-clause-goes_on : goal.returns-clause-goes_on
 returns-clause-goes_on g c = λ let_in.
@@ -34,10 +34,10 @@ returns-clause-goes_on g c = λ let_in.
     let line = line_of g.L.Line.held g.L.Line.taken in
     let room = c.args.room.now in
     let went = room_with given line room c.args.place c.go_on.new.client in
-    serving_then given line (state g.S.Store) let_in let_in let_in room went (record { clients = c.remove.new.self; came = room.came; counted = room.counted }) (desk_at c.args.office.now (reads_in c.args.kept.now)) (desk_at c.go_on.new.office (reads_in c.go_on.new.kept)) (desk_at c.go_on.new.office (reads_in c.go_on.new.kept))
-    (goes_on_at given line (state g.S.Store) let_in room went c.args.place c.index_mut.result.now c.go_on.new.client (desk_at c.args.office.now (reads_in c.args.kept.now)) (desk_at c.go_on.new.office (reads_in c.go_on.new.kept))
+    serving_then given line (state g.S.Store) let_in let_in let_in room went (record { clients = c.remove.new.self; came = room.came; counted = room.counted }) (desk_at c.args.office.now (kept_in c.args.kept.now)) (desk_at c.go_on.new.office (kept_in c.go_on.new.kept)) (desk_at c.go_on.new.office (kept_in c.go_on.new.kept))
+    (goes_on_at given line (state g.S.Store) let_in room went c.args.place c.index_mut.result.now c.go_on.new.client (desk_at c.args.office.now (kept_in c.args.kept.now)) (desk_at c.go_on.new.office (kept_in c.go_on.new.kept))
     c.requires.place c.index_mut.ensures.value c.go_on.ensures.same.0 c.go_on.ensures.same.1 c.go_on.ensures.is c.go_on.ensures.turn refl refl refl)
-    (serving_none given line (state g.S.Store) let_in let_in went (record { clients = c.remove.new.self; came = room.came; counted = room.counted }) (desk_at c.go_on.new.office (reads_in c.go_on.new.kept))
+    (serving_none given line (state g.S.Store) let_in let_in went (record { clients = c.remove.new.self; came = room.came; counted = room.counted }) (desk_at c.go_on.new.office (kept_in c.go_on.new.kept))
     (goes_less given line let_in let_in went (record { clients = c.remove.new.self; came = room.came; counted = room.counted }) c.args.place refl (omega (arith, c.requires.place, length-set room.clients.items c.args.place c.go_on.new.client)) c.remove.ensures.items refl refl))
 
 -- who is at the place was told nothing, if he has no answer
