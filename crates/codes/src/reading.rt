@@ -1,6 +1,6 @@
 //! The text of a file of codes, read line by line.
 
-ghost use Rattle.std.specs.Prelude.{◌≡◌, ◌≤◌, ◌⊎◌, ◌==◌, ◌++◌, Bool, IfErr, IfOk, List, Ok, Err, length, map, option_map, ℕ};
+ghost use Rattle.std.specs.Prelude.{◌≡◌, ◌≤◌, ◌⊎◌, ◌*◌, ◌+◌, [], IfErr, IfOk, IfSome, List, Ok, Err, length, map, option_and_then, option_map, ℕ};
 ghost use Rattle.std.specs.List.{list_all, list_any, prefix_len};
 ghost use Rattle.codes.specs.Codes.{holders_of};
 ghost use Rattle.codes.specs.Files.{CodeEntry, clerk_in, code_entry, codes_in, digit_in, entries_from, entry_behind, entry_in, holders_by, is_code, is_no_blank, is_visible, lines_from, without_return};
@@ -26,12 +26,25 @@ pub struct CodeLine<'a> {
 
 /// What a digit counts.
 fn digit_in(byte: u8) -> Option<u32>
-    ensures { result ≡ digit_in byte }
+    ensures is { result ≡ digit_in byte }
+    ensures bound { IfSome result (λ digit. digit ≤ 9) }
 {
     if byte.is_ascii_digit() {
         Some(u32::from(byte - b'0'))
     } else {
         None
+    }
+}
+
+/// The number that a digit writes behind others, if these and it are digits.
+fn with_digit(value: Option<u32>, byte: u8) -> Option<u32>
+    requires { IfSome value (λ v. v ≤ 99) }
+    ensures is { result ≡ option_and_then (λ v. option_map (λ d. v * 10 + d) (digit_in byte)) value }
+    ensures bound { IfSome value (λ v. v ≤ 9) → IfSome result (λ v. v ≤ 99) }
+{
+    match (value, digit_in(byte)) {
+        (Some(value), Some(digit)) => Some(value * 10 + digit),
+        _ => None,
     }
 }
 
@@ -42,8 +55,8 @@ pub(crate) fn clerk_in(text: &[u8]) -> Option<u32>
     match text {
         [b'0', ..] => None,
         [a] => digit_in(*a),
-        [a, b] => Some(10 * digit_in(*a)? + digit_in(*b)?),
-        [a, b, c] => Some(10 * (10 * digit_in(*a)? + digit_in(*b)?) + digit_in(*c)?),
+        [a, b] => with_digit(digit_in(*a), *b),
+        [a, b, c] => with_digit(with_digit(digit_in(*a), *b), *c),
         _ => None,
     }
 }
@@ -55,13 +68,18 @@ fn is_visible(byte: u8) -> bool
     byte > b' ' && byte < 127
 }
 
+/// Whether bytes are letters, digits and signs alone.
+fn all_visible(text: &[u8]) -> bool
+    ensures { result ≡ list_all is_visible text.now }
+{
+    text.iter().all(|byte| is_visible(*byte))
+}
+
 /// Whether a text is a code.
 fn is_code(text: &[u8]) -> bool
     ensures { result ≡ is_code text.now }
 {
-    text.len() >= FEWEST_BYTES
-        && text.len() <= MOST_BYTES
-        && text.iter().all(|byte| is_visible(*byte))
+    text.len() >= FEWEST_BYTES && text.len() <= MOST_BYTES && all_visible(text)
 }
 
 /// How many bytes stand before the first blank of a line.
