@@ -1,6 +1,6 @@
 //! The text of a file of codes, read line by line.
 
-ghost use Rattle.std.specs.Prelude.{◌≡◌, ◌≤◌, ◌⊎◌, ◌*◌, ◌+◌, [], IfErr, IfOk, IfSome, List, Ok, Err, length, map, option_and_then, option_map, ℕ};
+ghost use Rattle.std.specs.Prelude.{◌≡◌, ◌≤◌, ◌⊎◌, ◌*◌, ◌+◌, ◌==◌, [], IfErr, IfOk, IfSome, List, Ok, Err, bytes_eq, length, map, option_and_then, option_map, ℕ};
 ghost use Rattle.std.specs.List.{list_all, list_any, prefix_len};
 ghost use Rattle.codes.specs.Codes.{holders_of};
 ghost use Rattle.codes.specs.Files.{CodeEntry, clerk_in, code_entry, codes_in, digit_in, entries_from, entry_behind, entry_in, holders_by, is_code, is_no_blank, is_visible, lines_from, without_return};
@@ -125,16 +125,40 @@ fn without_return(line: &[u8]) -> &[u8]
     }
 }
 
+/// Whether a clerk stands in some lines.
+fn has_clerk(before: &[CodeLine<'_>], clerk: u32) -> bool
+    ensures { result ≡ list_any (λ (other : CodeEntry). other.clerk == clerk) (map code_entry before.now) }
+{
+    for other in before {
+        if other.clerk == clerk {
+            return true;
+        }
+    }
+    false
+}
+
+/// Whether a code stands in some lines.
+fn has_code(before: &[CodeLine<'_>], code: &[u8]) -> bool
+    ensures { result ≡ list_any (λ (other : CodeEntry). bytes_eq other.code code.now) (map code_entry before.now) }
+{
+    for other in before {
+        if other.code == code {
+            return true;
+        }
+    }
+    false
+}
+
 /// What a line says behind others: no clerk stands there twice, and no code.
 fn entry_behind<'a>(before: &[CodeLine<'_>], line: &'a [u8]) -> Result<CodeLine<'a>, Flaw>
     ensures ok { IfOk result (λ found. entry_behind (map code_entry before.now) (entry_in line.now) ≡ Ok (code_entry found)) }
     ensures err { IfErr result (λ flaw. entry_behind (map code_entry before.now) (entry_in line.now) ≡ Err flaw) }
 {
     let found = entry_in(line)?;
-    if before.iter().any(|other| other.clerk == found.clerk) {
+    if has_clerk(before, found.clerk) {
         return Err(Flaw::ClerkTwice);
     }
-    if before.iter().any(|other| other.code == found.code) {
+    if has_code(before, found.code) {
         return Err(Flaw::CodeTwice);
     }
     Ok(found)

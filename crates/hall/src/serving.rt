@@ -42,6 +42,14 @@ fn moment<C: Clock>(clock: &C) -> Result<u64, Broken> {
     }
 }
 
+/// The time of a clock in milliseconds, where there is a gate, at which wrong codes count; and 0 where there is none.
+fn moment_at_gate<C: Clock>(clock: &C, terms: Terms<'_>) -> Result<u64, Broken> {
+    match terms.given.gate {
+        Some(_) => moment(clock),
+        None => Ok(0),
+    }
+}
+
 /// One of those who are in goes on; whether he stays in. His half minute begins anew once he has his answer: however long his turn took, he
 /// has all of it.
 fn go_on<L: Line, C: Clock, A: Aside, S: Alter>(
@@ -58,7 +66,7 @@ fn go_on<L: Line, C: Clock, A: Aside, S: Alter>(
     ensures same { (client.new.door ≡ client.old.door) × (client.new.number ≡ client.old.number) }
     ensures turn { (now : ℕ) × MayHaveTurn (given_in terms.entry) (line_of L.held L.taken) (state S.Store) now client.old client.new (desk_at office.old (kept_in kept.old)) (desk_at office.new (kept_in kept.new)) }
 {
-    let now = moment(clock)?;
+    let now = moment_at_gate(clock, terms)?;
     match attend(alloc, terms, now, aside, client, office, kept) {
         Attended::Waits => Ok(true),
         Attended::Served => {

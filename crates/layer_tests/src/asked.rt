@@ -9,7 +9,7 @@ use std::process::Abort;
 use std::test::Fail;
 use std::{fmt, io};
 use votes::{Counted, Source};
-use wire::{Asked, Denial, Origin, Unread, read_asked};
+use wire::{Asked, Denial, Given, Show, Unread, read_asked};
 
 /// How long a head may be, in bytes, how many headers it may have, and how long a body may be.
 const MAX_HEAD_BYTES: usize = 8192;
@@ -39,16 +39,22 @@ impl<'a> Read for Slow<'a> {
     }
 }
 
-/// What is asked, in short, of an office that was given the origin of a proxy or none.
+/// What an office was given that has neither a proxy in front nor codes.
+pub const NOTHING: Given<'static> = Given {
+    origin: None,
+    gate: None,
+};
+
+/// What is asked, in short, of an office that was given this.
 fn asked_text<R: Source>(
     alloc: Global,
-    origin: Option<Origin<'_>>,
+    given: Given<'_>,
     reader: &mut R,
 ) -> Result<String, fmt::Error>
     requires { R.failed reader.old < 2 ^ 64 - 1 }
 {
     let mut text = String::new(alloc);
-    match read_asked(alloc, origin, reader) {
+    match read_asked(alloc, given, reader) {
         Ok(Asked::Keying(keying)) => {
             let (id, papers) = (keying.id.as_str(), &keying.papers);
             let (clerk, batch, round) = (keying.clerk, keying.batch, keying.round);
@@ -57,6 +63,10 @@ fn asked_text<R: Source>(
                 write!(text, " [{}]", paper.as_str())?;
             }
         }
+        Ok(Asked::Shown(clerk, Show::Page(page))) => {
+            write!(text, "{clerk} sees {} by {}", page.text, page.policy)?;
+        }
+        Ok(Asked::Shown(clerk, Show::Left)) => write!(text, "{clerk} leaves")?,
         Ok(Asked::Reading(what)) => write!(text, "{what:?}")?,
         Ok(Asked::Denied(Denial::MethodNotAllowed { allowed })) => {
             write!(text, "only {allowed:?}")?;
@@ -71,29 +81,23 @@ fn asked_text<R: Source>(
 /// Reads a request given at once, and one byte at a time.
 pub fn asks_of(
     rt: &(impl Abort + AllocGlobal),
-    origin: Option<Origin<'_>>,
+    given: Given<'_>,
     request: &[u8],
     asked: &str,
 ) -> Result<(), Fail> {
     let mut reader = Counted::new(request);
-    assert_eq!(rt;
-        asked_text(rt.alloc(), origin, &mut reader)?.as_str(),
-        asked
-    );
+    assert_eq!(rt; asked_text(rt.alloc(), given, &mut reader)?.as_str(), asked);
     let mut reader = Counted::new(Slow {
         left: request,
         fails: false,
     });
-    assert_eq!(rt;
-        asked_text(rt.alloc(), origin, &mut reader)?.as_str(),
-        asked
-    );
+    assert_eq!(rt; asked_text(rt.alloc(), given, &mut reader)?.as_str(), asked);
     Ok(())
 }
 
-/// The same of an office that was given no origin.
+/// The same of an office that was given nothing.
 pub fn asks(rt: &(impl Abort + AllocGlobal), request: &[u8], asked: &str) -> Result<(), Fail> {
-    asks_of(rt, None, request, asked)
+    asks_of(rt, NOTHING, request, asked)
 }
 
 /// A keying with these headers and this body.
@@ -108,7 +112,7 @@ pub const BODY: &str = r#"{"id":"h1","round":1,"papers":["1,2,","D"]}"#;
 pub const KEYED: &str = "4 keys 12 round 1 as h1: [1,2,] [D]";
 
 /// First lines, behind each of which no length is one.
-const TARGETS: [(&str, &str); 20] = [
+const TARGETS: [(&str, &str); 23] = [
     ("GET /clerks/4/work HTTP/1.1", "Work { clerk: 4 }"),
     ("GET /clerks/99999/work HTTP/1.0", "Work { clerk: 99999 }"),
     ("GET /wards/7/sheet HTTP/1.1", "Sheet { ward: 7 }"),
@@ -122,6 +126,9 @@ const TARGETS: [(&str, &str); 20] = [
     ("GET /wards/%37/sheet HTTP/1.1", "NotFound"),
     ("GET /w\u{e4}rds/7/sheet HTTP/1.1", "NotFound"),
     ("POST /nothing HTTP/1.1", "NotFound"),
+    ("GET /clerks/4/ HTTP/1.1", "NotFound"),
+    ("GET /clerks/4/leave HTTP/1.1", "NotFound"),
+    ("GET /clerks/4/batches/12/candidates HTTP/1.1", "NotFound"),
     ("POST /wards/7/sheet HTTP/1.1", "only Get"),
     ("get /wards/7/sheet HTTP/1.1", "only Get"),
     ("GET /clerks/4/batches/12/keying HTTP/1.1", "only Post"),

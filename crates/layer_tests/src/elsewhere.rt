@@ -1,9 +1,9 @@
 //! Requests that a browser sends for pages from elsewhere, and for those that come through a proxy.
 
-use super::asked::{BODY, KEYED, asks, asks_of};
+use super::asked::{BODY, KEYED, NOTHING, asks, asks_of};
 use std::process::Abort;
 use std::test::Fail;
-use wire::Origin;
+use wire::{Given, Origin};
 
 /// Headers that a browser sends for a page from elsewhere, or where the office was found by a foreign name.
 const FOREIGN: [&str; 35] = [
@@ -72,7 +72,7 @@ const OWN: [&str; 20] = [
 /// whatever else it would be denied for.
 fn asks_with(
     rt: &(impl Abort + AllocGlobal),
-    origin: Option<Origin<'_>>,
+    given: Given<'_>,
     headers: &str,
     is_foreign: bool,
 ) -> Result<(), Fail> {
@@ -106,7 +106,7 @@ fn asks_with(
                 "{line} HTTP/1.1\r\n{first}\r\n{second}\r\n\r\n{BODY}"
             )?;
             let asked = if is_foreign { "Forbidden" } else { asked };
-            asks_of(rt, origin, request.as_bytes(), asked)?;
+            asks_of(rt, given, request.as_bytes(), asked)?;
         }
     }
     Ok(())
@@ -137,21 +137,28 @@ const PROXIED: [(&str, bool, bool); 17] = [
     ("Host: https://count.example.org", false, false),
 ];
 
+/// What an office was given that has a proxy of an origin in front.
+fn through(origin: Option<Origin<'_>>) -> Given<'_> {
+    Given { origin, gate: None }
+}
+
 #[test]
 fn pages_from_elsewhere_and_through_a_proxy(rt: HostRuntime) -> Result<(), Fail> {
     let with_port = Origin::parse("https://count.example.org:8443");
     let without = Origin::parse("http://count.example.org");
     assert!(rt; with_port.is_some() && without.is_some());
+    let with_port = through(with_port);
+    let without = through(without);
     for headers in FOREIGN {
-        asks_with(&rt, None, headers, true)?;
+        asks_with(&rt, NOTHING, headers, true)?;
         asks_with(&rt, with_port, headers, true)?;
     }
     for headers in OWN {
-        asks_with(&rt, None, headers, false)?;
+        asks_with(&rt, NOTHING, headers, false)?;
         asks_with(&rt, with_port, headers, false)?;
     }
     for (headers, by_port, by_none) in PROXIED {
-        asks_with(&rt, None, headers, true)?;
+        asks_with(&rt, NOTHING, headers, true)?;
         asks_with(&rt, with_port, headers, !by_port)?;
         asks_with(&rt, without, headers, !by_none)?;
     }

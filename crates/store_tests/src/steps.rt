@@ -4,6 +4,7 @@ ghost use Rattle.std.specs.Prelude.{◌≡◌, ◌+◌, ◌-◌, ◌^◌, ◌<�
 
 use super::clients::{Coming, Evening, Jumping, Port, Taking, joined, pages_of};
 use super::loads::loads;
+use codes::Tries;
 use desk::perform::perform;
 use desk::{Failure, Folder, Order, copy_office, order, tell_failure, tell_words};
 use hall::{Aside, FileNumbers, Terms, serve_hall};
@@ -14,6 +15,7 @@ use std::alloc::{AllocError, Global};
 use std::test::Fail;
 use store::Fault;
 use votes::{Broken, Counted, Sink};
+use wire::Given;
 
 /// One step of a script.
 #[derive(Clone, Copy, Debug)]
@@ -154,7 +156,7 @@ fn give<S: Alter + Drop, O: Sink, E: Sink>(
             };
             perform(alloc, &task, conn, &folder, out, err)
         }
-        Ok(Order::Serve { .. } | Order::Copy { .. } | Order::Journal) => {
+        Ok(Order::Serve { .. } | Order::Copy { .. } | Order::Journal | Order::Codes { .. }) => {
             (tell_failure(Failure::Output, err), conn)
         }
         Err(fault) => (tell_words(&fault, out, err), conn),
@@ -228,9 +230,12 @@ fn work<S: Alter + Drop>(
     Ok((Said::quietly(alloc, text), conn))
 }
 
-/// The file that is served, and no proxy.
+/// The file that is served, no proxy, and no codes.
 pub const TERMS: Terms<'static> = Terms {
-    origin: None,
+    given: Given {
+        origin: None,
+        gate: None,
+    },
     file: FileNumbers {
         device: 7,
         inode: 12,
@@ -293,6 +298,7 @@ fn serve<S: Alter + Drop>(
             &clock,
             &mut coming,
             TERMS,
+            Tries::of_nobody(alloc),
             &Unaided,
             evening.connections,
             &mut office,
@@ -328,6 +334,7 @@ fn listen<S: Alter + Drop>(
                 &clock,
                 &mut *watch,
                 TERMS,
+                Tries::of_nobody(alloc),
                 &Unaided,
                 most,
                 &mut office,
