@@ -1,10 +1,10 @@
 #!/usr/bin/env python3
-"""A stand-in for `serve .. --codes FILE`, to try the page of crates/wire before a whole office is built.
+"""A stand-in for `serve .. --codes FILE`, to try the page of crates/keying_page before a whole office is built.
 
-usage: tools/keying_office.py OFFICE CODES PORT
+usage: tools/keying_office.py OFFICE CODES PORT [ORIGIN]
 
 OFFICE is a file of JSON, which it reads when it starts and writes anew, whole, for each keying that it keeps. CODES has a line for each
-clerk, `4 CODE`. It answers what docs/HTTP.md says of a clerk's targets, in the same bodies, and it may be killed at any moment.
+clerk, `4 CODE`. ORIGIN is that of a proxy in front, as `--origin` has it. It answers what docs/HTTP.md says of a clerk's targets, in the same bodies, and it may be killed at any moment.
 It is no office: it judges no phase, and nothing of it is proved.
 """
 import base64
@@ -161,8 +161,10 @@ class Answers(http.server.BaseHTTPRequestHandler):
 
     def is_foreign(self):
         origin, site, host = (self.headers.get(name) for name in ("Origin", "Sec-Fetch-Site", "Host"))
-        return ("." in (host or "") and not re.fullmatch(r"127\.0\.0\.1(:[0-9]{1,5})?", host)) or (origin is not None and not re.fullmatch(r"http://(127\.0\.0\.1|localhost)(:[0-9]{1,5})?", origin)) or \
-            (site is not None and site not in ("same-origin", "none"))
+        given = self.server.origin
+        is_own_host = "." not in (host or "") or re.fullmatch(r"127\.0\.0\.1(:[0-9]{1,5})?", host) or (given and host in (given.split("://")[1], given.split("://")[1].split(":")[0]))
+        is_own_origin = origin is None or origin == given or re.fullmatch(r"http://(127\.0\.0\.1|localhost)(:[0-9]{1,5})?", origin)
+        return not is_own_host or not is_own_origin or (site is not None and site not in ("same-origin", "none"))
 
     def clerk_at(self, pattern):
         found = re.fullmatch(pattern, self.path)
@@ -181,7 +183,7 @@ class Answers(http.server.BaseHTTPRequestHandler):
         return status != 0
 
     def leave(self, clerk):
-        self.tell(200, {"left": clerk}, [("Clear-Site-Data", '"cookies"'), ("Cache-Control", "no-store")])
+        self.tell(200, {"left": True}, [("Clear-Site-Data", '"cookies"'), ("Cache-Control", "no-store")])
 
     def do_GET(self):
         number = "([1-9][0-9]{0,4})"
@@ -217,9 +219,10 @@ class Server(http.server.ThreadingHTTPServer):
 
 
 def main():
-    if len(sys.argv) != 4:
+    if len(sys.argv) not in (4, 5):
         sys.exit(__doc__)
     server = Server((HERE, int(sys.argv[3])), Answers)
+    server.origin = sys.argv[4] if len(sys.argv) == 5 else None
     server.office, server.gate = Office(sys.argv[1]), Gate(read_codes(sys.argv[2]))
     server.log = open(sys.argv[1] + ".log", "a")
     server.serve_forever(0.05)

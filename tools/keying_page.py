@@ -1,11 +1,11 @@
-"""The page on which a clerk keys, as it stands in crates/wire, and what its header has to name."""
+"""The page on which a clerk keys, as it stands in crates/keying_page, and what its header has to name."""
 import base64
 import hashlib
 import os
 import re
 
 ROOT = os.path.dirname(os.path.dirname(os.path.abspath(__file__)))
-FOLDER = os.path.join(ROOT, "crates", "wire", "src")
+FOLDER = os.path.join(ROOT, "crates", "keying_page", "src")
 SCRIPT = (("drafts", "DRAFTS"), ("keys", "KEYS"), ("office", "OFFICE"), ("showing", "SHOWING"), ("views", "VIEWS"))
 
 
@@ -17,16 +17,16 @@ def text_of(file, name):
 
 
 def style():
-    return text_of("page/style.rt", "STYLE")
+    return text_of("style.rt", "STYLE")
 
 
 def script():
-    return "".join(text_of(f"page/{file}.rt", name) for file, name in SCRIPT)
+    return "".join(text_of(f"{file}.rt", name) for file, name in SCRIPT)
 
 
 def page():
     """The page, byte for byte."""
-    return text_of("page/markup.rt", "HEAD") + style() + text_of("page/markup.rt", "BODY") + script() + text_of("page/markup.rt", "END")
+    return text_of("markup.rt", "HEAD") + style() + text_of("markup.rt", "BODY") + script() + text_of("markup.rt", "END")
 
 
 def hash_of(text):
@@ -35,8 +35,8 @@ def hash_of(text):
 
 
 def policy():
-    """What the page may do, as page.rt says it, and with the hashes of the texts as they stand."""
-    with open(os.path.join(FOLDER, "page.rt")) as source:
+    """What the page may do, as lib.rt says it, and with the hashes of the texts as they stand."""
+    with open(os.path.join(FOLDER, "lib.rt")) as source:
         found = re.search(r'const POLICY: &str =\s*"(.*?)";', source.read(), re.DOTALL).group(1)
     text = re.sub(r"\\\n\s*", "", found)
     text = re.sub(r"script-src '[^']*'", f"script-src {hash_of(script())}", text)

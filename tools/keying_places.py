@@ -14,7 +14,7 @@ from browser import HERE, SECONDS, Wrong
 
 FOLDER = os.path.dirname(os.path.abspath(__file__))
 PROGRAM = os.environ.get("COUNT_OFFICE", os.path.join(os.path.dirname(FOLDER), "count-office"))
-CODES = {4: "kf7m-2qxt", 9: "w3hd-9pzn"}
+CODES = {4: "kf7m-2wxt", 9: "w3hd-4psn"}
 SMALL = [[1, "Ann"], [2, "Bob"], [3, "Cy"], [4, "Dee"], [5, "Maximiliane Oberhuber-Featherstonehaugh of the Old Harbour Road"]]
 LARGE = [[c, f"Candidate {c}"] for c in range(1, 29)] + [[29, "<img src=x onerror=document.title='marked'>"], [30, "\u202eesrever\u2066 in"]]
 WARDS = {"7": {"name": "Harbour", "candidates": SMALL}, "8": {"name": "Old Town <b>&", "candidates": LARGE}}

@@ -1,6 +1,6 @@
 //! New codes, by random bytes of the system.
 
-ghost use Rattle.std.specs.Prelude.{◌≡◌, ◌≤◌, ◌+◌, IfOk, IfErr, map, string_bytes, take, true, ◌<◌};
+ghost use Rattle.std.specs.Prelude.{◌≡◌, ◌≤◌, ◌+◌, IfOk, IfSome, map, string_bytes, take, true, ◌<◌};
 ghost use Rattle.codes.specs.Codes.{holder};
 ghost use Rattle.codes.specs.Making.{IsMadeFor, clerks_of, is_letter, is_made, letter_of, numbers};
 
@@ -25,7 +25,8 @@ const CODE_BYTES: usize = 9;
 
 /// The letter that a byte draws, if it draws one.
 fn letter_of(byte: u8) -> Option<u8>
-    ensures { result ≡ letter_of byte }
+    ensures is { result ≡ letter_of byte }
+    ensures ours { IfSome result (λ letter. is_letter letter ≡ true) }
 {
     if byte < DRAWING_BYTES {
         Some(LETTERS[usize::from(byte) % LETTERS.len()])

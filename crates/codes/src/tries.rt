@@ -65,6 +65,29 @@ fn untried(alloc: Global, all: &[Credentials]) -> Result<Vec<ClerkTries>, AllocE
     Ok(made)
 }
 
+/// Whether a clerk waits at a moment, by the wrong codes of all.
+fn waits_among(all: &[ClerkTries], clerk: u32, now: u64) -> bool
+    ensures { result ≡ waits (map tries_entry all.now) clerk now }
+{
+    for tries in all {
+        if tries.clerk == clerk && tries.waits(now) {
+            return true;
+        }
+    }
+    false
+}
+
+/// One wrong code more came for a clerk at a moment.
+fn note_among(all: &mut [ClerkTries], clerk: u32, now: u64)
+    ensures { map tries_entry all.new ≡ noted clerk now (map tries_entry all.old) }
+{
+    for place in 0..all.len() {
+        if all[place].clerk == clerk {
+            all[place].note(now);
+        }
+    }
+}
+
 impl Tries {
     /// Of nobody. Takes no memory.
     pub fn of_nobody(alloc: Global) -> Tries
@@ -88,19 +111,13 @@ impl Tries {
     pub fn waits(&self, clerk: u32, now: u64) -> bool
         ensures { result ≡ waits (entries_of self.now) clerk now }
     {
-        self.all
-            .iter()
-            .any(|tries| tries.clerk == clerk && tries.waits(now))
+        waits_among(self.all.as_slice(), clerk, now)
     }
 
     /// One wrong code more came for a clerk at a moment. Where he holds none, nothing is noted.
     pub fn note(&mut self, clerk: u32, now: u64)
         ensures { entries_of self.new ≡ noted clerk now (entries_of self.old) }
     {
-        for tries in &mut self.all {
-            if tries.clerk == clerk {
-                tries.note(now);
-            }
-        }
+        note_among(self.all.as_mut_slice(), clerk, now);
     }
 }
