@@ -1,30 +1,37 @@
 -- Wrong codes that are noted, one entry after the other.
-use Rattle.std.proofs.Common.{◌≡◌, ◌∙◌, ◌+◌, ◌<◌, ◌++◌, ◌==◌, ◌∷◌, [], Bool, List, ap, arith, drop, length, map, refl, suc, sym, take, zero, ℕ}
-use Rattle.std.specs.Prelude.{if◌then◌else◌, slice_index_or, slice_set}
-use Rattle.codes.specs.Tries.{TriesEntry, noted, with_moment}
+use Rattle.std.proofs.Common.{◌≡◌, ◌∙◌, ◌+◌, ◌<◌, ◌++◌, ◌×◌, ◌∷◌, [], List, ap, arith, drop, length, map, subst, suc, sym, take, zero, ℕ}
+use Rattle.std.specs.Prelude.{slice_index_or, slice_set}
+use Rattle.codes.specs.Tries.{TriesEntry, noted, noted_one}
 
--- an entry of a clerk, behind one wrong code more for the clerk of a number
-abbrev pub noted_one : ℕ → ℕ → TriesEntry → TriesEntry
-noted_one clerk now e = if e.clerk == clerk then with_moment now e else e
+same_front : (a b : TriesEntry) (cs ds : List TriesEntry) → a ∷ cs ≡ b ∷ ds → a ≡ b
+same_front a b cs ds e = cc
+
+same_back : (a b : TriesEntry) (cs ds : List TriesEntry) → a ∷ cs ≡ b ∷ ds → cs ≡ ds
+same_back a b cs ds e = cc
+
+one_more : (n : ℕ) → suc n ≡ n + 1
+one_more n = omega arith
 
 module _ {X : Type 0} (f : X → TriesEntry) (clerk now : ℕ) where
-  -- what stands at the place behind those that were noted is noted
-  pub noted_next : (xs : List X) (place : ℕ) (x changed : X) → place < length xs → x ≡ slice_index_or xs place x → f changed ≡ noted_one clerk now (f x)
-      → (all : List X) → length all ≡ length xs → map f all ≡ noted clerk now (map f (take place xs)) ++ map f (drop place xs)
-      → map f (slice_set all place changed) ≡ noted clerk now (map f (take (suc place) xs)) ++ map f (drop (suc place) xs)
-  noted_next [] place x changed there is same all long are = absurd (omega arith)
-  noted_next (y ∷ xs) zero x changed there is same [] long are = absurd (omega arith)
-  noted_next (y ∷ xs) zero x changed there is same (z ∷ all) long are =
-      let (head, tail) = split (f z) (f y) (map f all) (map f xs) are in
-      ap (λ (e : TriesEntry). e ∷ map f all) (same ∙ ap (λ (v : X). noted_one clerk now (f v)) is) ∙ ap (λ (es : List TriesEntry). noted_one clerk now (f y) ∷ es) tail
-    where
-      split : (a b : TriesEntry) (cs ds : List TriesEntry) → a ∷ cs ≡ b ∷ ds → (a ≡ b) × (cs ≡ ds)
-      split a b cs ds e = (cc, cc)
-  noted_next (y ∷ xs) (suc place) x changed there is same [] long are = absurd (omega arith)
-  noted_next (y ∷ xs) (suc place) x changed there is same (z ∷ all) long are =
-      let (head, tail) = split (f z) (noted_one clerk now (f y)) (map f all) (noted clerk now (map f (take place xs)) ++ map f (drop place xs)) are in
-      ap (λ (e : TriesEntry). e ∷ map f (slice_set all place changed)) head
-      ∙ ap (λ (es : List TriesEntry). noted_one clerk now (f y) ∷ es) (noted_next xs place x changed (omega arith) is same all (omega arith) tail)
-    where
-      split : (a b : TriesEntry) (cs ds : List TriesEntry) → a ∷ cs ≡ b ∷ ds → (a ≡ b) × (cs ≡ ds)
-      split a b cs ds e = (cc, cc)
+  -- all up to a place were noted, and those behind it are as they were
+  abbrev pub AreNoted : List X → ℕ → List X → Type 0
+  AreNoted xs place all = map f all ≡ noted clerk now (map f (take place xs)) ++ map f (drop place xs)
+
+  next : (xs : List X) (place : ℕ) (x changed : X) (all : List X) → place < length xs → length all ≡ length xs → x ≡ slice_index_or all place x → f changed ≡ noted_one clerk now (f x)
+      → AreNoted xs place all → AreNoted xs (suc place) (slice_set all place changed)
+  next [] place x changed all there long is same are = absurd (omega arith)
+  next (y ∷ xs) place x changed [] there long is same are = absurd (omega arith)
+  next (y ∷ xs) zero x changed (z ∷ all) there long is same are =
+      ap (λ (e : TriesEntry). e ∷ map f all) (same ∙ ap (λ (v : X). noted_one clerk now (f v)) is ∙ ap (noted_one clerk now) (same_front (f z) (f y) (map f all) (map f xs) are))
+      ∙ ap (λ (es : List TriesEntry). noted_one clerk now (f y) ∷ es) (same_back (f z) (f y) (map f all) (map f xs) are)
+  next (y ∷ xs) (suc place) x changed (z ∷ all) there long is same are =
+      let others = noted clerk now (map f (take place xs)) ++ map f (drop place xs) in
+      ap (λ (e : TriesEntry). e ∷ map f (slice_set all place changed)) (same_front (f z) (noted_one clerk now (f y)) (map f all) others are)
+      ∙ ap (λ (es : List TriesEntry). noted_one clerk now (f y) ∷ es)
+      (next xs place x changed all (omega arith) (omega arith) is same (same_back (f z) (noted_one clerk now (f y)) (map f all) others are))
+
+  -- what stands at the place behind those that were noted is noted too
+  pub noted_next : (xs : List X) (place : ℕ) (x changed : X) (all : List X) → place < length xs → length all ≡ length xs → x ≡ slice_index_or all place x
+      → f changed ≡ noted_one clerk now (f x) → AreNoted xs place all → AreNoted xs (place + 1) (slice_set all place changed)
+  noted_next xs place x changed all there long is same are =
+      subst (λ (n : ℕ). AreNoted xs n (slice_set all place changed)) (one_more place) (next xs place x changed all there long is same are)

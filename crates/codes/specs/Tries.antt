@@ -43,6 +43,10 @@ waits tries clerk now = list_any (λ (e : TriesEntry). (e.clerk == clerk) && ent
 abbrev pub with_moment : ℕ → TriesEntry → TriesEntry
 with_moment now e = record { clerk = e.clerk; count = min (e.count + 1) most_tries; moments = drop 1 e.moments ++ now ∷ [] }
 
--- the same of the clerk of a number; nobody counts them for who holds no code
+-- the same, if it is the clerk of a number
+abbrev pub noted_one : ℕ → ℕ → TriesEntry → TriesEntry
+noted_one clerk now e = if e.clerk == clerk then with_moment now e else e
+
+-- one wrong code more came for the clerk of a number; nobody counts them for who holds no code
 abbrev pub noted : ℕ → ℕ → List TriesEntry → List TriesEntry
-noted clerk now tries = map (λ (e : TriesEntry). if e.clerk == clerk then with_moment now e else e) tries
+noted clerk now tries = map (noted_one clerk now) tries

@@ -3,7 +3,7 @@
 ghost use Rattle.std.specs.Prelude.{◌≡◌, ◌&&◌, ◌==◌, [], IfOk, map};
 ghost use Rattle.std.specs.List.{list_any};
 ghost use Rattle.codes.specs.Codes.{holder, holders_of};
-ghost use Rattle.codes.specs.Tries.{entries_of, entry_waits, noted, tries_entry, untried, waits, with_moment};
+ghost use Rattle.codes.specs.Tries.{entries_of, entry_waits, noted, noted_one, tries_entry, untried, waits, with_moment};
 
 use crate::credentials::Credentials;
 use crate::holders::Codes;
@@ -48,6 +48,15 @@ impl ClerkTries {
         self.moments.rotate_left(1);
         self.moments[MOST_TRIES - 1] = now;
     }
+
+    /// One wrong code more came at a moment, if it came for this clerk.
+    fn note_for(&mut self, clerk: u32, now: u64)
+        ensures { tries_entry self.new ≡ noted_one clerk now (tries_entry self.old) }
+    {
+        if self.clerk == clerk {
+            self.note(now);
+        }
+    }
 }
 
 /// No wrong code came for any of these.
@@ -82,9 +91,7 @@ fn note_among(all: &mut [ClerkTries], clerk: u32, now: u64)
     ensures { map tries_entry all.new ≡ noted clerk now (map tries_entry all.old) }
 {
     for place in 0..all.len() {
-        if all[place].clerk == clerk {
-            all[place].note(now);
-        }
+        all[place].note_for(clerk, now);
     }
 }
 
