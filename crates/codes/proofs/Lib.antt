@@ -2,3 +2,4 @@
 pub mod LetterLemmas
 pub mod NumberLemmas
 pub mod TryLemmas
+pub mod HolderLemmas
