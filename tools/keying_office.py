@@ -121,23 +121,18 @@ class Gate:
     def __init__(self, codes):
         self.codes, self.wrong, self.lock = codes, {}, threading.Lock()
 
-    def admits(self, clerk, header):
-        """The status that denies him, or 0."""
+    def admits(self, clerk, values):
+        """The status that denies him, or 0, by the values of `Authorization`."""
         with self.lock:
             now = time.monotonic()
             wrong = [moment for moment in self.wrong.get(clerk, []) if now - moment < SECONDS]
             if len(wrong) >= TRIES:
                 return 429
-            given = b""
-            if header and header.startswith("Basic "):
-                try:
-                    given = base64.b64decode(header[6:], validate=True)
-                except ValueError:
-                    given = b""
-            code = self.codes.get(str(clerk))
-            if code is not None and hmac.compare_digest(given, f"{clerk}:{code}".encode()):
+            code = self.codes.get(str(clerk), "")
+            wanted = "Basic " + base64.b64encode(f"{clerk}:{code}".encode()).decode()
+            if code and len(values) == 1 and hmac.compare_digest(values[0].strip().encode("latin-1"), wanted.encode()):
                 return 0
-            if header:
+            if values and code:
                 self.wrong[clerk] = wrong + [now]
             return 401
 
@@ -166,55 +161,69 @@ class Answers(http.server.BaseHTTPRequestHandler):
         is_own_origin = origin is None or origin == given or re.fullmatch(r"http://(127\.0\.0\.1|localhost)(:[0-9]{1,5})?", origin)
         return not is_own_host or not is_own_origin or (site is not None and site not in ("same-origin", "none"))
 
-    def clerk_at(self, pattern):
-        found = re.fullmatch(pattern, self.path)
-        return [int(number) for number in found.groups()] if found else None
-
-    def denied(self, clerk):
-        """Whether he is let in no further."""
+    def is_denied(self):
+        """Whether it is let in no further: at the headers of browsers, or at the gate."""
         if self.is_foreign():
             self.tell(403, {"error": "forbidden"})
             return True
-        status = self.server.gate.admits(clerk, self.headers.get("Authorization"))
+        found = re.match("/clerks/([1-9][0-9]{0,4})/", self.path)
+        status = self.server.gate.admits(int(found[1]), self.headers.get_all("Authorization", [])) if found else 0
         if status == 401:
-            self.tell(401, {"error": "unauthorized"}, [("WWW-Authenticate", f'Basic realm="clerk {clerk}", charset="UTF-8"')])
+            self.tell(401, {"error": "unauthorized"}, [("WWW-Authenticate", f'Basic realm="clerk {found[1]}", charset="UTF-8"')])
         elif status == 429:
             self.tell(429, {"error": "too many wrong codes"}, [("Retry-After", str(SECONDS))])
         return status != 0
 
+    def page(self, clerk):
+        self.answer(200, "text/html; charset=utf-8", keying_page.page().encode(), [(name, value()) for name, value in keying_page.HEADERS])
+
+    def work(self, clerk):
+        self.tell(200, self.server.office.work(clerk))
+
+    def candidates(self, clerk, batch):
+        self.tell(*self.server.office.candidates(clerk, batch))
+
     def leave(self, clerk):
         self.tell(200, {"left": True}, [("Clear-Site-Data", '"cookies"'), ("Cache-Control", "no-store")])
 
-    def do_GET(self):
-        number = "([1-9][0-9]{0,4})"
-        for pattern, give in (
-            (f"/clerks/{number}/", lambda clerk: self.answer(200, "text/html; charset=utf-8", keying_page.page().encode(), [(name, value()) for name, value in keying_page.HEADERS])),
-            (f"/clerks/{number}/work", lambda clerk: self.tell(200, self.server.office.work(clerk))),
-            (f"/clerks/{number}/leave", self.leave),
-            (f"/clerks/{number}/batches/{number}/candidates", lambda clerk, batch: self.tell(*self.server.office.candidates(clerk, batch))),
-        ):
-            numbers = self.clerk_at(pattern)
-            if numbers:
-                if not self.denied(numbers[0]):
-                    give(*numbers)
+    def text(self, ward):
+        self.tell(409, {"refusal": 9, "text": "wrong phase"})
+
+    def key(self, clerk, batch):
+        body = self.rfile.read(int(self.headers.get("Content-Length", 0)))
+        self.tell(*self.server.office.key(clerk, batch, json.loads(body)))
+
+    ROUTES = (
+        ("GET", "/clerks/N/", page), ("GET", "/clerks/N/work", work), ("GET", "/clerks/N/leave", leave), ("GET", "/clerks/N/batches/N/candidates", candidates),
+        ("POST", "/clerks/N/batches/N/keying", key), ("GET", "/wards/N/sheet", text), ("GET", "/wards/N/result", text),
+    )
+
+    def serve(self):
+        if self.is_denied():
+            return
+        for method, route, give in self.ROUTES:
+            found = re.fullmatch(route.replace("N", "([1-9][0-9]{0,4})"), self.path)
+            if found and method == self.command:
+                give(self, *map(int, found.groups()))
+                return
+            if found:
+                self.tell(405, {"error": "method not allowed"}, [("Allow", method)])
                 return
         self.tell(404, {"error": "not found"})
 
-    def do_POST(self):
-        body = self.rfile.read(int(self.headers.get("Content-Length", 0)))
-        numbers = self.clerk_at("/clerks/([1-9][0-9]{0,4})/batches/([1-9][0-9]{0,4})/keying")
-        if not numbers:
-            self.tell(404, {"error": "not found"})
-        elif not self.denied(numbers[0]):
-            self.tell(*self.server.office.key(*numbers, json.loads(body)))
+    do_GET = do_POST = do_PUT = do_DELETE = serve
 
     def log_message(self, *words):
         if self.server.log:
-            print(self.command, self.path, file=self.server.log, flush=True)
+            print(getattr(self, "command", None), getattr(self, "path", None), file=self.server.log, flush=True)
 
 
 class Server(http.server.ThreadingHTTPServer):
     daemon_threads = True
+
+    def handle_error(self, *words):
+        pass
+
     allow_reuse_address = True
 
 

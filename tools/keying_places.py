@@ -108,8 +108,8 @@ class Program:
     """The program, over a file of its own."""
 
     def __init__(self, folder, port):
-        self.folder, self.port, self.process = folder, port, None
-        write_codes(os.path.join(folder, "codes"))
+        self.folder, self.codes, self.port, self.process = folder, os.path.join(folder, "codes"), port, None
+        write_codes(self.codes)
         self.order("init")
         for ward, it in WARDS.items():
             self.order("ward", ward, "2", it["name"], "--id", f"w{ward}")
@@ -146,9 +146,9 @@ class Program:
         self.order("again", batch, "--id", f"g{batch}")
 
 
-def write_codes(path):
+def write_codes(path, codes=None):
     with open(os.open(path, os.O_WRONLY | os.O_CREAT | os.O_TRUNC, 0o600), "w") as file:
-        file.writelines(f"{clerk} {code}\n" for clerk, code in CODES.items())
+        file.writelines(f"{clerk} {code}\n" for clerk, code in (codes or CODES).items())
 
 
 def free_port():
