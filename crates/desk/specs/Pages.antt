@@ -121,7 +121,7 @@ codes_page fault = record {
 
 -- that codes were made for so many clerks
 abbrev pub codes_made_page : ℕ → Page
-codes_made_page count = printed (joined (codes "codes for " ∷ decimal count ∷ codes " clerks\n" ∷ []))
+codes_made_page count = printed (joined (codes "codes written: " ∷ decimal count ∷ codes "\n" ∷ []))
 
 -- why the program gives up
 abbrev pub failed : Failure → Page

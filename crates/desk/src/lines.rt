@@ -271,11 +271,9 @@ pub fn tell_codes_made<O: Sink, E: Sink>(count: u32, out: &mut O, err: &mut E) -
     requires err { E.failed err.old < 2 ^ 64 - 1 }
     ensures { let outputs = outputs_of O.taken O.failed E.taken E.failed in Shows (outputs out.old err.old) (outputs out.new err.new) (codes_made_page count) result }
 {
-    tell_text(
-        &["codes for ", Buffer::new().format(count), " clerks\n"],
-        out,
-        err,
-    )
+    let mut digits = Buffer::new();
+    let pieces = ["codes written: ", digits.format(count), "\n"];
+    tell_text(&pieces, out, err)
 }
 
 /// Tells that an office has no journal, and gives the status: 1, or 3 where the error output fails.
