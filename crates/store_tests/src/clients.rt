@@ -80,14 +80,15 @@ impl<'a> Client<'a> {
 /// Clients who come in turn; or one who can't be let in when his turn comes, and isn't there any more later.
 pub type Comers<'a> = &'a [Option<Client<'a>>];
 
-/// An office that serves: who comes, after how many serving ends, how many seconds later the clock is at each look, and
-/// after how many waits the doors fail.
+/// An office that serves: who comes, after how many serving ends, how many seconds later the clock is at each look, after
+/// how many waits the doors fail, and the text of a file of clerks' codes, if they are asked for.
 #[derive(Clone, Copy, Debug)]
 pub struct Evening<'a> {
     pub comers: Comers<'a>,
     pub connections: Option<u64>,
     pub seconds: u64,
     pub waits: u64,
+    pub codes: Option<&'a str>,
 }
 
 impl<'a> Evening<'a> {
@@ -98,6 +99,7 @@ impl<'a> Evening<'a> {
             connections: Some(comers.len() as u64),
             seconds: 0,
             waits: 10_000,
+            codes: None,
         }
     }
 }

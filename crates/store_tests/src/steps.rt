@@ -4,7 +4,7 @@ ghost use Rattle.std.specs.Prelude.{◌≡◌, ◌+◌, ◌-◌, ◌^◌, ◌<�
 
 use super::clients::{Coming, Evening, Jumping, Port, Taking, joined, pages_of};
 use super::loads::loads;
-use codes::Tries;
+use codes::{Codes, Tries};
 use desk::perform::perform;
 use desk::{Failure, Folder, Order, copy_office, order, tell_failure, tell_words};
 use hall::{Aside, FileNumbers, Terms, serve_hall};
@@ -15,7 +15,7 @@ use std::alloc::{AllocError, Global};
 use std::test::Fail;
 use store::Fault;
 use votes::{Broken, Counted, Sink};
-use wire::Given;
+use wire::{Gate, Given, Page};
 
 /// One step of a script.
 #[derive(Clone, Copy, Debug)]
@@ -242,6 +242,36 @@ pub const TERMS: Terms<'static> = Terms {
     },
 };
 
+/// The codes of an evening, if they are asked for; and the wrong ones that came before, which are none.
+fn codes_of(alloc: Global, evening: Evening<'_>) -> Result<(Option<Codes>, Tries), Fail> {
+    let Some(text) = evening.codes else {
+        return Ok((None, Tries::of_nobody(alloc)));
+    };
+    let Ok(held) = Codes::read(alloc, text.as_bytes()) else {
+        return Err(Fail::from("no codes are read"));
+    };
+    let tries = Tries::new(alloc, &held)?;
+    Ok((Some(held), tries))
+}
+
+/// What the office is served by, with these codes.
+fn terms_of(held: &Option<Codes>) -> Terms<'_> {
+    let gate = match held {
+        Some(codes) => Some(Gate {
+            codes,
+            page: Page {
+                text: "<p>keying</p>",
+                policy: "default-src 'none'",
+            },
+        }),
+        None => None,
+    };
+    Terms {
+        given: Given { origin: None, gate },
+        file: TERMS.file,
+    }
+}
+
 /// An office that has nothing beside it: no copy and no journal can be made.
 #[derive(Clone, Copy)]
 struct Unaided;
@@ -290,6 +320,7 @@ fn serve<S: Alter + Drop>(
             ));
         }
     };
+    let (held, tries) = codes_of(alloc, evening)?;
     let served = {
         let clock = Jumping::by(evening.seconds);
         let mut coming = Coming::new(evening, &pages);
@@ -297,8 +328,8 @@ fn serve<S: Alter + Drop>(
             alloc,
             &clock,
             &mut coming,
-            TERMS,
-            Tries::of_nobody(alloc),
+            terms_of(&held),
+            tries,
             &Unaided,
             evening.connections,
             &mut office,
