@@ -9,7 +9,7 @@
 //! ```
 #![tactic(auto)]
 
-ghost use Rattle.std.specs.Prelude.{◌≡◌, ◌+◌, ◌-◌, ◌^◌, ◌<◌, IfSome, IsSomeAnd, Some};
+ghost use Rattle.std.specs.Prelude.{◌≡◌, ◌+◌, ◌-◌, ◌^◌, ◌<◌, IfSome, IsSomeAnd, None, Some};
 ghost use Rattle.sqlite.specs.Effect.{Database};
 ghost use Rattle.sqlite.specs.Held.{state};
 ghost use Rattle.sqlite.specs.State.{HasCleanDisk};
@@ -19,8 +19,9 @@ ghost use Rattle.tables.specs.Reading.{OnlyReads};
 ghost use Rattle.store.specs.Openings.{IsLeftAt};
 ghost use Rattle.office.specs.Answers.{IsReadAt, WhenOpenAt};
 ghost use Rattle.desk.specs.Journals.{IsJournalTold, IsToldElsewhere};
-ghost use Rattle.hall.specs.Handings.{IsCopyTold};
 ghost use Rattle.desk.specs.Pages.{Tells, outputs_of};
+ghost use Rattle.hall.specs.Handings.{IsCopyTold};
+ghost use Rattle.count_office.specs.Done.{EndsCopy, IsDone};
 ghost use Rattle.sqlite_wal.specs.Reads.{AreClean};
 ghost use Rattle.sqlite.specs.Closing.{IsCopied};
 
@@ -113,6 +114,7 @@ fn perform_watched<S: Alter, O: Sink, E: Sink>(
 ) -> (u8, Connection<S>)
     requires out { O.failed out.old < 2 ^ 64 - 1 }
     requires err { E.failed err.old < 2 ^ 64 - 1 }
+    ensures { IsDone task.now result.0 (state S.Store conn) (state S.Store result.1) }
 {
     let paths = Paths { rt };
     if wants_progress(rt, task) {
@@ -133,6 +135,10 @@ fn perform_on<S: Alter, O: Sink, E: Sink>(
 ) -> (u8, Connection<S>)
     requires out { O.failed out.old < 2 ^ 64 - 1 }
     requires err { E.failed err.old < 2 ^ 64 - 1 }
+    ensures performs { (task : Task) → order.now ≡ Order.Perform task → IsDone task result.0 (state S.Store conn) (state S.Store result.1) }
+    ensures journals { order.now ≡ Order.Journal → (let outputs = outputs_of O.taken O.failed E.taken E.failed in Tells (outputs out.old err.old) (outputs out.new err.new) result.0
+        (λ _ page. HasCleanDisk (state S.Store result.1) → ((db : Database) → RestsAt db (state S.Store conn) → (s : OfficeState) → IsLeftAt s db → IsJournalTold s page)
+        × IsToldElsewhere page (state S.Store conn) (state S.Store result.1))) }
 {
     match order {
         Order::Perform(task) => perform_watched(rt, task, conn, out, err),
@@ -252,6 +258,8 @@ fn finish<D: Disk + Drop, E: Sink>(
     err: &mut E,
 ) -> u8
     requires { status ≡ 0 → E.failed err.old < 2 ^ 64 - 1 }
+    ensures other { ¬ (status ≡ 0) → (result ≡ status) × (err.new ≡ err.old) }
+    ensures whole { status ≡ 0 → EndsCopy E.taken E.failed err.old err.new result }
 {
     match state {
         CopyState::Whole => {}
@@ -347,6 +355,7 @@ fn closed_copy<D: Disk + Drop, E: Sink>(
     err: &mut E,
 ) -> (u8, Option<Files<D>>)
     requires { E.failed err.old < 2 ^ 64 - 1 }
+    ensures ends { EndsCopy E.taken E.failed err.old err.new result.0 }
     ensures alone { result.0 ≡ 0 → IsSomeAnd result.1 (λ files. AreClean D.Disk files.log files.db → IsCopied made files) }
 {
     match close(made) {
@@ -417,9 +426,31 @@ fn why_unopened(site: Site, order: &Order<'_>) -> Option<Fault>
     }
 }
 
-/// Hands an order on a database that another program holds over to it, if it serves that; and gives the status. Nobody may
-/// serve it: then it is told that it is held.
+/// Hands an order over to whoever serves a database, if anybody does; and gives the status.
 fn hand_over_watched<O: Sink, E: Sink>(
+    rt: &HostRuntime,
+    database: &str,
+    words: &[&str],
+    order: &Order<'_>,
+    out: &mut O,
+    err: &mut E,
+) -> Option<u8>
+    requires out { O.failed out.old < 2 ^ 64 - 1 }
+    requires err { E.failed err.old < 2 ^ 64 - 1 }
+    ensures { result ≡ None → err.new ≡ err.old }
+{
+    match order {
+        Order::Perform(task) if wants_progress(rt, task) => {
+            let mut watched = Progress::new(out, rt.stderr());
+            hand_over(rt, database, words, order, &mut watched, err)
+        }
+        _ => hand_over(rt, database, words, order, out, err),
+    }
+}
+
+/// Hands an order on a database that another program holds over to it, and gives the status. Where that one doesn't serve it,
+/// it is told that it is held.
+fn hand_over_held<O: Sink, E: Sink>(
     rt: &HostRuntime,
     database: &str,
     words: &[&str],
@@ -430,14 +461,7 @@ fn hand_over_watched<O: Sink, E: Sink>(
     requires out { O.failed out.old < 2 ^ 64 - 1 }
     requires err { E.failed err.old < 2 ^ 64 - 1 }
 {
-    let handed = match order {
-        Order::Perform(task) if wants_progress(rt, task) => {
-            let mut watched = Progress::new(out, rt.stderr());
-            hand_over(rt, database, words, order, &mut watched, err)
-        }
-        _ => hand_over(rt, database, words, order, out, err),
-    };
-    match handed {
+    match hand_over_watched(rt, database, words, order, out, err) {
         Some(status) => status,
         None => tell_failure(Failure::Office(Fault::Store), err),
     }
@@ -474,7 +498,7 @@ fn perform_at<O: Sink, E: Sink>(
             status
         }
         Err(error) if error.kind() == ErrorKind::WouldBlock => {
-            hand_over_watched(rt, found.database(), words, order, out, err)
+            hand_over_held(rt, found.database(), words, order, out, err)
         }
         Err(error) if error.kind() == ErrorKind::OutOfMemory => {
             tell_failure(Failure::Office(Fault::Memory), err)

@@ -1,9 +1,9 @@
 -- No more are in a room than may be, whoever comes in, goes on or leaves.
-use Rattle.std.proofs.Common.{◌≡◌, ◌≤◌, ◌<◌, ◌+◌, ◌∙◌, ◌⊎◌, ◌∷◌, ◌++◌, ℕ, List, [], Option, ap, arith, inl, inr, length, length-set, remove, set, subst, sym}
+use Rattle.std.proofs.Common.{◌≡◌, ◌≤◌, ◌<◌, ◌+◌, ◌∙◌, ◌⊎◌, ◌∷◌, ◌++◌, ℕ, List, [], Option, ap, arith, inl, inr, length, remove, subst, sym}
 use Rattle.std.specs.List.{FoldsTo}
-use Rattle.std.proofs.lemmas.List.{get_or-set_same, length_push}
+use Rattle.std.proofs.lemmas.List.{length_push}
 use Rattle.std.proofs.lemmas.List.Edits.{length-remove}
-use Rattle.std.proofs.lemmas.List.Sums.{sum_by-remove, sum_by-set, sum_by_push}
+use Rattle.std.proofs.lemmas.List.Sums.{sum_by-remove, sum_by_push}
 use Rattle.gathering.specs.Clients.{IsNew}
 use Rattle.gathering.specs.Rooms.{answer_bytes, bytes_held, bytes_of}
 use Rattle.gathering.specs.declared.client.Answer.{Answer}
@@ -17,22 +17,12 @@ module _ {L : Type 0} where
   abbrev pub IsWithinOf : List (Client L) → Type 0
   IsWithinOf clients = (length clients ≤ most_clients) × (bytes_held clients ≤ most_bytes)
 
-  one_less : (clients : List (Client L)) (place : ℕ) (d : Client L) → place < length clients → IsWithinOf clients → IsWithinOf (remove clients place)
+  -- one left
+  pub one_less : (clients : List (Client L)) (place : ℕ) (d : Client L) → place < length clients → IsWithinOf clients → IsWithinOf (remove clients place)
   one_less clients place d within was =
       let fewer = length-remove clients place within in
       let less = sum_by-remove bytes_of clients place d within in
       (omega (arith, fewer, was.0), omega (arith, less, was.1))
-
-  -- one who is done or lost left, whatever is held of him now
-  pub within_less : (clients left : List (Client L)) (place : ℕ) (old new : Client L) → place < length clients → IsWithinOf clients → left ≡ remove (set clients place new) place → IsWithinOf left
-  within_less clients left place old new within was is =
-      let long = length-set clients place new in
-      let inside : place < length (set clients place new) = omega (arith, within, long) in
-      let fewer = length-remove (set clients place new) place inside in
-      let same = ap (λ (c : Client L). bytes_of c) (get_or-set_same clients place new old within) in
-      let less = sum_by-remove bytes_of (set clients place new) place old inside in
-      let changed = sum_by-set bytes_of clients place new old within in
-      subst (λ (cs : List (Client L)). IsWithinOf cs) (sym is) (omega (arith, fewer, long, was.0), omega (arith, less, changed, same, was.1))
 
   let_go : (least now : ℕ) (places : List ℕ) (old new : List (Client L)) → FoldsTo (IsLetGo least now) old places new → IsWithinOf old → IsWithinOf new
   let_go least now [] old new same was = subst (λ (cs : List (Client L)). IsWithinOf cs) same was

@@ -1,5 +1,5 @@
 -- From one moment of a hall to another.
-use Rattle.std.proofs.Common.{◌≡◌, ◌≤◌, ◌<◌, ◌+◌, ◌-◌, ◌^◌, ◌∙◌, ◌⊎◌, ◌∷◌, ◌++◌, ℕ, true, List, [], None, Option, Some, ap, append-nil, append_assoc, arith, get_or, inl, inr, length, map, option_map, refl, remove, set, subst, sym}
+use Rattle.std.proofs.Common.{◌≡◌, ◌≤◌, ◌<◌, ◌+◌, ◌-◌, ◌^◌, ◌∙◌, ◌⊎◌, ◌∷◌, ◌++◌, ℕ, true, List, [], None, Option, Some, ap, append-nil, append_assoc, arith, get_or, inl, inr, insert, length, length-set, map, option_map, refl, remove, set, subst, suc, sym, zero}
 use Rattle.std.specs.Prelude.{Err, IfSome, Ok, OnOk, Result, unwrap_or}
 use Rattle.std.specs.Result.{IsErr}
 use Rattle.std.specs.List.{FoldsTo}
@@ -30,6 +30,19 @@ use Rattle.hall.proofs.GuestLemmas.{are_same, first_under, gathered_for, none_in
 use Rattle.hall.proofs.KeptLemmas.{cleans, kept_of, turned_away}
 use Rattle.hall.proofs.LeavingLemmas.{folds_then}
 use Rattle.hall.proofs.TurnLemmas.{is_heard}
+
+-- ---- a place
+
+-- one was taken out of his place, and stands there again as another
+pub set_again : {X : Type 0} (xs : List X) (place : ℕ) (x : X) → place < length xs → insert (remove xs place) place x ≡ set xs place x
+set_again [] place x within = absurd (omega (arith, within))
+set_again (y ∷ ys) zero x within = refl
+set_again {X} (y ∷ ys) (suc place) x within = ap (λ (zs : List X). y ∷ zs) (set_again ys place x (omega (arith, within)))
+
+remove_set : {X : Type 0} (xs : List X) (place : ℕ) (x : X) → place < length xs → remove (set xs place x) place ≡ remove xs place
+remove_set [] place x within = absurd (omega (arith, within))
+remove_set (y ∷ ys) zero x within = refl
+remove_set {X} (y ∷ ys) (suc place) x within = ap (λ (zs : List X). y ∷ zs) (remove_set ys place x (omega (arith, within)))
 
 -- ---- those who came in
 
@@ -226,6 +239,17 @@ module _ {L : Type 0} (given : Given) (line : Line L) where
         → GoesOnServing given line state_of let_in let_in_mid old new before later → GoesOnServing given line state_of let_in let_in_later old new before later
     serving_same let_in let_in_mid let_in_later old new before later same it =
         subst (λ (lines : Option (List (Comer L))). GoesOnServing given line state_of let_in lines old new before later) (sym same) it
+
+    -- one went on, and left
+    pub left_after : (let_in : Option (List (Comer L))) (room left : Room L) (place : ℕ) (old new : Client L) (before later : Desk S) → place < length room.clients.items
+        → old ≡ get_or room.clients.items place old → new.door ≡ old.door → new.number ≡ old.number → ((start : L) → IsOf line start old → IsOf line start new)
+        → MayHaveTurn given line state_of old new before later → left.clients.items ≡ remove room.clients.items place → left.came ≡ room.came → left.counted ≡ room.counted
+        → GoesOnServing given line state_of let_in let_in room left before later
+    left_after let_in room left place old new before later within at door number is turn items came counted =
+        let went = room_with room place new in
+        serving_then let_in let_in let_in room went left before later later (goes_on_at state_of let_in room went place old new before later within at door number is turn refl refl refl)
+        (serving_none let_in let_in went left later
+        (goes_less let_in let_in went left place refl (omega (arith, within, length-set room.clients.items place new)) (items ∙ sym (remove_set room.clients.items place new within)) came counted))
 
     -- those who were in went on, some were let go, and more came in
     pub serving_round : (let_in let_in_mid let_in_later : Option (List (Comer L))) (old went left new : Room L) (before later : Desk S) (least now : ℕ)

@@ -1,5 +1,6 @@
 pub mod Terms
 pub mod Handings
+pub mod Outlets
 pub mod Reads
 pub mod Visits
 pub mod Turns

@@ -9,6 +9,8 @@ use Rattle.wire.specs.Gates.{GivenEntry, KnockEntry}
 use Rattle.wire.specs.Serving.{reading_response}
 use Rattle.wire.specs.Told.{IsTold, told_bytes}
 use Rattle.wire.specs.declared.response.Response.{Response}
+use Rattle.wire.specs.declared.serving.Served.{Served}
+use Rattle.wire.specs.declared.serving.Served.TheVariants.{Answered, ReadFailed, WriteFailed}
 use Rattle.wire.specs.declared.target.Reading.{Reading}
 use Rattle.hall.specs.declared.reads.Kept.{Kept}
 use Rattle.hall.specs.declared.reads.KeptAnswer.{KeptAnswer}
@@ -35,6 +37,12 @@ pub record IsRead (given : GivenEntry) (s : OfficeState) (got answer : List ℕ)
   pub response : Response
   pub told : IsTold (reading_response s what) response
   pub is : answer ≡ told_bytes response.bytes
+
+-- an answer was told whole, and it tells no fault (503)
+abbrev pub TellsNoFault : Served → Type 0
+TellsNoFault (Answered status) = status ≡ 503 → ⊥
+TellsNoFault ReadFailed = ⊥
+TellsNoFault WriteFailed = ⊥
 
 -- each answer that is kept is the one at this state
 abbrev pub AreReadAt : GivenEntry → OfficeState → List ReadEntry → Type 0

@@ -1,9 +1,9 @@
 //! Who goes on, a client or an order: he is heard, has his turn once what he asks has come to its end, and is told his answer.
 
-ghost use Rattle.std.specs.Prelude.{◌≡◌, ◌⊎◌, ℕ, [], None, Ok, Some, true};
+ghost use Rattle.std.specs.Prelude.{◌≡◌, ◌⊎◌, ℕ, [], None, Ok, Some, false, true};
 ghost use Rattle.sqlite.specs.Held.{state};
 ghost use Rattle.gathering.specs.Lines.{Gathers, HasTaken, line_of};
-ghost use Rattle.gathering.specs.Clients.{IsHeard, IsOf, IsTold};
+ghost use Rattle.gathering.specs.Clients.{IsOf, IsTold};
 ghost use Rattle.wire.specs.Gates.{given_entry};
 ghost use Rattle.hall.specs.Handings.{HasCameWhole};
 ghost use Rattle.hall.specs.Terms.{Given as AllGiven, given_in};
@@ -12,7 +12,7 @@ ghost use Rattle.office.specs.Answers.{IsOpenAt, IsReadAt, WhenOpenAt};
 ghost use Rattle.wire.specs.Asking.{Asks, reading};
 ghost use Rattle.wire.specs.declared.target.Reading.{Reading};
 ghost use Rattle.codes.specs.Tries.{entries_of};
-ghost use Rattle.hall.specs.Reads.{IsRead, desk_at, kept_in};
+ghost use Rattle.hall.specs.Reads.{IsRead, TellsNoFault, desk_at, kept_in};
 ghost use Rattle.hall.specs.Visits.{HasServed, IsKeptWaiting, IsLetIn, IsToldToWait, ServesClient, ServesVisit, Visit};
 
 use crate::aside::Aside;
@@ -98,6 +98,17 @@ fn hear<L: Line>(alloc: Global, given: Given<'_>, client: &mut Client<L>) -> Res
     }
 }
 
+/// Whether an answer was told whole, and tells no fault.
+fn tells_no_fault(served: Served) -> bool
+    ensures { result ≡ true → TellsNoFault served }
+{
+    match served {
+        Served::Answered(status) => status != FAULT,
+        Served::ReadFailed => false,
+        Served::WriteFailed => false,
+    }
+}
+
 /// Serves a client of whom these bytes were gathered, and gives his answer, of which nothing was told yet; and whether it was
 /// told whole, and without a fault. Where memory is wanting for it, it is a beginning.
 fn served<S: Alter>(
@@ -114,13 +125,50 @@ fn served<S: Alter>(
     let mut reader = Gathered::new(got);
     let mut writer = Writing::new(alloc);
     let served = serve_one(alloc, given, &mut reader, &mut writer, office);
-    let is_told = matches!(served, Served::Answered(status) if status != FAULT);
+    let is_told = tells_no_fault(served);
     (writer.into_bytes(), is_told)
 }
 
-/// The answer to a client who is let in, of whom these bytes were gathered, of which nothing was told yet. What is read anew is
-/// kept for who asks the same; and where an answer to the same is kept, it is told again. Before anything else no answer is
-/// kept any more.
+/// Whether a client asks for a read, and the office is open for it. Where memory is wanting, he doesn't.
+fn is_reading<S: Alter>(alloc: Global, given: Given<'_>, got: &[u8], office: &Office<S>) -> bool
+    ensures open { result ≡ true → office.now.closed ≡ false }
+    ensures asks { result ≡ true → (what : Reading) × Asks (given_entry given.entry) got.now (reading what) }
+{
+    if office.is_closed() {
+        return false;
+    }
+    asks_reading(alloc, given, got)
+}
+
+/// The answer to a client who asks for a read. What is read anew is kept for who asks the same; and where an answer to the same
+/// is kept, it is told again.
+fn read_answer<S: Alter>(
+    alloc: Global,
+    given: Given<'_>,
+    got: &[u8],
+    office: &mut Office<S>,
+    kept: &mut Kept,
+) -> Answer
+    requires open { office.old.closed ≡ false }
+    requires asks { (what : Reading) × Asks (given_entry given.entry) got.now (reading what) }
+    ensures served { (number moment : ℕ) → ServesClient (given_entry given.entry) (state S.Store) (desk_at office.old (kept_in kept.old))
+        (record { door = Door.Clients; number = number; moment = moment; got = got.now; answer = result.bytes.items }) (desk_at office.new (kept_in kept.new)) }
+    ensures tries { entries_of kept.new.tries ≡ entries_of kept.old.tries }
+    ensures untold { result.sent ≡ 0 }
+{
+    if let Some(bytes) = kept.told_to(alloc, got) {
+        return Answer { bytes, sent: 0 };
+    }
+    let (bytes, is_told) = served(alloc, given, got, office);
+    if !is_told {
+        return Answer { bytes, sent: 0 };
+    }
+    kept.keep(alloc, got, bytes.as_slice());
+    Answer { bytes, sent: 0 }
+}
+
+/// The answer to a client who is let in, of whom these bytes were gathered, of which nothing was told yet. Before anything but a
+/// read no answer is kept any more.
 fn answered<S: Alter>(
     alloc: Global,
     given: Given<'_>,
@@ -133,18 +181,11 @@ fn answered<S: Alter>(
     ensures tries { entries_of kept.new.tries ≡ entries_of kept.old.tries }
     ensures untold { result.sent ≡ 0 }
 {
-    if office.is_closed() || !asks_reading(alloc, given, got) {
-        kept.empty();
-        let (bytes, _) = served(alloc, given, got, office);
-        return Answer { bytes, sent: 0 };
+    if is_reading(alloc, given, got, office) {
+        return read_answer(alloc, given, got, office, kept);
     }
-    if let Some(bytes) = kept.told_to(alloc, got) {
-        return Answer { bytes, sent: 0 };
-    }
-    let (bytes, is_told) = served(alloc, given, got, office);
-    if is_told {
-        kept.keep(alloc, got, bytes.as_slice());
-    }
+    kept.empty();
+    let (bytes, _) = served(alloc, given, got, office);
     Answer { bytes, sent: 0 }
 }
 
@@ -185,30 +226,33 @@ fn answer_client<S: Alter>(
     answer
 }
 
-/// The answer to who came in at a door, of whom all was heard: of a client nothing was told yet, and an order was told what its
-/// line took.
+/// The answer to who came in at a door, of whom all was heard, and his line again: of a client nothing was told yet, and an order
+/// was told what its line took.
 fn answer_to<L: Line, A: Aside, S: Alter>(
     alloc: Global,
     terms: Terms<'_>,
     now: u64,
     aside: &A,
-    client: &mut Client<L>,
+    door: Door,
+    got: &[u8],
+    line: L,
     office: &mut Office<S>,
     kept: &mut Kept,
-) -> Answer
-    requires fresh { HasTaken (L.taken client.old.line) [] }
-    requires whole { client.old.door ≡ Door.Orders → HasCameWhole client.old.got.items }
-    ensures told { IsTold (line_of L.held L.taken) client.new.line result.bytes.items result.sent }
-    ensures same { IsSameClient client.old client.new × (client.new.got.items ≡ client.old.got.items) }
-    ensures served { ServesVisit (given_in terms.entry) (state S.Store) (desk_at office.old (kept_in kept.old))
-        (record { door = client.old.door; number = client.old.number; moment = now; got = client.old.got.items; answer = result.bytes.items }) (desk_at office.new (kept_in kept.new)) }
+) -> (L, Answer)
+    requires fresh { HasTaken (L.taken line) [] }
+    requires whole { door ≡ Door.Orders → HasCameWhole got.now }
+    ensures told { IsTold (line_of L.held L.taken) result.0 result.1.bytes.items result.1.sent }
+    ensures served { (number : ℕ) → ServesVisit (given_in terms.entry) (state S.Store) (desk_at office.old (kept_in kept.old))
+        (record { door = door; number = number; moment = now; got = got.now; answer = result.1.bytes.items }) (desk_at office.new (kept_in kept.new)) }
 {
-    let got = client.got.as_slice();
-    match client.door {
-        Door::Clients => answer_client(alloc, terms.given, now, got, office, kept),
+    match door {
+        Door::Clients => (
+            line,
+            answer_client(alloc, terms.given, now, got, office, kept),
+        ),
         Door::Orders => {
             kept.empty();
-            answer_order(alloc, terms.file, aside, got, &mut client.line, office)
+            answer_order(alloc, terms.file, aside, got, line, office)
         }
     }
 }
@@ -236,30 +280,54 @@ fn take_turn<L: Line, A: Aside, S: Alter>(
     terms: Terms<'_>,
     now: u64,
     aside: &A,
-    client: &mut Client<L>,
+    client: Client<L>,
     office: &mut Office<S>,
     kept: &mut Kept,
-) -> Attended
-    requires fresh { HasTaken (L.taken client.old.line) [] }
-    requires whole { client.old.door ≡ Door.Orders → HasCameWhole client.old.got.items }
-    ensures is { (start : L) → IsHeard (line_of L.held L.taken) start client.old.line client.old.got.items → IsOf (line_of L.held L.taken) start client.new }
-    ensures same { IsSameClient client.old client.new }
-    ensures turn { (visit : Visit) × (visit.door ≡ client.old.door) × (visit.number ≡ client.old.number) × (visit.moment ≡ now) × (visit.got ≡ client.old.got.items)
-        × ServesVisit (given_in terms.entry) (state S.Store) (desk_at office.old (kept_in kept.old)) visit (desk_at office.new (kept_in kept.new)) × (answer_of client.new ≡ Some visit.answer) }
-    ensures done { result ≡ Attended.Done → IsToldAll client.new }
+) -> (Client<L>, Attended)
+    requires fresh { HasTaken (L.taken client.line) [] }
+    requires whole { client.door ≡ Door.Orders → HasCameWhole client.got.items }
+    ensures is { (start : L) → IsOf (line_of L.held L.taken) start result.0 }
+    ensures same { IsSameClient client result.0 }
+    ensures turn { (visit : Visit) × (visit.door ≡ client.door) × (visit.number ≡ client.number) × (visit.moment ≡ now) × (visit.got ≡ client.got.items)
+        × ServesVisit (given_in terms.entry) (state S.Store) (desk_at office.old (kept_in kept.old)) visit (desk_at office.new (kept_in kept.new)) × (answer_of result.0 ≡ Some visit.answer) }
+    ensures done { result.1 ≡ Attended.Done → IsToldAll result.0 }
 {
-    let answer = answer_to(alloc, terms, now, aside, client, office, kept);
-    client.answer = Some(answer);
-    client.got = Vec::new(alloc);
-    match tell_more(client) {
-        Attended::Waits => Attended::Served,
-        told => told,
+    let Client {
+        door,
+        line,
+        number,
+        since,
+        got,
+        answer: _,
+    } = client;
+    let (line, answer) = answer_to(
+        alloc,
+        terms,
+        now,
+        aside,
+        door,
+        got.as_slice(),
+        line,
+        office,
+        kept,
+    );
+    let mut client = Client {
+        door,
+        line,
+        number,
+        since,
+        got: Vec::new(alloc),
+        answer: Some(answer),
+    };
+    match tell_more(&mut client) {
+        Attended::Waits => (client, Attended::Served),
+        told => (client, told),
     }
 }
 
 /// A client, or an order that is handed over, goes on at a moment, in milliseconds of a clock, as far as his line lets him now:
 /// he is heard; once what he asks has come to its end, this is his turn, and he is served, or told that he must wait for wrong
-/// codes; and he is told his answer.
+/// codes; and he is told his answer. He is given back, with what became of him.
 ///
 /// What is gathered of him are his own bytes, from his first one on, and what he is told is the answer to just these. Nobody
 /// else is touched.
@@ -268,22 +336,24 @@ pub fn attend<L: Line, A: Aside, S: Alter>(
     terms: Terms<'_>,
     now: u64,
     aside: &A,
-    client: &mut Client<L>,
+    client: Client<L>,
     office: &mut Office<S>,
     kept: &mut Kept,
-) -> Attended
-    requires untold { IsUntold (line_of L.held L.taken) client.old }
-    ensures is { (start : L) → IsOf (line_of L.held L.taken) start client.old → IsOf (line_of L.held L.taken) start client.new }
-    ensures same { IsSameClient client.old client.new }
-    ensures turn { MayHaveTurn (given_in terms.entry) (line_of L.held L.taken) (state S.Store) now client.old client.new (desk_at office.old (kept_in kept.old)) (desk_at office.new (kept_in kept.new)) }
-    ensures done { result ≡ Attended.Done → IsToldAll client.new }
+) -> (Client<L>, Attended)
+    requires untold { IsUntold (line_of L.held L.taken) client }
+    ensures is { (start : L) → IsOf (line_of L.held L.taken) start client → IsOf (line_of L.held L.taken) start result.0 }
+    ensures same { IsSameClient client result.0 }
+    ensures turn { MayHaveTurn (given_in terms.entry) (line_of L.held L.taken) (state S.Store) now client result.0 (desk_at office.old (kept_in kept.old)) (desk_at office.new (kept_in kept.new)) }
+    ensures done { result.1 ≡ Attended.Done → IsToldAll result.0 }
 {
+    let mut client = client;
     if client.answer.is_some() {
-        return tell_more(client);
+        let told = tell_more(&mut client);
+        return (client, told);
     }
-    match hear(alloc, terms.given, client) {
+    match hear(alloc, terms.given, &mut client) {
         Ok(true) => take_turn(alloc, terms, now, aside, client, office, kept),
-        Ok(false) => Attended::Waits,
-        Err(_) => Attended::Lost,
+        Ok(false) => (client, Attended::Waits),
+        Err(_) => (client, Attended::Lost),
     }
 }

@@ -47,11 +47,13 @@ pub fn words_of<'b>(alloc: Global, words: &[Piece<'b>]) -> Result<Vec<&'b str>, 
 {
     let mut texts = Vec::new(alloc);
     for word in words {
-        let Ok(text) = str::from_utf8(word.name) else {
-            return Err(Fault::Store);
-        };
-        if texts.push(text).is_err() {
-            return Err(Fault::Memory);
+        match str::from_utf8(word.name) {
+            Ok(text) => {
+                if texts.push(text).is_err() {
+                    return Err(Fault::Memory);
+                }
+            }
+            Err(_) => return Err(Fault::Store),
         }
     }
     Ok(texts)

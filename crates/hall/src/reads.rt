@@ -91,11 +91,14 @@ impl Kept {
 
     /// The answer that was told to these bytes, if one is kept, and memory isn't wanting for it.
     pub fn told_to(&self, alloc: Global, got: &[u8]) -> Option<Vec<u8>>
-        ensures { IfSome result (λ answer. (entry : ReadEntry) × Contains entry (reads_in self.now) × (entry.got ≡ got.now) × (entry.answer ≡ answer.items)) }
+        ensures { IfSome result (λ answer. (entry : ReadEntry) × Contains (reads_in self.now) entry × (entry.got ≡ got.now) × (entry.answer ≡ answer.items)) }
     {
         for kept in &self.answers {
             if kept.got.as_slice() == got {
-                return Vec::from_slice(alloc, kept.answer.as_slice()).ok();
+                return match Vec::from_slice(alloc, kept.answer.as_slice()) {
+                    Ok(answer) => Some(answer),
+                    Err(_) => None,
+                };
             }
         }
         None

@@ -50,35 +50,42 @@ fn moment_at_gate<C: Clock>(clock: &C, terms: Terms<'_>) -> Result<u64, Broken> 
     }
 }
 
-/// One of those who are in goes on; whether he stays in. His half minute begins anew once he has his answer: however long his turn took, he
-/// has all of it.
+/// One of those who are in goes on, and is given back; whether he stays in. His half minute begins anew once he has his answer:
+/// however long his turn took, he has all of it.
 fn go_on<L: Line, C: Clock, A: Aside, S: Alter>(
     alloc: Global,
     clock: &C,
     terms: Terms<'_>,
     aside: &A,
-    client: &mut Client<L>,
+    client: Client<L>,
     office: &mut Office<S>,
     kept: &mut Kept,
-) -> Result<bool, Broken>
-    requires untold { IsUntold (line_of L.held L.taken) client.old }
-    ensures is { (start : L) → IsOf (line_of L.held L.taken) start client.old → IsOf (line_of L.held L.taken) start client.new }
-    ensures same { (client.new.door ≡ client.old.door) × (client.new.number ≡ client.old.number) }
-    ensures turn { (now : ℕ) × MayHaveTurn (given_in terms.entry) (line_of L.held L.taken) (state S.Store) now client.old client.new (desk_at office.old (kept_in kept.old)) (desk_at office.new (kept_in kept.new)) }
+) -> (Client<L>, Result<bool, Broken>)
+    requires untold { IsUntold (line_of L.held L.taken) client }
+    ensures is { (start : L) → IsOf (line_of L.held L.taken) start client → IsOf (line_of L.held L.taken) start result.0 }
+    ensures same { (result.0.door ≡ client.door) × (result.0.number ≡ client.number) }
+    ensures turn { (now : ℕ) × MayHaveTurn (given_in terms.entry) (line_of L.held L.taken) (state S.Store) now client result.0 (desk_at office.old (kept_in kept.old)) (desk_at office.new (kept_in kept.new)) }
 {
-    let now = moment_at_gate(clock, terms)?;
-    match attend(alloc, terms, now, aside, client, office, kept) {
-        Attended::Waits => Ok(true),
-        Attended::Served => {
-            client.since = moment(clock)?;
-            Ok(true)
-        }
-        Attended::Done => Ok(false),
-        Attended::Lost => Ok(false),
+    let now = match moment_at_gate(clock, terms) {
+        Ok(now) => now,
+        Err(Broken) => return (client, Err(Broken)),
+    };
+    let (mut client, attended) = attend(alloc, terms, now, aside, client, office, kept);
+    match attended {
+        Attended::Waits => (client, Ok(true)),
+        Attended::Served => match moment(clock) {
+            Ok(later) => {
+                client.since = later;
+                (client, Ok(true))
+            }
+            Err(Broken) => (client, Err(Broken)),
+        },
+        Attended::Done => (client, Ok(false)),
+        Attended::Lost => (client, Ok(false)),
     }
 }
 
-/// The one at a place goes on. Where he is done, or lost, he leaves.
+/// The one at a place goes on. Where he is done, or lost, he leaves; and so he does where memory is wanting for his place.
 fn go_on_at<L: Line + Drop, C: Clock, A: Aside, S: Alter>(
     alloc: Global,
     clock: &C,
@@ -96,20 +103,18 @@ fn go_on_at<L: Line + Drop, C: Clock, A: Aside, S: Alter>(
     ensures counted { room.new.counted ≡ room.old.counted }
     ensures within { IsWithin room.old → OnOk result (IsWithin room.new) }
 {
-    if go_on(
-        alloc,
-        clock,
-        terms,
-        aside,
-        &mut room.clients[place],
-        office,
-        kept,
-    )? {
-        keep_within(room);
+    let client = room.clients.remove(place);
+    let (client, stays) = go_on(alloc, clock, terms, aside, client, office, kept);
+    if !stays? {
         return Ok(());
     }
-    drop(room.clients.remove(place));
-    Ok(())
+    match room.clients.insert(place, client) {
+        Ok(()) => {
+            keep_within(room);
+            Ok(())
+        }
+        Err(_) => Ok(()),
+    }
 }
 
 /// The one with a number goes on, if he is in.

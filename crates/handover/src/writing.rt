@@ -83,8 +83,10 @@ pub fn put_said(out: &mut Vec<u8>, bytes: &[u8]) -> Result<(), AllocError>
 pub fn put_over(out: &mut Vec<u8>, status: u8, err: &[u8]) -> Result<(), AllocError>
     requires { length err.now + 1 < 2 ^ 32 }
     ensures over { OnOk result (out.new.items ≡ out.old.items ++ frame_bytes (over status err.now)) }
+    ensures kept { OnErr result (out.new.items ≡ out.old.items) }
 {
     let length = err.len() as u32 + 1;
+    out.reserve(err.len() + HEAD + 1)?;
     out.push(OVER)?;
     out.extend_from_slice(&length.to_be_bytes())?;
     out.push(status)?;

@@ -1,6 +1,6 @@
 //! A copy of the office.
 
-ghost use Rattle.std.specs.Prelude.{◌≡◌, ◌⊎◌, true, Err, IfErr, IfOk};
+ghost use Rattle.std.specs.Prelude.{◌≡◌, ◌⊎◌, true, false, Err, IfErr, IfOk, OnOk};
 ghost use Rattle.sqlite.specs.Held.{state};
 ghost use Rattle.sqlite.specs.State.{HasCleanDisk};
 ghost use Rattle.sqlite.specs.Tree.{Trees};
@@ -9,7 +9,7 @@ ghost use Rattle.tables.specs.Reading.{OnlyReads};
 ghost use Rattle.store.specs.Copies.{CopiesAt, CopiesTo, IsUnbegun, holdings_of};
 ghost use Rattle.store.specs.Offices.{IsAt, StoresState, Wears};
 ghost use Rattle.store.specs.Openings.{IsBlank};
-ghost use Rattle.office.specs.Answers.{IsReadAt, WhenOpenAt};
+ghost use Rattle.office.specs.Answers.{ClosedInCopying, IsReadAt, WhenOpenAt};
 
 use crate::offices::Office;
 use sqlite::{Alter, Connection};
@@ -49,6 +49,8 @@ impl<S: Alter> Office<S> {
         ensures reads { OnlyReads (state S.Store self.old.held) (state S.Store self.new.held) }
         ensures wears { Wears (state T.Store copy.old) (state T.Store copy.new) }
         ensures clean { HasCleanDisk (state T.Store copy.new) → HasCleanDisk (state T.Store copy.old) }
+        ensures opens { OnOk result (self.new.closed ≡ false) }
+        ensures closes { IfErr result (ClosedInCopying self.new.closed) }
         ensures closed { self.old.closed ≡ true → (result ≡ Err (CopyFault.Office Fault.Closed)) × (self.new ≡ self.old) × (copy.new ≡ copy.old) }
     {
         if self.closed {
@@ -60,7 +62,8 @@ impl<S: Alter> Office<S> {
                 self.closed = fault != Fault::Memory;
                 Err(CopyFault::Office(fault))
             }
-            Err(fault) => Err(fault),
+            Err(CopyFault::Taken) => Err(CopyFault::Taken),
+            Err(CopyFault::Copy(fault)) => Err(CopyFault::Copy(fault)),
         }
     }
 }

@@ -1,6 +1,6 @@
 //! An office read whole, and requests played over an empty office, to see whether they lead to it.
 
-ghost use Rattle.std.specs.Prelude.{◌≡◌, true, false, Err, IfOk, IfErr};
+ghost use Rattle.std.specs.Prelude.{◌≡◌, true, false, Err, IfOk, IfErr, OnOk};
 ghost use Rattle.std.specs.List.{list_all};
 ghost use Rattle.sqlite.specs.Held.{state};
 ghost use Rattle.sqlite.specs.State.{HasCleanDisk};
@@ -11,7 +11,7 @@ ghost use Rattle.tables.specs.Reading.{OnlyReads};
 ghost use Rattle.store.specs.Offices.{IsAt};
 ghost use Rattle.store.specs.Openings.{IsBlank};
 ghost use Rattle.store.specs.Whole.{ReadsOffice};
-ghost use Rattle.office.specs.Answers.{IsMemoryOrStore, IsOpenAt, IsReadAt, WhenOpenAt, is_done, told};
+ghost use Rattle.office.specs.Answers.{ClosedBy, IsMemoryOrStore, IsOpenAt, IsReadAt, WhenOpenAt, is_done, told};
 ghost use Rattle.office.specs.Runs.{LeadTo, are_accepted};
 
 use crate::answers::Answer;
@@ -81,6 +81,8 @@ impl<S: Alter> Office<S> {
             (λ s. IfOk result (λ rows. state_of rows ≡ s) × IfErr result IsMemoryOrStore × IsReadAt s self.new.closed (state S.Store self.new.held)) }
         ensures rise { IfOk result (λ rows. MapsRise (state_of rows)) }
         ensures reads { OnlyReads (state S.Store self.old.held) (state S.Store self.new.held) }
+        ensures opens { OnOk result (self.new.closed ≡ false) }
+        ensures closes { IfErr result (ClosedBy self.new.closed) }
         ensures closed { self.old.closed ≡ true → (result ≡ Err Fault.Closed) × (self.new ≡ self.old) }
     {
         if self.closed {

@@ -5,4 +5,4 @@ use Rattle.hall.specs.Handings.{brought_at}
 use Rattle.hall.proofs.ordering.BroughtFolder.open.Given as goal
 
 abbrev pub invariant-loop-file : goal.invariant-loop-file
-invariant-loop-file l = brought_at (piece_entries l.files) l.path.now ≡ brought_at (piece_entries (drop l.file-index l.files)) l.path.now
+invariant-loop-file l = brought_at (piece_entries l.self.files.now) l.path ≡ brought_at (piece_entries (drop l.file-index l.self.files.now)) l.path

@@ -1,0 +1,186 @@
+-- Answers to reads: what one tells, and what is kept of it.
+use Rattle.std.proofs.Common.{◌≡◌, ◌∙◌, ◌⊎◌, ◌∷◌, ◌++◌, ◌≤◌, ◌+◌, Bool, true, false, true≢false, ℕ, List, [], Option, Some, All, ap, arith, inl, inr, length, refl, subst, sym}
+use Rattle.std.specs.List.{Contains}
+use Rattle.std.proofs.lemmas.List.Elements.{All-push}
+use Rattle.sqlite.specs.Held.{Held}
+use Rattle.sqlite.specs.State.{HasCleanDisk, State}
+use Rattle.register.specs.Offices.{OfficeState}
+use Rattle.store.specs.Offices.{IsAt}
+use Rattle.office.specs.Answers.{IsOpenAt, IsReadAt, WhenOpenAt}
+use Rattle.office.specs.Values.{OfficeValue}
+use Rattle.gathering.specs.Clients.{IsTold as IsToldOf}
+use Rattle.gathering.specs.Lines.{HasTaken, Line}
+use Rattle.gathering.specs.declared.client.Door.{Door}
+use Rattle.gathering.specs.declared.client.Door.TheVariants.{Clients}
+use Rattle.tables.specs.Faults.{fault_number}
+use Rattle.wire.specs.Asking.{AskedEntry, Asks, reading}
+use Rattle.wire.specs.Gates.{GivenEntry}
+use Rattle.wire.specs.Responses.{ResponseEntry, fault_response}
+use Rattle.wire.specs.Serving.{FaultLeaves, IsAnswered, IsServed, ReadiesFor, Serves, reading_response}
+use Rattle.wire.specs.Told.{IsTold, told_bytes}
+use Rattle.wire.specs.declared.response.Response.{Response}
+use Rattle.wire.specs.declared.serving.Served.{Served}
+use Rattle.wire.specs.declared.serving.Served.TheVariants.{Answered, ReadFailed, WriteFailed}
+use Rattle.wire.specs.declared.target.Reading.{Reading}
+use Rattle.wire.proofs.AskingLemmas.{AsksOneThing-all}
+use Rattle.hall.specs.Reads.{AreReadAt, Desk, IsRead, KeptEntry, ReadEntry, TellsNoFault, desk_at}
+use Rattle.hall.specs.Visits.{EndsSo, HasServed, KeepsReads, ServesClient, Visit}
+
+-- ---- what an answer tells
+
+-- a fault has its own status
+told_fault : (number : ℕ) (response : Response) → IsTold (fault_response number) response → response.status ≡ 503
+told_fault number response (inl is) = is.status
+told_fault number response (inr is) = is.status
+
+module _ (given : GivenEntry) (s : OfficeState) (got : List ℕ) (what : Reading) (asks : Asks given got (reading what)) (closed : Bool) (st : State) where
+  answered_read : (asked : AskedEntry) (entry : ResponseEntry) (response : Response) (answer : List ℕ) → asked ≡ reading what → IsTold entry response → answer ≡ told_bytes response.bytes
+      → IsAnswered s asked entry closed st → IsRead given s got answer × IsOpenAt s closed st
+  answered_read asked entry response answer same tells is answered =
+      let it = subst (λ (a : AskedEntry). IsAnswered s a entry closed st) same answered in (
+        record { what = what; asks = asks; response = response; told = subst (λ (e : ResponseEntry). IsTold e response) it.is.1 tells; is = is },
+        subst (λ (x : OfficeState). IsOpenAt x closed st) it.is.0 it.open_at,
+      )
+
+  -- an answer that tells no fault is the one to the read
+  pub no_fault : (response : Response) (answer : List ℕ) → (response.status ≡ 503 → ⊥) → answer ≡ told_bytes response.bytes → ReadiesFor given (Some got) s response closed st
+      → IsRead given s got answer × IsOpenAt s closed st
+  no_fault response answer other is (inr wanting) = absurd (other wanting.0.status)
+  no_fault response answer other is (inl ready) =
+      let (entry, tells, leaves) = ready.readies in
+      let same = AsksOneThing-all given got ready.asked (reading what) ready.asks asks in
+      elim leaves [
+        | inl answered ↦ answered_read ready.asked entry response answer same tells is answered
+        | inr (fault, told, more) ↦ absurd (other (told_fault (fault_number fault) response (subst (λ (e : ResponseEntry). IsTold e response) told tells)))
+      ]
+
+  failed_read : (asked : AskedEntry) → (f : _) → asked ≡ reading what → FaultLeaves s asked f closed st → IsReadAt s closed st
+  failed_read asked f same leaves = elim (subst (λ (a : AskedEntry). FaultLeaves s a f closed st) same leaves) [
+    | inl stays ↦ inl stays.open_at
+    | inr shut ↦ inr (shut.is_closed, shut.leaves)
+  ]
+
+  -- whatever is answered to a read, the office was only read
+  only_read : (response : Response) → ReadiesFor given (Some got) s response closed st → IsReadAt s closed st
+  only_read response (inr wanting) = inl wanting.1
+  only_read response (inl ready) =
+      let (entry, tells, leaves) = ready.readies in
+      let same = AsksOneThing-all given got ready.asked (reading what) ready.asks asks in
+      elim leaves [
+        | inl answered ↦
+            let it = subst (λ (a : AskedEntry). IsAnswered s a entry closed st) same answered in inl (subst (λ (x : OfficeState). IsOpenAt x closed st) it.is.0 it.open_at)
+        | inr (fault, told, more) ↦ failed_read ready.asked fault same more
+      ]
+
+  pub served_read : (before after : Option (List ℕ)) (served : Served) → Serves given (Some got) before after s served closed st → IsReadAt s closed st
+  served_read before after (Answered status) it = only_read it.response it.ready
+  served_read before after ReadFailed it = inl it
+  served_read before after WriteFailed it = only_read it.response it.ready
+
+  pub served_well : (answer : List ℕ) (served : Served) → TellsNoFault served → Serves given (Some got) (Some []) (Some answer) s served closed st → IsRead given s got answer × IsOpenAt s closed st
+  served_well answer (Answered status) other it = no_fault it.response answer (λ bad. other (it.put.0 ∙ bad)) it.put.1 it.ready
+  served_well answer ReadFailed other it = absurd other
+  served_well answer WriteFailed other it = absurd other
+
+-- ---- one call
+
+module _ {S : Type 0} (given : GivenEntry) (state_of : Held S → State) (old new : OfficeValue S) (held got before after answer : List ℕ) (served : Served) (is_got : held ≡ got)
+    (is_before : before ≡ []) (is_answer : answer ≡ after)
+    (serves : HasCleanDisk (state_of new.held) → old.closed ≡ false → (s : OfficeState) → IsAt s (state_of old.held)
+    → Serves given (Some held) (Some before) (Some after) s served new.closed (state_of new.held)) where
+  these : (s : OfficeState) → Serves given (Some held) (Some before) (Some after) s served new.closed (state_of new.held)
+      → Serves given (Some got) (Some []) (Some answer) s served new.closed (state_of new.held)
+  these s it =
+      subst (λ (a : List ℕ). Serves given (Some got) (Some []) (Some a) s served new.closed (state_of new.held)) (sym is_answer)
+      (subst (λ (b : List ℕ). Serves given (Some got) (Some b) (Some after) s served new.closed (state_of new.held)) is_before
+      (subst (λ (g : List ℕ). Serves given (Some g) (Some before) (Some after) s served new.closed (state_of new.held)) is_got it))
+
+  -- the answer that was told is the one to the read
+  pub call_read : TellsNoFault served → WhenOpenAt state_of old new (λ s. (what : Reading) → Asks given got (reading what) → IsRead given s got answer × IsOpenAt s new.closed (state_of new.held))
+  call_read well = λ clean is_open s at what asks. served_well given s got what asks new.closed (state_of new.held) answer served well (these s (serves clean is_open s at))
+
+  -- the office was only read
+  pub call_asked : WhenOpenAt state_of old new (λ s. (what : Reading) → Asks given got (reading what) → IsReadAt s new.closed (state_of new.held))
+  call_asked = λ clean is_open s at what asks. served_read given s got what asks new.closed (state_of new.held) (Some []) (Some answer) served (these s (serves clean is_open s at))
+
+-- ---- a client is served
+
+module _ {S : Type 0} (given : GivenEntry) (state_of : Held S → State) where
+  -- by the office
+  pub served_anew : (old new : OfficeValue S) (kept later : KeptEntry) (number moment : ℕ) (got answer : List ℕ) → HasServed given state_of old got answer new
+      → KeepsReads given state_of (desk_at old kept) got (desk_at new later)
+      → ServesClient given state_of (desk_at old kept) (record { door = Clients; number = number; moment = moment; got = got; answer = answer }) (desk_at new later)
+  served_anew old new kept later number moment got answer has keeps = record {
+    serves = λ clean is_open s at right. has.serves clean is_open s at;
+    keeps = keeps;
+    turned_away = has.turned_away;
+    clean = has.clean;
+  }
+
+  kept_at : (s : OfficeState) (reads : List ReadEntry) (entry : ReadEntry) → Contains reads entry → AreReadAt given s reads → IsRead given s entry.got entry.answer
+  kept_at s reads entry (place, within, is) right = subst (λ (r : ReadEntry). IsRead given s r.got r.answer) is (right place entry within)
+
+  told_from : (s : OfficeState) (got answer : List ℕ) (closed : Bool) (st : State) (number moment : ℕ) → IsRead given s got answer → IsOpenAt s closed st
+      → EndsSo (record { door = Clients; number = number; moment = moment; got = got; answer = answer }) (IsServed (λ response. ReadiesFor given (Some got) s response closed st))
+  told_from s got answer closed st number moment it open_at = (
+    Answered it.response.status,
+    record {
+      response = it.response;
+      ready = inl (record {
+        asked = reading it.what;
+        asks = it.asks;
+        readies = (reading_response s it.what, it.told, inl (record { next = s; is = (refl, refl); open_at = open_at }));
+      });
+      put = (refl, it.is);
+    },
+  )
+
+  -- from what was kept
+  pub served_again : (office : OfficeValue S) (kept : KeptEntry) (number moment : ℕ) (got answer : List ℕ) (entry : ReadEntry) → office.closed ≡ false → (what : Reading) × Asks given got (reading what)
+      → Contains kept.reads entry → entry.got ≡ got → entry.answer ≡ answer
+      → ServesClient given state_of (desk_at office kept) (record { door = Clients; number = number; moment = moment; got = got; answer = answer }) (desk_at office kept)
+  served_again office kept number moment got answer entry is_open asks there same told = record {
+    serves = λ clean was s at right.
+        let it = kept_at s kept.reads entry there right in
+        let his = subst (λ (g : List ℕ). IsRead given s g answer) same (subst (λ (a : List ℕ). IsRead given s entry.got a) told it) in
+        told_from s got answer office.closed (state_of office.held) number moment his (record { is_open = is_open; at = at });
+    keeps = inr (asks, λ clean was s at right. (right, inl (record { is_open = is_open; at = at })));
+    turned_away = λ closed. absurd (true≢false (sym closed ∙ is_open));
+    clean = λ clean. clean;
+  }
+
+  -- ---- what is kept of it
+
+  behind : (s : OfficeState) (gone kept : List ReadEntry) → AreReadAt given s (gone ++ kept) → AreReadAt given s kept
+  behind s [] kept right = right
+  behind s (one ∷ gone) kept right = behind s gone kept (λ place entry within. right (place + 1) entry (omega (arith, within)))
+
+  -- nothing more is kept
+  pub keeps_same : (old new : OfficeValue S) (kept : KeptEntry) (got : List ℕ) → (what : Reading) × Asks given got (reading what)
+      → WhenOpenAt state_of old new (λ s. (what : Reading) → Asks given got (reading what) → IsReadAt s new.closed (state_of new.held))
+      → KeepsReads given state_of (desk_at old kept) got (desk_at new kept)
+  keeps_same old new kept got (what, asks) only = inr ((what, asks), λ clean is_open s at right. (right, only clean is_open s at what asks))
+
+  -- this answer may be kept too, and the oldest were let go
+  pub keeps_more : (old new : OfficeValue S) (kept later : KeptEntry) (got answer : List ℕ) → (what : Reading) × Asks given got (reading what)
+      → WhenOpenAt state_of old new (λ s. (what : Reading) → Asks given got (reading what) → IsRead given s got answer × IsOpenAt s new.closed (state_of new.held))
+      → WhenOpenAt state_of old new (λ s. (what : Reading) → Asks given got (reading what) → IsReadAt s new.closed (state_of new.held))
+      → (gone left : List ReadEntry) × (kept.reads ≡ gone ++ left) × ((later.reads ≡ left) ⊎ (later.reads ≡ left ++ record { got = got; answer = answer } ∷ []))
+      → KeepsReads given state_of (desk_at old kept) got (desk_at new later)
+  keeps_more old new kept later got answer (what, asks) read only (gone, left, is, now) = inr (
+    (what, asks),
+    λ clean is_open s at right. (
+      let still = behind s gone left (subst (λ (rs : List ReadEntry). AreReadAt given s rs) is right) in
+          elim now [
+            | inl same ↦ subst (λ (rs : List ReadEntry). AreReadAt given s rs) (sym same) still
+            | inr more ↦
+                subst (λ (rs : List ReadEntry). AreReadAt given s rs) (sym more)
+                (All-push (λ (r : ReadEntry). IsRead given s r.got r.answer) left (record { got = got; answer = answer }) still (read clean is_open s at what asks).0)
+          ],
+      only clean is_open s at what asks,
+    ),
+  )
+
+-- nothing was told yet
+pub told_zero : {L : Type 0} (line : Line L) (now : L) (answer : List ℕ) (sent : ℕ) → sent ≡ 0 → HasTaken (line.taken now) [] → IsToldOf line now answer sent
+told_zero {L} line now answer sent none fresh = subst (λ (n : ℕ). IsToldOf line now answer n) (sym none) (record { within = omega arith; took = fresh })
