@@ -1,5 +1,5 @@
 -- Answers to reads: what one tells, and what is kept of it.
-use Rattle.std.proofs.Common.{◌≡◌, ◌∙◌, ◌⊎◌, ◌∷◌, ◌++◌, ◌≤◌, ◌+◌, Bool, true, false, true≢false, ℕ, List, [], Option, Some, All, ap, arith, inl, inr, length, refl, subst, sym}
+use Rattle.std.proofs.Common.{◌≡◌, ◌∙◌, ◌⊎◌, ◌∷◌, ◌++◌, ◌≤◌, ◌+◌, Bool, true, false, true≢false, ℕ, List, [], Option, Some, All, ap, arith, inl, inr, length, refl, subst, suc, sym}
 use Rattle.std.specs.List.{Contains}
 use Rattle.std.proofs.lemmas.List.Elements.{All-push}
 use Rattle.sqlite.specs.Held.{Held}
@@ -13,12 +13,12 @@ use Rattle.gathering.specs.Lines.{HasTaken, Line}
 use Rattle.gathering.specs.declared.client.Door.{Door}
 use Rattle.gathering.specs.declared.client.Door.TheVariants.{Clients}
 use Rattle.tables.specs.Faults.{fault_number}
+use Rattle.tables.specs.declared.fault.Fault.{Fault}
 use Rattle.wire.specs.Asking.{AskedEntry, Asks, reading}
 use Rattle.wire.specs.Gates.{GivenEntry}
 use Rattle.wire.specs.Responses.{ResponseEntry, fault_response}
-use Rattle.wire.specs.Serving.{FaultLeaves, IsAnswered, IsServed, ReadiesFor, Serves, reading_response}
-use Rattle.wire.specs.Told.{IsTold, told_bytes}
-use Rattle.wire.specs.declared.response.Response.{Response}
+use Rattle.wire.specs.Serving.{FaultLeaves, IsAnswered, IsPut, IsServed, ReadiesFor, Serves, reading_response}
+use Rattle.wire.specs.Told.{IsTold}
 use Rattle.wire.specs.declared.serving.Served.{Served}
 use Rattle.wire.specs.declared.serving.Served.TheVariants.{Answered, ReadFailed, WriteFailed}
 use Rattle.wire.specs.declared.target.Reading.{Reading}
@@ -29,46 +29,44 @@ use Rattle.hall.specs.Visits.{EndsSo, HasServed, KeepsReads, ServesClient, Visit
 -- ---- what an answer tells
 
 -- a fault has its own status
-told_fault : (number : ℕ) (response : Response) → IsTold (fault_response number) response → response.status ≡ 503
-told_fault number response (inl is) = is.status
-told_fault number response (inr is) = is.status
+told_fault : (number status : ℕ) (old new : Option (List ℕ)) (response : _) → IsTold (fault_response number) response → IsPut old new response (Answered status) → status ≡ 503
+told_fault number status old new response (inl is) put = put.0 ∙ is.status
+told_fault number status old new response (inr is) put = put.0 ∙ is.status
 
 module _ (given : GivenEntry) (s : OfficeState) (got : List ℕ) (what : Reading) (asks : Asks given got (reading what)) (closed : Bool) (st : State) where
-  answered_read : (asked : AskedEntry) (entry : ResponseEntry) (response : Response) (answer : List ℕ) → asked ≡ reading what → IsTold entry response → answer ≡ told_bytes response.bytes
-      → IsAnswered s asked entry closed st → IsRead given s got answer × IsOpenAt s closed st
-  answered_read asked entry response answer same tells is answered =
-      let it = subst (λ (a : AskedEntry). IsAnswered s a entry closed st) same answered in (
-        record { what = what; asks = asks; response = response; told = subst (λ (e : ResponseEntry). IsTold e response) it.is.1 tells; is = is },
-        subst (λ (x : OfficeState). IsOpenAt x closed st) it.is.0 it.open_at,
-      )
+  answered_read : (asked : AskedEntry) (entry : ResponseEntry) (response : _) → asked ≡ reading what → IsTold entry response → IsAnswered s asked entry closed st
+      → IsTold (reading_response s what) response × IsOpenAt s closed st
+  answered_read asked entry response same tells answered =
+      let it = subst (λ (a : AskedEntry). IsAnswered s a entry closed st) same answered in
+      (subst (λ (e : ResponseEntry). IsTold e response) it.is.1 tells, subst (λ (x : OfficeState). IsOpenAt x closed st) it.is.0 it.open_at)
 
   -- an answer that tells no fault is the one to the read
-  pub no_fault : (response : Response) (answer : List ℕ) → (response.status ≡ 503 → ⊥) → answer ≡ told_bytes response.bytes → ReadiesFor given (Some got) s response closed st
-      → IsRead given s got answer × IsOpenAt s closed st
-  no_fault response answer other is (inr wanting) = absurd (other wanting.0.status)
-  no_fault response answer other is (inl ready) =
+  no_fault : (status : ℕ) (old new : Option (List ℕ)) (response : _) → ReadiesFor given (Some got) s response closed st → IsPut old new response (Answered status) → (status ≡ 503 → ⊥)
+      → IsTold (reading_response s what) response × IsOpenAt s closed st
+  no_fault status old new response (inr wanting) put other = absurd (other (told_fault 101 status old new response (inl wanting.0) put))
+  no_fault status old new response (inl ready) put other =
       let (entry, tells, leaves) = ready.readies in
       let same = AsksOneThing-all given got ready.asked (reading what) ready.asks asks in
       elim leaves [
-        | inl answered ↦ answered_read ready.asked entry response answer same tells is answered
-        | inr (fault, told, more) ↦ absurd (other (told_fault (fault_number fault) response (subst (λ (e : ResponseEntry). IsTold e response) told tells)))
+        | inl answered ↦ answered_read ready.asked entry response same tells answered
+        | inr (fault, told, more) ↦ absurd (other (told_fault (fault_number fault) status old new response (subst (λ (e : ResponseEntry). IsTold e response) told tells) put))
       ]
 
-  failed_read : (asked : AskedEntry) → (f : _) → asked ≡ reading what → FaultLeaves s asked f closed st → IsReadAt s closed st
-  failed_read asked f same leaves = elim (subst (λ (a : AskedEntry). FaultLeaves s a f closed st) same leaves) [
-    | inl stays ↦ inl stays.open_at
-    | inr shut ↦ inr (shut.is_closed, shut.leaves)
-  ]
+  failed_read : (asked : AskedEntry) (f : Fault) → asked ≡ reading what → FaultLeaves s asked f closed st → IsReadAt s closed st
+  failed_read asked f same leaves = by (subst (λ (a : AskedEntry). FaultLeaves s a f closed st) same leaves)
+    where
+      by : FaultLeaves s (reading what) f closed st → IsReadAt s closed st
+      by (inl stays) = inl stays.open_at
+      by (inr shut) = inr (shut.is_closed, shut.leaves)
 
   -- whatever is answered to a read, the office was only read
-  only_read : (response : Response) → ReadiesFor given (Some got) s response closed st → IsReadAt s closed st
+  only_read : (response : _) → ReadiesFor given (Some got) s response closed st → IsReadAt s closed st
   only_read response (inr wanting) = inl wanting.1
   only_read response (inl ready) =
       let (entry, tells, leaves) = ready.readies in
       let same = AsksOneThing-all given got ready.asked (reading what) ready.asks asks in
       elim leaves [
-        | inl answered ↦
-            let it = subst (λ (a : AskedEntry). IsAnswered s a entry closed st) same answered in inl (subst (λ (x : OfficeState). IsOpenAt x closed st) it.is.0 it.open_at)
+        | inl answered ↦ let it = answered_read ready.asked entry response same tells answered in inl it.1
         | inr (fault, told, more) ↦ failed_read ready.asked fault same more
       ]
 
@@ -78,7 +76,9 @@ module _ (given : GivenEntry) (s : OfficeState) (got : List ℕ) (what : Reading
   served_read before after WriteFailed it = only_read it.response it.ready
 
   pub served_well : (answer : List ℕ) (served : Served) → TellsNoFault served → Serves given (Some got) (Some []) (Some answer) s served closed st → IsRead given s got answer × IsOpenAt s closed st
-  served_well answer (Answered status) other it = no_fault it.response answer (λ bad. other (it.put.0 ∙ bad)) it.put.1 it.ready
+  served_well answer (Answered status) other it =
+      let well = no_fault status (Some []) (Some answer) it.response it.ready it.put other in
+      (record { what = what; asks = asks; status = status; told = record { response = it.response; ready = well.0; put = it.put } }, well.1)
   served_well answer ReadFailed other it = absurd other
   served_well answer WriteFailed other it = absurd other
 
@@ -123,15 +123,15 @@ module _ {S : Type 0} (given : GivenEntry) (state_of : Held S → State) where
   told_from : (s : OfficeState) (got answer : List ℕ) (closed : Bool) (st : State) (number moment : ℕ) → IsRead given s got answer → IsOpenAt s closed st
       → EndsSo (record { door = Clients; number = number; moment = moment; got = got; answer = answer }) (IsServed (λ response. ReadiesFor given (Some got) s response closed st))
   told_from s got answer closed st number moment it open_at = (
-    Answered it.response.status,
+    Answered it.status,
     record {
-      response = it.response;
+      response = it.told.response;
       ready = inl (record {
         asked = reading it.what;
         asks = it.asks;
-        readies = (reading_response s it.what, it.told, inl (record { next = s; is = (refl, refl); open_at = open_at }));
+        readies = (reading_response s it.what, it.told.ready, inl (record { next = s; is = (refl, refl); open_at = open_at }));
       });
-      put = (refl, it.is);
+      put = it.told.put;
     },
   )
 
@@ -153,7 +153,7 @@ module _ {S : Type 0} (given : GivenEntry) (state_of : Held S → State) where
 
   behind : (s : OfficeState) (gone kept : List ReadEntry) → AreReadAt given s (gone ++ kept) → AreReadAt given s kept
   behind s [] kept right = right
-  behind s (one ∷ gone) kept right = behind s gone kept (λ place entry within. right (place + 1) entry (omega (arith, within)))
+  behind s (one ∷ gone) kept right = behind s gone kept (λ place entry within. right (suc place) entry (omega (arith, within)))
 
   -- nothing more is kept
   pub keeps_same : (old new : OfficeValue S) (kept : KeptEntry) (got : List ℕ) → (what : Reading) × Asks given got (reading what)

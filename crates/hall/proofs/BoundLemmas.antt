@@ -38,7 +38,7 @@ module _ {L : Type 0} where
 
   -- some were let go
   pub within_still : (least now : ℕ) (old new : Room L) → AreLetGo least now old new → IsWithin old → IsWithin new
-  within_still least now old new (came, (counted, (places, each))) was = let_go least now places old.clients.items new.clients.items each was
+  within_still least now old new (came, counted, (places, each)) was = let_go least now places old.clients.items new.clients.items each was
 
   few_still : (least now : ℕ) (places : List ℕ) (old new : List (Client L)) → FoldsTo (IsLetGo least now) old places new → length new ≤ length old
   few_still least now [] old new same = omega (arith, ap (λ (cs : List (Client L)). length cs) same)
@@ -50,7 +50,7 @@ module _ {L : Type 0} where
 
   -- some were let go, until no more bytes were held than may be
   pub within_again : (least now : ℕ) (old new : Room L) → length old.clients.items ≤ most_clients → AreLetGo least now old new → bytes_held new.clients.items ≤ most_bytes → IsWithin new
-  within_again least now old new few (came, (counted, (places, each))) bytes = (omega (arith, few, few_still least now places old.clients.items new.clients.items each), bytes)
+  within_again least now old new few (came, counted, (places, each)) bytes = (omega (arith, few, few_still least now places old.clients.items new.clients.items each), bytes)
 
   -- one came in for whom there was room, or was let go at once
   pub within_more : (old new : Room L) (comer : Comer L) (now : ℕ) (P : Client L → Type 0) → length old.clients.items < most_clients → bytes_held old.clients.items ≤ most_bytes

@@ -107,7 +107,7 @@ module _ {L : Type 0} (given : Given) (line : Line L) where
       (subst (λ (cs : List (Client L)). AreIn given line guests visits came cs) (sym gone.left) (one_left given line guests visits came old place are gone.within))
 
   pub goes_without : (least now : ℕ) (let_in let_in_later : Option (List (Comer L))) (old new : Room L) → let_in_later ≡ let_in → AreLetGo least now old new → GoesOn given line [] let_in let_in_later old new
-  goes_without least now let_in let_in_later old new same (same_came, (same_counted, (places, each))) = goes_with let_in let_in_later old new same (omega (arith, same_counted)) (λ guests visits are.
+  goes_without least now let_in let_in_later old new same (same_came, same_counted, (places, each)) = goes_with let_in let_in_later old new same (omega (arith, same_counted)) (λ guests visits are.
       stay least now places guests visits new.came old.clients.items new.clients.items each
       (subst (λ (n : ℕ). AreIn given line guests visits n old.clients.items) (sym same_came) are))
 

@@ -29,7 +29,7 @@ use Rattle.desk.specs.Headline.{Course, IsDone}
 use Rattle.desk.specs.Pages.{Cut, Page}
 use Rattle.desk.proofs.KeptLemmas.{kept_done}
 use Rattle.desk.proofs.OpenLemmas.{after_next, open_done}
-use Rattle.hall.specs.Handings.{ComesOf, IsFramed, TellsAsked, TellsOrder, TellsSo, folder_of}
+use Rattle.hall.specs.Handings.{ComesOf, IsFramed, TellsOrder, TellsSo, folder_of}
 use Rattle.codes.specs.Tries.{TriesEntry}
 use Rattle.wire.specs.Gates.{GivenEntry}
 use Rattle.hall.specs.Reads.{AreReadAt, Desk, IsRead, ReadEntry, with_none_kept}
@@ -129,55 +129,56 @@ client_leaves given s visit closed st (served, it) = elim (ready_leaves given vi
 
 -- what an order that was followed leaves: the office is open at the state after what was answered; or it is closed, and a stop leaves that, or the state after
 -- the next one
-abbrev OrderLeaves : Folder → OfficeState → Asked → Cut → Page → Bool → State → Type 0
-OrderLeaves folder s what cut page closed st =
-    ((sent : List Request) × (last : List Request) × TellsSo folder s what cut page sent last × IsOpenAt (after s sent) closed st)
-    ⊎ ((sent : List Request) × (last : List Request) × TellsSo folder s what cut page sent last × (closed ≡ true) × LeavesState st (IsAfterSome s (sent ++ last) (length sent)))
+abbrev OrderLeaves : {S : Type 0} → (Held S → State) → Folder → OfficeState → Asked → Cut → Page → Bool → State → Type 0
+OrderLeaves state_of folder s what cut page closed st =
+    ((sent : List Request) × (last : List Request) × TellsSo state_of folder s what cut page sent last × IsOpenAt (after s sent) closed st)
+    ⊎ ((sent : List Request) × (last : List Request) × TellsSo state_of folder s what cut page sent last × (closed ≡ true) × LeavesState st (IsAfterSome s (sent ++ last) (length sent)))
 
--- nothing was sent, and the office is open at its state, or its store failed
-none_sent : (folder : Folder) (s : OfficeState) (what : Asked) (cut : Cut) (page : Page) (closed : Bool) (st : State) → TellsSo folder s what cut page [] [] → IsReadAt s closed st
-    → OrderLeaves folder s what cut page closed st
-none_sent folder s what cut page closed st tells (inl open_at) = inl ([], [], tells, open_at)
-none_sent folder s what cut page closed st tells (inr (is_closed, leaves)) = inr ([], [], tells, is_closed, leaves_as st _ _ (before_last s []) leaves)
+module _ {S : Type 0} (state_of : Held S → State) (folder : Folder) (s : OfficeState) where
+  -- nothing was sent, and the office is open at its state, or its store failed
+  none_sent : (what : Asked) (cut : Cut) (page : Page) (closed : Bool) (st : State) → TellsSo state_of folder s what cut page [] [] → IsReadAt s closed st
+      → OrderLeaves state_of folder s what cut page closed st
+  none_sent what cut page closed st tells (inl open_at) = inl ([], [], tells, open_at)
+  none_sent what cut page closed st tells (inr (is_closed, leaves)) = inr ([], [], tells, is_closed, leaves_as st _ _ (before_last s []) leaves)
 
--- a job was done
-job_leaves : (old : State) (closed : Bool) (st : State) (folder : Folder) (s : OfficeState) (job : Job) (cut : Cut) (page : Page) (requests : List Request) (answered : ℕ)
-    → IsDone old closed st folder s job (record { requests = requests; answered = answered; page = page; cut = cut }) → (b : Bool) → closed ≡ b
-    → OrderLeaves folder s (asked.Do job) cut page closed st
-job_leaves old closed st folder s job cut page requests answered done false is_open =
-    let course : Course = record { requests = requests; answered = answered; page = page; cut = cut } in
-    inl (
-      take answered requests,
-      take 1 (drop answered requests),
-      (old, closed, st, requests, answered, done, (refl, refl)),
-      open_done old closed st folder s job course done is_open,
-    )
-job_leaves old closed st folder s job cut page requests answered done true is_closed =
-    let course : Course = record { requests = requests; answered = answered; page = page; cut = cut } in
-    let kept = kept_done old closed st folder s job course done in
-    inr (
-      take answered requests,
-      take 1 (drop answered requests),
-      (old, closed, st, requests, answered, done, (refl, refl)),
-      is_closed,
-      leaves_as st _ _ (λ x some. after_next s course x kept.within some) kept.leaves,
-    )
+  -- a job was done
+  job_leaves : (old new : OfficeValue S) (job : Job) (cut : Cut) (page : Page) (requests : List Request) (answered : ℕ)
+      → IsDone (state_of old.held) new.closed (state_of new.held) folder s job (record { requests = requests; answered = answered; page = page; cut = cut }) → (b : Bool) → new.closed ≡ b
+      → OrderLeaves state_of folder s (asked.Do job) cut page new.closed (state_of new.held)
+  job_leaves old new job cut page requests answered done false is_open =
+      let course : Course = record { requests = requests; answered = answered; page = page; cut = cut } in
+      inl (
+        take answered requests,
+        take 1 (drop answered requests),
+        (old, new, requests, answered, done, (refl, refl)),
+        open_done (state_of old.held) new.closed (state_of new.held) folder s job course done is_open,
+      )
+  job_leaves old new job cut page requests answered done true is_closed =
+      let course : Course = record { requests = requests; answered = answered; page = page; cut = cut } in
+      let kept = kept_done (state_of old.held) new.closed (state_of new.held) folder s job course done in
+      inr (
+        take answered requests,
+        take 1 (drop answered requests),
+        (old, new, requests, answered, done, (refl, refl)),
+        is_closed,
+        leaves_as (state_of new.held) _ _ (λ x some. after_next s course x kept.within some) kept.leaves,
+      )
 
-order_leaves : (old : State) (closed : Bool) (st : State) (folder : Folder) (s : OfficeState) (what : Asked) (cut : Cut) (page : Page) → ComesOf old closed st folder s what cut page
-    → OrderLeaves folder s what cut page closed st
-order_leaves old closed st folder s (asked.Do job) cut page (requests, answered, done) = job_leaves old closed st folder s job cut page requests answered done closed refl
-order_leaves old closed st folder s (asked.Copy path) cut page it = none_sent folder s (asked.Copy path) cut page closed st (it.0, refl, refl) it.1
-order_leaves old closed st folder s asked.Journal cut page it = none_sent folder s asked.Journal cut page closed st (it.0, refl, refl) it.1
-order_leaves old closed st folder s (asked.Refused failure) cut page it = none_sent folder s (asked.Refused failure) cut page closed st (it.0, refl, refl) (inl it.1)
-order_leaves old closed st folder s (asked.Misread fault) cut page it = none_sent folder s (asked.Misread fault) cut page closed st (it.0, refl, refl) (inl it.1)
+  order_leaves : (old new : OfficeValue S) (what : Asked) (cut : Cut) (page : Page) → ComesOf (state_of old.held) new.closed (state_of new.held) folder s what cut page
+      → OrderLeaves state_of folder s what cut page new.closed (state_of new.held)
+  order_leaves old new (asked.Do job) cut page (requests, answered, done) = job_leaves old new job cut page requests answered done new.closed refl
+  order_leaves old new (asked.Copy path) cut page it = none_sent (asked.Copy path) cut page new.closed (state_of new.held) (it.0, refl, refl) it.1
+  order_leaves old new asked.Journal cut page it = none_sent asked.Journal cut page new.closed (state_of new.held) (it.0, refl, refl) it.1
+  order_leaves old new (asked.Refused failure) cut page it = none_sent (asked.Refused failure) cut page new.closed (state_of new.held) (it.0, refl, refl) (inl it.1)
+  order_leaves old new (asked.Misread fault) cut page it = none_sent (asked.Misread fault) cut page new.closed (state_of new.held) (it.0, refl, refl) (inl it.1)
 
 -- ---- one after the other
 
 -- what one who had his turn leaves: what was answered for him, the office open behind it, and the answers that are kept right at its state; or a fault closed it
-abbrev TurnLeaves : Door → Given → OfficeState → Visit → List ReadEntry → Bool → State → Type 0
-TurnLeaves door given s visit reads closed st =
-    ((sent : List Request) × IsAnsweredAt door given s visit sent × AreReadAt given.clients (after s sent) reads × IsOpenAt (after s sent) closed st)
-    ⊎ ((answered : List Request) × (last : List Request) × IsStoppedAt door given s visit answered last × (closed ≡ true) × LeavesState st (IsAfterSome s (answered ++ last) (length answered)))
+abbrev TurnLeaves : {S : Type 0} → Door → (Held S → State) → Given → OfficeState → Visit → List ReadEntry → Bool → State → Type 0
+TurnLeaves door state_of given s visit reads closed st =
+    ((sent : List Request) × IsAnsweredAt door state_of given s visit sent × AreReadAt given.clients (after s sent) reads × IsOpenAt (after s sent) closed st)
+    ⊎ ((answered : List Request) × (last : List Request) × IsStoppedAt door state_of given s visit answered last × (closed ≡ true) × LeavesState st (IsAfterSome s (answered ++ last) (length answered)))
 
 -- ---- what is kept of reads
 
@@ -230,7 +231,7 @@ module _ {S : Type 0} (given : Given) (state_of : Held S → State) where
 
   -- a client was served
   served_leaves : (s : OfficeState) (visit : Visit) (old new : Desk S) → ServesClient given.clients state_of old visit new → HasCleanDisk (state_of new.office.held) → old.office.closed ≡ false
-      → IsAt s (state_of old.office.held) → AreReadAt given.clients s old.kept.reads → TurnLeaves Clients given s visit new.kept.reads new.office.closed (state_of new.office.held)
+      → IsAt s (state_of old.office.held) → AreReadAt given.clients s old.kept.reads → TurnLeaves Clients state_of given s visit new.kept.reads new.office.closed (state_of new.office.held)
   served_leaves s visit old new it clean is_open at right =
       elim (client_leaves given.clients s visit new.office.closed (state_of new.office.held) (it.serves clean is_open s at right)) [
         | inl (sent, told, open_at) ↦ inl (sent, inr told, kept_right s visit old new it clean is_open at right sent told, open_at)
@@ -238,16 +239,16 @@ module _ {S : Type 0} (given : Given) (state_of : Held S → State) where
       ]
 
   turn_leaves : (door : Door) (s : OfficeState) (visit : Visit) (old new : Desk S) → ServesAt door given state_of old visit new → HasCleanDisk (state_of new.office.held) → old.office.closed ≡ false
-      → IsAt s (state_of old.office.held) → AreReadAt given.clients s old.kept.reads → TurnLeaves door given s visit new.kept.reads new.office.closed (state_of new.office.held)
+      → IsAt s (state_of old.office.held) → AreReadAt given.clients s old.kept.reads → TurnLeaves door state_of given s visit new.kept.reads new.office.closed (state_of new.office.held)
   turn_leaves Clients s visit old new (inl it) clean is_open at right =
-      subst (λ (d : Desk S). TurnLeaves Clients given s visit d.kept.reads d.office.closed (state_of d.office.held)) (sym it.stays)
+      subst (λ (d : Desk S). TurnLeaves Clients state_of given s visit d.kept.reads d.office.closed (state_of d.office.held)) (sym it.stays)
       (inl ([], inl (it.told, refl), right, record { is_open = is_open; at = at }))
   turn_leaves Clients s visit old new (inr it) clean is_open at right = served_leaves s visit old new it.serves clean is_open at right
   turn_leaves Orders s visit old new (it, emptied) clean is_open at right =
       let told = it.tells in
-      let tells : (sent last : List Request) → TellsSo (folder_of it.files) s it.asked told.cut told.page sent last → TellsOrder given.file s visit.got visit.answer sent last =
+      let tells : (sent last : List Request) → TellsSo state_of (folder_of it.files) s it.asked told.cut told.page sent last → TellsOrder state_of given.file s visit.got visit.answer sent last =
       λ sent last so. record { files = it.files; asked = it.asked; is = it.is; cut = told.cut; page = told.page; told = told.told; tells = so } in
-      elim (order_leaves (state_of old.office.held) new.office.closed (state_of new.office.held) (folder_of it.files) s it.asked told.cut told.page (told.does clean is_open s at)) [
+      elim (order_leaves state_of (folder_of it.files) s old.office new.office it.asked told.cut told.page (told.does clean is_open s at)) [
         | inl (sent, last, so, open_at) ↦ inl (sent, (last, tells sent last so), none_read given.clients (after s sent) new.kept.reads emptied.0, open_at)
         | inr (sent, last, so, is_closed, leaves) ↦ inr (sent, last, tells sent last so, is_closed, leaves)
       ]
@@ -267,7 +268,7 @@ module _ {S : Type 0} (given : Given) (state_of : Held S → State) where
   pub record Keeps (s : OfficeState) (visits : List Visit) (closed : Bool) (st : State) : Type 0 where
     pub answered : List Request
     pub last : List Request
-    pub in_turn : AnswersInTurn given s visits answered last
+    pub in_turn : AnswersInTurn state_of given s visits answered last
     pub open_at : closed ≡ false → IsOpenAt (after s answered) closed st
     pub leaves : LeavesState st (IsAfterSome s (answered ++ last) (length answered))
 
@@ -279,7 +280,7 @@ module _ {S : Type 0} (given : Given) (state_of : Held S → State) where
 
   -- one was answered, and the others go on behind him
   goes_on : (s : OfficeState) (sent : List Request) (visit : Visit) (visits : List Visit) (closed : Bool) (st : State) → (others : Keeps (after s sent) visits closed st)
-      → AnswersInTurn given s (visit ∷ visits) (sent ++ others.answered) others.last → Keeps s (visit ∷ visits) closed st
+      → AnswersInTurn state_of given s (visit ∷ visits) (sent ++ others.answered) others.last → Keeps s (visit ∷ visits) closed st
   goes_on s sent visit visits closed st others in_turn = record {
     answered = sent ++ others.answered;
     last = others.last;
@@ -292,7 +293,7 @@ module _ {S : Type 0} (given : Given) (state_of : Held S → State) where
   }
 
   -- the office is closed since his turn
-  shut : (s : OfficeState) (answered last : List Request) (visits : List Visit) (closed : Bool) (st : State) → closed ≡ true → AnswersInTurn given s visits answered last
+  shut : (s : OfficeState) (answered last : List Request) (visits : List Visit) (closed : Bool) (st : State) → closed ≡ true → AnswersInTurn state_of given s visits answered last
       → LeavesState st (IsAfterSome s (answered ++ last) (length answered)) → Keeps s visits closed st
   shut s answered last visits closed st is_closed in_turn leaves = record {
     answered = answered;
@@ -328,7 +329,7 @@ module _ {S : Type 0} (given : Given) (state_of : Held S → State) where
   pub kept_of : (earlier : List Request) (visits : List Visit) (tries : List TriesEntry) (old : OfficeValue S) (new : Desk S)
       → FoldsTo (ServesVisit given state_of) (with_none_kept tries old) visits new
       → HasCleanDisk (state_of new.office.held) → old.closed ≡ false → IsAt (after empty_office earlier) (state_of old.held)
-      → IsKeptOf given earlier visits new.office.closed (state_of new.office.held)
+      → IsKeptOf state_of given earlier visits new.office.closed (state_of new.office.held)
   kept_of earlier visits tries old new each clean is_open at =
       let it = keeps (after empty_office earlier) visits (with_none_kept tries old) new each clean is_open at (none_read given.clients (after empty_office earlier) [] refl) in
       record {

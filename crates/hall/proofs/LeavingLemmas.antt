@@ -13,7 +13,7 @@ folds_then R (x ∷ xs) ys old mid new (next, step, first) rest = (next, step, f
 
 module _ {L : Type 0} (least now : ℕ) where
   pub let_go_none : (room : Room L) → AreLetGo least now room room
-  let_go_none room = (refl, (refl, ([], refl)))
+  let_go_none room = (refl, refl, ([], refl))
 
   -- who has waited longest of those who were seen, and long enough
   pub let_go_one : (old new : Room L) (seen : List (Client L)) (place : ℕ) (one : Client L) → seen ≡ old.clients.items → place < length seen
@@ -23,27 +23,25 @@ module _ {L : Type 0} (least now : ℕ) where
       let clients = old.clients.items in
       let inside : place < length clients = subst (λ (cs : List (Client L)). place < length cs) same within in (
         came,
+        counted,
         (
-          counted,
+          place ∷ [],
           (
-            place ∷ [],
-            (
-              new.clients.items,
-              record {
-                within = inside;
-                longest = λ c. let it = subst (λ (cs : List (Client L)). (d : Client L) → IsLongest cs (get_or cs place d)) same longest in it c;
-                patient = λ c. subst (λ (d : Client L). least ≤ now - d.since) (get_or_read clients place one inside is c) patient;
-                left = left;
-              },
-              refl,
-            ),
+            new.clients.items,
+            record {
+              within = inside;
+              longest = λ c. let it = subst (λ (cs : List (Client L)). (d : Client L) → IsLongest cs (get_or cs place d)) same longest in it c;
+              patient = λ c. subst (λ (d : Client L). least ≤ now - d.since) (get_or_read clients place one inside is c) patient;
+              left = left;
+            },
+            refl,
           ),
         ),
       )
 
   pub let_go_then : (old mid new : Room L) → AreLetGo least now old mid → AreLetGo least now mid new → AreLetGo least now old new
-  let_go_then old mid new (came, (counted, (first, each))) (came_then, (counted_then, (next, rest))) =
-      (came_then ∙ came, (counted_then ∙ counted, (first ++ next, folds_then (IsLetGo least now) first next old.clients.items mid.clients.items new.clients.items each rest)))
+  let_go_then old mid new (came, counted, (first, each)) (came_then, counted_then, (next, rest)) =
+      (came_then ∙ came, counted_then ∙ counted, (first ++ next, folds_then (IsLetGo least now) first next old.clients.items mid.clients.items new.clients.items each rest))
 
 -- ---- how many are left
 

@@ -5,6 +5,7 @@ use Rattle.std.specs.List.{list_all}
 use Rattle.std.specs.Str.{is_utf8}
 use Rattle.sqlite.specs.Held.{Held}
 use Rattle.sqlite.specs.State.{HasCleanDisk, State}
+use Rattle.tables.specs.declared.fault.Fault.{Fault}
 use Rattle.tables.specs.declared.fault.Fault.TheVariants.{Memory, Store}
 use Rattle.office.specs.Answers.{WhenOpenAt}
 use Rattle.office.specs.Values.{OfficeValue}
@@ -108,6 +109,14 @@ pub no_text : (file : FileNumbers) (got : List ℕ) (h : Handed) → IsMessage g
     → IsUnread file got (asked.Refused (Office Store))
 no_text file got h message bad = inr (refl, λ o is for_file text.
     bad (ap (list_all is_utf8) (sym (words_read h)) ∙ subst (λ (x : HandedEntry). list_all is_utf8 (words_in x) ≡ true) (same_order got o (handed_entry h) is message) text))
+
+-- its words weren't read: memory was wanting, or they are no text
+pub words_unread : (file : FileNumbers) (got : List ℕ) (h : Handed) (words : List Piece) (fault : Fault) → IsMessage got (handed_entry h) → words ≡ h.words.items
+    → (fault ≡ Memory) ⊎ ((fault ≡ Store) × (list_all is_utf8 (map (λ (p : Piece). p.name.now) words) ≡ true → ⊥)) → IsUnread file got (asked.Refused (Office fault))
+words_unread file got h words fault message same (inl wanting) = inl (ap (λ (f : Fault). asked.Refused (Office f)) wanting)
+words_unread file got h words fault message same (inr (store, bad)) =
+    subst (λ (f : Fault). IsUnread file got (asked.Refused (Office f))) (sym store)
+    (no_text file got h message (subst (λ (ws : List Piece). list_all is_utf8 (map (λ (p : Piece). p.name.now) ws) ≡ true → ⊥) same bad))
 
 -- its bytes spell no order
 pub no_order : (file : FileNumbers) (got message : List ℕ) → message ≡ drop 8 got → ((h : HandedEntry) → Fits h → message ≡ spelling h → ⊥) → IsUnread file got (asked.Refused (Office Store))

@@ -76,4 +76,4 @@ pub record ServesHall {L S : Type 0} (given : Given) (line : Line L) (state_of :
   pub kept : KeptEntry
   pub each : FoldsTo (ServesVisit given state_of) (with_none_kept tries old) visits (desk_at new kept)
   pub keeps : HasCleanDisk (state_of new.held) → old.closed ≡ false → (earlier : List Request) → IsAt (after empty_office earlier) (state_of old.held)
-      → IsKeptOf given earlier visits new.closed (state_of new.held)
+      → IsKeptOf state_of given earlier visits new.closed (state_of new.held)

@@ -76,13 +76,13 @@ AsksSo h (asked.Misread fault) = IsNoneMeant (meaning (subcommand_of office_word
 
 -- no order is read: memory was wanting; or the bytes are no message of text, or that of another version of the program, or for another file
 abbrev pub IsUnread : FileNumbers → List ℕ → Asked → Type 0
-IsUnread file got asked =
-    (asked ≡ asked.Refused (Office Memory))
-    ⊎ ((asked ≡ asked.Refused (Office Store)) × ((h : HandedEntry) → IsMessage got h → IsForFile file h → list_all is_utf8 (words_in h) ≡ true → ⊥))
+IsUnread file got what =
+    (what ≡ asked.Refused (Office Memory))
+    ⊎ ((what ≡ asked.Refused (Office Store)) × ((h : HandedEntry) → IsMessage got h → IsForFile file h → list_all is_utf8 (words_in h) ≡ true → ⊥))
 
 -- what was gathered asks this, with the files that came with it
 abbrev pub AsksOrder : FileNumbers → List ℕ → List PieceEntry → Asked → Type 0
-AsksOrder file got files asked = ((h : HandedEntry) × IsMessage got h × IsForFile file h × (files ≡ h.files) × AsksSo h asked) ⊎ (IsUnread file got asked × (files ≡ []))
+AsksOrder file got files what = ((h : HandedEntry) × IsMessage got h × IsForFile file h × (files ≡ h.files) × AsksSo h what) ⊎ (IsUnread file got what × (files ≡ []))
 
 -- ---- its files
 
@@ -162,24 +162,26 @@ pub record FollowsOrder {S : Type 0} (file : FileNumbers) (state_of : Held S →
 abbrev pub AreAnswered : List Request → ℕ → List Request → List Request → Type 0
 AreAnswered requests answered sent last = (sent ≡ take answered requests) × (last ≡ take 1 (drop answered requests))
 
--- the page of what is asked at a state, for which these requests were answered, and this one more was sent, if any
-abbrev pub TellsSo : Folder → OfficeState → Asked → Cut → Page → List Request → List Request → Type 0
-TellsSo folder s (asked.Do job) cut page sent last =
-    (old : State) × (closed : Bool) × (st : State) × ComesTo cut page (λ course. IsDone old closed st folder s job course × AreAnswered course.requests course.answered sent last)
-TellsSo folder s (asked.Copy path) cut page sent last = IsCopyTold s page × (sent ≡ []) × (last ≡ [])
-TellsSo folder s asked.Journal cut page sent last = IsJournalTold s page × (sent ≡ []) × (last ≡ [])
-TellsSo folder s (asked.Refused failure) cut page sent last = (page ≡ failed failure) × (sent ≡ []) × (last ≡ [])
-TellsSo folder s (asked.Misread fault) cut page sent last = (page ≡ words_page fault) × (sent ≡ []) × (last ≡ [])
+-- The page of what is asked at a state, for which these requests were answered, and this one more was sent, if any. A job tells it of an office that was open
+-- at that state, over some connection, whose failing may be the cause of a fault that is told.
+abbrev pub TellsSo : {S : Type 0} → (Held S → State) → Folder → OfficeState → Asked → Cut → Page → List Request → List Request → Type 0
+TellsSo {S} state_of folder s (asked.Do job) cut page sent last =
+    (old new : OfficeValue S)
+    × ComesTo cut page (λ course. IsDone (state_of old.held) new.closed (state_of new.held) folder s job course × AreAnswered course.requests course.answered sent last)
+TellsSo state_of folder s (asked.Copy path) cut page sent last = IsCopyTold s page × (sent ≡ []) × (last ≡ [])
+TellsSo state_of folder s asked.Journal cut page sent last = IsJournalTold s page × (sent ≡ []) × (last ≡ [])
+TellsSo state_of folder s (asked.Refused failure) cut page sent last = (page ≡ failed failure) × (sent ≡ []) × (last ≡ [])
+TellsSo state_of folder s (asked.Misread fault) cut page sent last = (page ≡ words_page fault) × (sent ≡ []) × (last ≡ [])
 
 -- an order that these bytes ask told its page at a state in these frames
-pub record TellsOrder (file : FileNumbers) (s : OfficeState) (got frames : List ℕ) (sent last : List Request) : Type 0 where
+pub record TellsOrder {S : Type 0} (state_of : Held S → State) (file : FileNumbers) (s : OfficeState) (got frames : List ℕ) (sent last : List Request) : Type 0 where
   pub files : List PieceEntry
   pub asked : Asked
   pub is : AsksOrder file got files asked
   pub cut : Cut
   pub page : Page
   pub told : IsFramed cut page frames
-  pub tells : TellsSo (folder_of files) s asked cut page sent last
+  pub tells : TellsSo state_of (folder_of files) s asked cut page sent last
 
 -- an order that these bytes ask found the office closed, and is told so in these frames
 pub record IsTurnedAway (file : FileNumbers) (got frames : List ℕ) : Type 0 where

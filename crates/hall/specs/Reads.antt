@@ -1,14 +1,13 @@
 -- What is kept in memory: answers to reads, to be told again while nothing changes; and the wrong codes that came.
-use Rattle.std.specs.Prelude.{◌≡◌, ◌+◌, Bool, false, List, [], None, Option, Some, if◌then◌else◌, length, map, sum_by, ℕ}
+use Rattle.std.specs.Prelude.{◌≡◌, Bool, false, List, [], None, Option, Some, if◌then◌else◌, map, ℕ}
 use Rattle.std.specs.List.{All}
 use Rattle.register.specs.Offices.{OfficeState}
 use Rattle.office.specs.Values.{OfficeValue}
 use Rattle.codes.specs.Tries.{TriesEntry, entries_of, noted, waits}
 use Rattle.wire.specs.Asking.{Asks, reading}
 use Rattle.wire.specs.Gates.{GivenEntry, KnockEntry}
-use Rattle.wire.specs.Serving.{reading_response}
-use Rattle.wire.specs.Told.{IsTold, told_bytes}
-use Rattle.wire.specs.declared.response.Response.{Response}
+use Rattle.wire.specs.Serving.{IsServed, reading_response}
+use Rattle.wire.specs.Told.{IsTold}
 use Rattle.wire.specs.declared.serving.Served.{Served}
 use Rattle.wire.specs.declared.serving.Served.TheVariants.{Answered, ReadFailed, WriteFailed}
 use Rattle.wire.specs.declared.target.Reading.{Reading}
@@ -26,17 +25,12 @@ read_entry k = record { got = k.got.items; answer = k.answer.items }
 abbrev pub reads_in : Kept → List ReadEntry
 reads_in kept = map read_entry kept.answers.items
 
--- how many bytes are kept
-abbrev pub bytes_kept : List ReadEntry → ℕ
-bytes_kept reads = sum_by (λ r. length r.got + length r.answer) reads
-
 -- These bytes ask for a read, and this is the answer to it at a state, byte for byte.
 pub record IsRead (given : GivenEntry) (s : OfficeState) (got answer : List ℕ) : Type 0 where
   pub what : Reading
   pub asks : Asks given got (reading what)
-  pub response : Response
-  pub told : IsTold (reading_response s what) response
-  pub is : answer ≡ told_bytes response.bytes
+  pub status : ℕ
+  pub told : IsServed (λ response. IsTold (reading_response s what) response) (Some []) (Some answer) (Answered status)
 
 -- an answer was told whole, and it tells no fault (503)
 abbrev pub TellsNoFault : Served → Type 0

@@ -111,29 +111,30 @@ AreTurnedAway given (visit ∷ visits) = IsToldClosed visit.door given visit × 
 
 -- Who has his turn at a state is answered, and these requests were answered for him: of a client none or one keying, and one where he is told what the office says
 -- to it; of who must wait none; of an order those that its page tells.
-abbrev pub IsAnsweredAt : Door → Given → OfficeState → Visit → List Request → Type 0
-IsAnsweredAt Clients given s visit sent = (IsToldToWait visit × (sent ≡ [])) ⊎ EndsSo visit (IsServed (TellsFor given.clients (Some visit.got) s sent))
-IsAnsweredAt Orders given s visit sent = (last : List Request) × TellsOrder given.file s visit.got visit.answer sent last
+abbrev pub IsAnsweredAt : {S : Type 0} → Door → (Held S → State) → Given → OfficeState → Visit → List Request → Type 0
+IsAnsweredAt Clients state_of given s visit sent = (IsToldToWait visit × (sent ≡ [])) ⊎ EndsSo visit (IsServed (TellsFor given.clients (Some visit.got) s sent))
+IsAnsweredAt Orders state_of given s visit sent = (last : List Request) × TellsOrder state_of given.file s visit.got visit.answer sent last
 
 -- A fault, which he is told, closed the office in his turn: these requests were answered, and one more may be kept or not.
-abbrev pub IsStoppedAt : Door → Given → OfficeState → Visit → List Request → List Request → Type 0
-IsStoppedAt Clients given s visit answered last = EndsSo visit (IsServed TellsFault) × (answered ≡ []) × IsLastFor given.clients visit.got last
-IsStoppedAt Orders given s visit answered last = TellsOrder given.file s visit.got visit.answer answered last
+abbrev pub IsStoppedAt : {S : Type 0} → Door → (Held S → State) → Given → OfficeState → Visit → List Request → List Request → Type 0
+IsStoppedAt Clients state_of given s visit answered last = EndsSo visit (IsServed TellsFault) × (answered ≡ []) × IsLastFor given.clients visit.got last
+IsStoppedAt Orders state_of given s visit answered last = TellsOrder state_of given.file s visit.got visit.answer answered last
 
 -- All are answered in turn, each as the office's machine says where his turn comes, and these requests were answered for them. Or a fault closed the office in
 -- the turn of one of them, and everyone behind him is told that it is closed.
-abbrev pub AnswersInTurn : Given → OfficeState → List Visit → List Request → List Request → Type 0
-AnswersInTurn given s [] answered last = (answered ≡ []) × (last ≡ [])
-AnswersInTurn given s (visit ∷ visits) answered last =
-    ((sent : List Request) × (others : List Request) × IsAnsweredAt visit.door given s visit sent × (answered ≡ sent ++ others) × AnswersInTurn given (after s sent) visits others last)
-    ⊎ (IsStoppedAt visit.door given s visit answered last × AreTurnedAway given visits)
+abbrev pub AnswersInTurn : {S : Type 0} → (Held S → State) → Given → OfficeState → List Visit → List Request → List Request → Type 0
+AnswersInTurn state_of given s [] answered last = (answered ≡ []) × (last ≡ [])
+AnswersInTurn state_of given s (visit ∷ visits) answered last =
+    ((sent : List Request) × (others : List Request) × IsAnsweredAt visit.door state_of given s visit sent × (answered ≡ sent ++ others)
+    × AnswersInTurn state_of given (after s sent) visits others last)
+    ⊎ (IsStoppedAt visit.door state_of given s visit answered last × AreTurnedAway given visits)
 
 -- What is kept of those who had their turns, after earlier requests. An open office is at the state after all that were answered.
 -- Whatever a stop leaves is the state after the accepted requests of a beginning, which contains every earlier one, every one that was
 -- answered, and at most one more.
-pub record IsKeptOf (given : Given) (earlier : List Request) (visits : List Visit) (closed : Bool) (st : State) : Type 0 where
+pub record IsKeptOf {S : Type 0} (state_of : Held S → State) (given : Given) (earlier : List Request) (visits : List Visit) (closed : Bool) (st : State) : Type 0 where
   pub answered : List Request
   pub last : List Request
-  pub in_turn : AnswersInTurn given (after empty_office earlier) visits answered last
+  pub in_turn : AnswersInTurn state_of given (after empty_office earlier) visits answered last
   pub open_at : closed ≡ false → IsOpenAt (after empty_office (earlier ++ answered)) closed st
   pub keeps : Keeps earlier (answered ++ last) (length answered) st

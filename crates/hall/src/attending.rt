@@ -150,7 +150,7 @@ fn read_answer<S: Alter>(
     kept: &mut Kept,
 ) -> Answer
     requires open { office.old.closed ≡ false }
-    requires asks { (what : Reading) × Asks (given_entry given.entry) got.now (reading what) }
+    requires asks { (what : Reading) × Asks (given_entry given) got.now (reading what) }
     ensures served { (number moment : ℕ) → ServesClient (given_entry given.entry) (state S.Store) (desk_at office.old (kept_in kept.old))
         (record { door = Door.Clients; number = number; moment = moment; got = got.now; answer = result.bytes.items }) (desk_at office.new (kept_in kept.new)) }
     ensures tries { entries_of kept.new.tries ≡ entries_of kept.old.tries }

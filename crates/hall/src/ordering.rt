@@ -96,7 +96,7 @@ fn do_open<A: Aside, S: Alter, O: Sink, E: Sink>(
     requires err { E.failed err.old < 2 ^ 64 - 1 }
     ensures did { let outputs = outputs_of O.taken O.failed E.taken E.failed in Tells (outputs out.old err.old) (outputs out.new err.new) result
         (λ cut page. WhenOpenAt (state S.Store) office.old office.new
-        (λ s. ComesOf (state S.Store office.old.held) office.new.closed (state S.Store office.new.held) (folder_of (piece_entries brought.files.now)) s asked.now cut page)) }
+        (λ s. ComesOf (state S.Store office.old.held) office.new.closed (state S.Store office.new.held) (folder_of (piece_entries brought.entry.files.now)) s asked.now cut page)) }
     ensures clean { HasCleanDisk (state S.Store office.new.held) → HasCleanDisk (state S.Store office.old.held) }
 {
     match asked {
@@ -123,7 +123,7 @@ fn do_asked<A: Aside, S: Alter, O: Sink, E: Sink>(
     requires err { E.failed err.old < 2 ^ 64 - 1 }
     ensures did { let outputs = outputs_of O.taken O.failed E.taken E.failed in Tells (outputs out.old err.old) (outputs out.new err.new) result
         (λ cut page. WhenOpenAt (state S.Store) office.old office.new
-        (λ s. ComesOf (state S.Store office.old.held) office.new.closed (state S.Store office.new.held) (folder_of (piece_entries brought.files.now)) s asked.now cut page)
+        (λ s. ComesOf (state S.Store office.old.held) office.new.closed (state S.Store office.new.held) (folder_of (piece_entries brought.entry.files.now)) s asked.now cut page)
         × (office.old.closed ≡ true → page ≡ shut_page asked.now)) }
     ensures closed { office.old.closed ≡ true → office.new ≡ office.old }
     ensures clean { HasCleanDisk (state S.Store office.new.held) → HasCleanDisk (state S.Store office.old.held) }
@@ -147,7 +147,7 @@ fn tell_asked<L: Line, A: Aside, S: Alter>(
 ) -> (L, Answer)
     requires { HasTaken (L.taken line) [] }
     ensures told { IsTold (line_of L.held L.taken) result.0 result.1.bytes.items result.1.sent }
-    ensures followed { TellsAsked (state S.Store) office.old (piece_entries brought.files.now) asked.now result.1.bytes.items office.new }
+    ensures followed { TellsAsked (state S.Store) office.old (piece_entries brought.entry.files.now) asked.now result.1.bytes.items office.new }
 {
     let mut out = Outlet::new(alloc, line);
     let mut err = Writing::new(alloc);

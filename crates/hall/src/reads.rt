@@ -8,7 +8,7 @@ ghost use Rattle.wire.specs.Asking.{Asks, reading};
 ghost use Rattle.codes.specs.Tries.{entries_of};
 ghost use Rattle.wire.specs.Gates.{given_entry, knock_entry};
 ghost use Rattle.wire.specs.declared.target.Reading.{Reading};
-ghost use Rattle.hall.specs.Reads.{ReadEntry, bytes_kept, kept_in, must_wait, reads_in, tries_behind};
+ghost use Rattle.hall.specs.Reads.{ReadEntry, kept_in, must_wait, reads_in, tries_behind};
 
 use codes::Tries;
 use gathering::Gathered;

@@ -97,7 +97,7 @@ fn go_on_at<L: Line + Drop, C: Clock, A: Aside, S: Alter>(
     kept: &mut Kept,
 ) -> Result<(), Broken>
     requires place { place < length room.old.clients.items }
-    requires sound { IsSound (given_in terms.entry) (line_of L.held L.taken) room.old }
+    requires sound { IsSound (given_in terms) (line_of L.held L.taken) room.old }
     ensures goes_on { (let_in : Option (List (Comer L))) → GoesOnServing (given_in terms.entry) (line_of L.held L.taken) (state S.Store) let_in let_in room.old room.new (desk_at office.old (kept_in kept.old)) (desk_at office.new (kept_in kept.new)) }
     ensures came { room.new.came ≡ room.old.came }
     ensures counted { room.new.counted ≡ room.old.counted }
@@ -128,7 +128,7 @@ fn go_on_numbered<L: Line + Drop, C: Clock, A: Aside, S: Alter>(
     office: &mut Office<S>,
     kept: &mut Kept,
 ) -> Result<(), Broken>
-    requires { IsSound (given_in terms.entry) (line_of L.held L.taken) room.old }
+    requires { IsSound (given_in terms) (line_of L.held L.taken) room.old }
     ensures goes_on { (let_in : Option (List (Comer L))) → GoesOnServing (given_in terms.entry) (line_of L.held L.taken) (state S.Store) let_in let_in room.old room.new (desk_at office.old (kept_in kept.old)) (desk_at office.new (kept_in kept.new)) }
     ensures came { room.new.came ≡ room.old.came }
     ensures counted { room.new.counted ≡ room.old.counted }
@@ -151,7 +151,7 @@ fn go_on_all<D: Doors, C: Clock, A: Aside, S: Alter>(
     office: &mut Office<S>,
     kept: &mut Kept,
 ) -> Result<(), Broken>
-    requires { IsSound (given_in terms.entry) (line_of D.Line.held D.Line.taken) room.old }
+    requires { IsSound (given_in terms) (line_of D.Line.held D.Line.taken) room.old }
     ensures goes_on { GoesOnServing (given_in terms.entry) (line_of D.Line.held D.Line.taken) (state S.Store) (D.came doors.old) (D.came doors.new) room.old room.new (desk_at office.old (kept_in kept.old)) (desk_at office.new (kept_in kept.new)) }
     ensures came { room.new.came ≡ room.old.came }
     ensures counted { room.new.counted ≡ room.old.counted }
@@ -245,7 +245,7 @@ fn go_round<D: Doors, C: Clock, A: Aside, S: Alter>(
     office: &mut Office<S>,
     kept: &mut Kept,
 ) -> Result<bool, Broken>
-    requires { IsSound (given_in terms.entry) (line_of D.Line.held D.Line.taken) room.old }
+    requires { IsSound (given_in terms) (line_of D.Line.held D.Line.taken) room.old }
     ensures goes_on { GoesOnServing (given_in terms.entry) (line_of D.Line.held D.Line.taken) (state S.Store) (D.came doors.old) (D.came doors.new) room.old room.new (desk_at office.old (kept_in kept.old)) (desk_at office.new (kept_in kept.new)) }
     ensures few { room.old.counted ≤ most → room.new.counted ≤ most }
     ensures within { IsWithin room.old → OnOk result (IsWithin room.new) }

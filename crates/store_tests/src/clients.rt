@@ -80,11 +80,13 @@ impl<'a> Client<'a> {
 /// Clients who come in turn; or one who can't be let in when his turn comes, and isn't there any more later.
 pub type Comers<'a> = &'a [Option<Client<'a>>];
 
-/// An office that serves: who comes, after how many serving ends, how many seconds later the clock is at each look, after
+/// An office that serves: who comes, of whom the doors tell behind each wait that they may go on, all who were let in or those of
+/// these numbers, in their order; after how many serving ends, how many seconds later the clock is at each look, after
 /// how many waits the doors fail, and the text of a file of clerks' codes, if they are asked for.
 #[derive(Clone, Copy, Debug)]
 pub struct Evening<'a> {
     pub comers: Comers<'a>,
+    pub told: Option<&'a [usize]>,
     pub connections: Option<u64>,
     pub seconds: u64,
     pub waits: u64,
@@ -96,6 +98,7 @@ impl<'a> Evening<'a> {
     pub fn of(comers: Comers<'a>) -> Evening<'a> {
         Evening {
             comers,
+            told: None,
             connections: Some(comers.len() as u64),
             seconds: 0,
             waits: 10_000,
@@ -179,27 +182,25 @@ impl Line for Talk<'_, '_> {
     }
 }
 
-/// The doors to which clients come. Whoever was let in may go on behind each wait.
+/// The doors to which clients come, and how many they have told of since the last wait.
 #[derive(Drop)]
 pub struct Coming<'c, 'p> {
-    comers: Comers<'c>,
+    evening: Evening<'c>,
     pages: &'p [RefCell<Vec<u8>>],
     next: usize,
     came: u64,
-    told: u64,
-    waits: u64,
+    told: usize,
 }
 
 impl<'c, 'p> Coming<'c, 'p> {
     /// Those of an evening, with a page for each.
     pub fn new(evening: Evening<'c>, pages: &'p [RefCell<Vec<u8>>]) -> Coming<'c, 'p> {
         Coming {
-            comers: evening.comers,
+            evening,
             pages,
             next: 0,
             came: 0,
             told: 0,
-            waits: evening.waits,
         }
     }
 }
@@ -210,26 +211,29 @@ impl<'c, 'p> Doors for Coming<'c, 'p> {
     ghost came = { λ _. None };
 
     fn wait(&mut self, _most: Duration) -> Result<(), Broken> {
-        if self.waits == 0 {
+        if self.evening.waits == 0 {
             return Err(Broken);
         }
-        self.waits -= 1;
+        self.evening.waits -= 1;
         self.told = 0;
         Ok(())
     }
 
     fn next_ready(&mut self) -> Option<u64> {
-        if self.told >= self.came {
+        let number = match self.evening.told {
+            Some(numbers) => *numbers.get(self.told)?,
+            None => self.told,
+        } as u64;
+        if number >= self.came {
             return None;
         }
-        let number = self.told;
-        self.told += 1;
+        self.told = self.told.saturating_add(1);
         Some(number)
     }
 
     fn admit(&mut self, number: u64, clients_too: bool) -> Admitted<Talk<'c, 'p>> {
-        let (Some(next), Some(page)) = (self.comers.get(self.next), self.pages.get(self.next))
-        else {
+        let comers = self.evening.comers;
+        let (Some(next), Some(page)) = (comers.get(self.next), self.pages.get(self.next)) else {
             return Admitted::Nobody;
         };
         let Some(client) = next else {
@@ -248,7 +252,7 @@ impl<'c, 'p> Doors for Coming<'c, 'p> {
     }
 
     fn is_waited_at(&self) -> bool {
-        self.next < self.comers.len()
+        self.next < self.evening.comers.len()
     }
 }
 

@@ -209,13 +209,16 @@ const CROWD: usize = 600;
 
 const MOST: usize = 512;
 
-/// A crowd of silent clients, among whom these places ask for a clerk's work, two bytes a second.
-fn crowd<'a>(alloc: Global, asking: &[usize]) -> Result<Vec<Option<Client<'a>>>, Fail> {
+/// Of the crowd these ask for a clerk's work, three bytes at a time; the doors tell of them alone.
+const ASKING: &[usize] = &[0, CROWD - MOST - 1, CROWD - MOST, MOST, CROWD - 1];
+
+/// A crowd of clients of whom the others are silent.
+fn crowd<'a>(alloc: Global) -> Result<Vec<Option<Client<'a>>>, Fail> {
     let mut comers = Vec::new(alloc);
     for place in 0..CROWD {
-        comers.push(Some(if asking.contains(&place) {
+        comers.push(Some(if ASKING.contains(&place) {
             Client {
-                at_once: 2,
+                at_once: 3,
                 ..Client::whole(FOUR)
             }
         } else {
@@ -243,16 +246,17 @@ fn crowds_texts(alloc: Global, answered: &[usize]) -> Result<Vec<&'static str>, 
 /// is let go so before he has waited a second: where no time passes, whoever comes waits until somebody leaves.
 fn are_too_many<M: Machine + Drop>(rt: &(impl Abort + AllocGlobal), machine: M) -> Result<M, Fail> {
     let alloc = rt.alloc();
-    let first = CROWD - MOST;
-    let comers = crowd(alloc, &[0, first - 1, first, MOST, CROWD - 1])?;
-    let texts = crowds_texts(alloc, &[first, MOST, CROWD - 1])?;
+    let comers = crowd(alloc)?;
+    let texts = crowds_texts(alloc, &[CROWD - MOST, MOST, CROWD - 1])?;
     let evening = Evening {
+        told: Some(ASKING),
         seconds: 1,
         ..Evening::of(&comers)
     };
     let machine = serve_all(rt, machine, evening, &texts)?;
-    let texts = crowds_texts(alloc, &[0, first - 1, first, MOST])?;
+    let texts = crowds_texts(alloc, &[0, CROWD - MOST - 1, CROWD - MOST, MOST])?;
     let evening = Evening {
+        told: Some(ASKING),
         waits: 40,
         ..Evening::of(&comers)
     };
@@ -294,6 +298,7 @@ fn come_with_codes<M: Machine + Drop>(
     let mut texts = Vec::new(rt.alloc());
     for (sends, told) in [
         (BY_HIS_CODE, FOUR_TO_KEY),
+        (BY_HIS_CODE, FOUR_TO_KEY),
         (FOUR, UNAUTHORIZED),
         (BY_HIS_CODE, FOUR_TO_KEY),
         (SHEET, WRONG_PHASE),
@@ -320,7 +325,7 @@ fn come_with_codes<M: Machine + Drop>(
     serve_all(rt, machine, evening, texts.as_slice())
 }
 
-/// Of bodies of a megabyte each, 63 may be held at once. Where one more comes, who has waited longest is let go.
+/// Of bodies of a megabyte each, 63 may be held at once. Where one more comes, who has waited longest is let go, and nobody else.
 fn hold_too_much<M: Machine + Drop>(
     rt: &(impl Abort + AllocGlobal),
     machine: M,
@@ -328,13 +333,23 @@ fn hold_too_much<M: Machine + Drop>(
     let alloc = rt.alloc();
     let head = b"POST /clerks/4/batches/12/keying HTTP/1.1\r\nContent-Length: 1048576\r\n\r\n";
     let mut body = Vec::from_slice(alloc, head)?;
-    body.resize(body.len() + (1 << 20), b' ')?;
+    body.resize(body.len() + (1 << 20), 0xff)?;
     let all_but_one = body.len().saturating_sub(1);
-    let comer = Some(Client::slow(body.as_slice(), all_but_one));
-    let comers = [comer; 64];
-    let mut texts = [BAD_REQUEST; 64];
-    texts[0] = "";
-    serve_all(rt, machine, Evening::of(&comers), &texts)
+    let comer = Client::slow(body.as_slice(), all_but_one);
+    // Most never send their last byte.
+    let waits = Client {
+        sends: body.get(..all_but_one).unwrap_or(&[]),
+        ends: false,
+        ..comer
+    };
+    let mut comers = [Some(waits); 64];
+    let mut texts = [""; 64];
+    comers[0] = Some(comer);
+    comers[1] = Some(comer);
+    comers[63] = Some(comer);
+    texts[1] = BAD_REQUEST;
+    texts[63] = BAD_REQUEST;
+    serve(rt, machine, wanted(&comers, None, &texts, "Err(Broken)"))
 }
 
 /// What a client can't ask.
@@ -357,8 +372,7 @@ fn come_at_once<M: Machine + Drop>(rt: &(impl Abort + AllocGlobal)) -> Result<()
     let machine = are_too_many(rt, machine)?;
     let machine = hold_too_much(rt, machine)?;
     let machine = come_with_codes(rt, machine)?;
-    let machine = have_their_turns(rt, machine)?;
-    works(rt, machine)?;
+    have_their_turns(rt, machine)?;
     let machine: M = play_acts(rt, BEGUN)?;
     let machine = break_at_each_byte(rt, machine)?;
     works(rt, machine)?;

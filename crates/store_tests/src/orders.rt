@@ -5,7 +5,7 @@ use super::begun::{BEGUN, KEYED, KEYING};
 use super::clients::{Client, Evening};
 use super::disks::Disks;
 use super::machine::{Machine, hear, hear_unchanged, play_acts};
-use super::steps::{Step, TERMS};
+use super::steps::{Case, Step, TERMS};
 use desk::version::VERSION;
 use handover::{Handed, Piece, put_over, put_said, write};
 use std::alloc::Global;
@@ -109,43 +109,19 @@ fn frames(alloc: Global, told: &[&str], status: u8, err: &str) -> Result<String,
     Ok(String::from_utf8(bytes)?)
 }
 
-/// One order comes, and is told this.
-fn is_told<M: Machine + Drop>(
-    rt: &(impl Abort + AllocGlobal),
-    machine: M,
-    order: Client<'_>,
-    told: &str,
-) -> Result<M, Fail> {
-    let comers = [Some(order)];
+/// Orders come at once, and are told this.
+fn told_of<'a>(orders: &'a [Option<Client<'a>>], told: &'a str) -> Case<'a> {
     let evening = Evening {
         connections: Some(0),
-        ..Evening::of(&comers)
+        ..Evening::of(orders)
     };
-    hear(rt, machine, &[(Step::Serve(evening), (0, told, "Ok(())"))])
+    (Step::Serve(evening), (0, told, "Ok(())"))
 }
 
-/// One order comes that changes nothing, and is told why.
-fn is_refused<M: Machine + Drop>(
-    rt: &(impl Abort + AllocGlobal),
-    machine: M,
-    given: Given<'_>,
-    status: u8,
-    err: &str,
-) -> Result<M, Fail> {
-    let message = given.message(rt.alloc())?;
-    let told = frames(rt.alloc(), &[], status, err)?;
-    let comers = [Some(Client::order(message.as_slice()))];
-    let evening = Evening {
-        connections: Some(0),
-        ..Evening::of(&comers)
-    };
-    let step = Step::Serve(evening);
-    hear_unchanged(rt, machine, &[(step, (0, told.as_str(), "Ok(())"))])
-}
-
-/// Orders that aren't followed: of another program, for another file, which no office does while it is served, and those
-/// that aren't understood.
+/// Orders that aren't followed, each with its status and why: of another program, for another file, which no office does while it
+/// is served, and those that aren't understood. They change nothing.
 fn are_refused<M: Machine + Drop>(rt: &(impl Abort + AllocGlobal), machine: M) -> Result<M, Fail> {
+    let alloc = rt.alloc();
     let older = Given {
         version: "1.2.0-older",
         ..Given::of(STATUS)
@@ -154,7 +130,8 @@ fn are_refused<M: Machine + Drop>(rt: &(impl Abort + AllocGlobal), machine: M) -
         inode: TERMS.file.inode + 1,
         ..Given::of(STATUS)
     };
-    let mut machine = machine;
+    let mut messages = Vec::new(alloc);
+    let mut told = String::new(alloc);
     for (given, status, err) in [
         (older, 3, "fault 102: store\n"),
         (elsewhere, 3, "fault 102: store\n"),
@@ -170,27 +147,34 @@ fn are_refused<M: Machine + Drop>(rt: &(impl Abort + AllocGlobal), machine: M) -
             "file fault 8 at record 0: read failed\n",
         ),
     ] {
-        machine = is_refused(rt, machine, given, status, err)?;
+        if !messages.is_empty() {
+            told.push('\n')?;
+        }
+        told.push_str(frames(alloc, &[], status, err)?.as_str())?;
+        messages.push(given.message(alloc)?)?;
     }
-    Ok(machine)
+    let orders: Vec<Option<Client<'_>>> = messages
+        .iter()
+        .map(|message| Some(Client::order(message)))
+        .collect(alloc)?;
+    hear_unchanged(rt, machine, &[told_of(&orders, told.as_str())])
 }
 
 /// Messages that are no orders: one that is too long and one that ends too early are let go, and one that spells nothing is
 /// told what a file is told that another program holds.
 fn are_none<M: Machine + Drop>(rt: &(impl Abort + AllocGlobal), machine: M) -> Result<M, Fail> {
-    let told = frames(rt.alloc(), &[], 3, "fault 102: store\n")?;
-    let machine = is_told(
-        rt,
-        machine,
-        Client::order(b"\0\0\0\0\0\0\0\x03abc"),
-        told.as_str(),
-    )?;
-    let machine = is_told(rt, machine, Client::order(b"\0\0\0\0\x7f\0\0\0abc"), "")?;
+    let mut told = frames(rt.alloc(), &[], 3, "fault 102: store\n")?;
+    told.push_str("\n\n")?;
     let early = Client {
         ends: true,
         ..Client::order(b"\0\0\0\0\0\0\0\x04abc")
     };
-    is_told(rt, machine, early, "")
+    let orders = [
+        Some(Client::order(b"\0\0\0\0\0\0\0\x03abc")),
+        Some(Client::order(b"\0\0\0\0\x7f\0\0\0abc")),
+        Some(early),
+    ];
+    hear_unchanged(rt, machine, &[told_of(&orders, told.as_str())])
 }
 
 /// Orders have their turns among clients: one before a keying and one behind it tell how the ward stood. They come a few bytes
@@ -242,40 +226,35 @@ fn follow_scripts<M: Machine + Drop>(
     };
     let message = given.message(rt.alloc())?;
     let told = frames(rt.alloc(), IMPORTED, 1, "line 2: refused 9: wrong phase\n")?;
-    is_told(
-        rt,
-        machine,
-        Client::order(message.as_slice()),
-        told.as_str(),
-    )
+    let orders = [Some(Client::order(message.as_slice()))];
+    hear(rt, machine, &[told_of(&orders, told.as_str())])
 }
 
-/// The line of an order breaks at each byte that it takes. Its keying is kept from the first of them on, and told again.
+/// The lines of orders break at each byte that they take. The keying is kept from the first of them on, and told again.
 fn break_at_each_byte<M: Machine + Drop>(
     rt: &(impl Abort + AllocGlobal),
     machine: M,
 ) -> Result<M, Fail> {
+    let alloc = rt.alloc();
     let given = Given {
         files: KEYED_FILE,
         ..Given::of(IMPORT)
     };
-    let message = given.message(rt.alloc())?;
-    let told = frames(rt.alloc(), IMPORTED, 0, "")?;
-    let mut machine = machine;
-    for takes in 0..told.len() {
-        let order = Client {
+    let message = given.message(alloc)?;
+    let whole = frames(alloc, IMPORTED, 0, "")?;
+    let mut orders = Vec::new(alloc);
+    let mut told = String::new(alloc);
+    for takes in 0..whole.len() {
+        orders.push(Some(Client {
             takes,
             ..Client::order(message.as_slice())
-        };
-        let front = told.get(..takes).unwrap_or("");
-        machine = is_told(rt, machine, order, front)?;
+        }))?;
+        told.push_str(whole.get(..takes).unwrap_or(""))?;
+        told.push('\n')?;
     }
-    is_told(
-        rt,
-        machine,
-        Client::order(message.as_slice()),
-        told.as_str(),
-    )
+    orders.push(Some(Client::order(message.as_slice())))?;
+    told.push_str(whole.as_str())?;
+    hear(rt, machine, &[told_of(&orders, told.as_str())])
 }
 
 fn are_handed_over<M: Machine + Drop>(rt: &(impl Abort + AllocGlobal)) -> Result<(), Fail> {
