@@ -1,5 +1,5 @@
 -- Who asks under a clerk's number: where codes are asked for, the holder of his code.
-use Rattle.std.proofs.Common.{◌≡◌, ◌∙◌, ◌&&◌, ◌==◌, Bool, true, false, cond, List, [], ◌∷◌, ◌++◌, Option, Some, None, Result, Ok, Err, ap, codes, drop, inl, inr, length, map, not, refl, subst, suc, sym, take, ℕ}
+use Rattle.std.proofs.Common.{◌≡◌, ◌∙◌, ◌&&◌, ◌==◌, Bool, true, false, cond, List, [], ◌∷◌, ◌++◌, Option, Some, None, Result, Ok, Err, ap, arith, codes, drop, inl, inr, length, map, not, refl, subst, sym, take, ℕ}
 use Rattle.std.specs.Prelude.{bytes_eq, if◌then◌else◌, nat_le, option_and_then, slice_index}
 use Rattle.std.specs.Char.{is_ascii_digit}
 use Rattle.std.specs.List.{list_all, prefix_len}
@@ -38,7 +38,8 @@ digits-before : (part rest : List ℕ) → list_all is_ascii_digit part ≡ true
 digits-before [] rest digits = refl
 digits-before (d ∷ part) rest digits =
     let both = and_parts (is_ascii_digit d) (list_all is_ascii_digit part) digits in
-    rw both.0 (ap suc (digits-before part rest both.1))
+    let more = digits-before part rest both.1 in
+    rw both.0 (omega (arith, more))
 
 slash-behind : (part rest : List ℕ) → slice_index (part ++ (47 ∷ rest)) (length part) ≡ 47
 slash-behind [] rest = refl

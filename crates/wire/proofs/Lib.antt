@@ -10,6 +10,7 @@ pub mod PathLemmas
 pub mod LengthLemmas
 pub mod AskingLemmas
 pub mod GateLemmas
+pub mod KnockLemmas
 pub mod LackingLemmas
 pub mod ReplyLemmas
 pub mod ResponseLemmas

@@ -59,6 +59,20 @@ impl Verb {
     }
 }
 
+impl Reading {
+    /// Whether it is served only where codes are asked for.
+    fn needs_gate(&self) -> bool
+        ensures { result ≡ reading_needs_gate self.now }
+    {
+        match self {
+            Reading::Work { .. } => false,
+            Reading::Candidates { .. } => true,
+            Reading::Sheet { .. } => false,
+            Reading::Declaration { .. } => false,
+        }
+    }
+}
+
 impl Target {
     /// The one verb of what the target names.
     pub(crate) fn verb(&self) -> Verb
@@ -74,10 +88,12 @@ impl Target {
     fn needs_gate(&self) -> bool
         ensures { result ≡ needs_gate self.now }
     {
-        matches!(
-            self,
-            Target::Page { .. } | Target::Leave { .. } | Target::Reading(Reading::Candidates { .. })
-        )
+        match self {
+            Target::Keying { .. } => false,
+            Target::Page { .. } => true,
+            Target::Leave { .. } => true,
+            Target::Reading(what) => what.needs_gate(),
+        }
     }
 }
 
@@ -123,10 +139,13 @@ fn served_at(
 ) -> Result<Option<Target>, AllocError>
     ensures { IfOk result (λ found. found ≡ served_at (option_map gate_entry gate.entry) (named_by target.now)) }
 {
-    match named_by(alloc, target)? {
-        Some(there) if gate.is_some() || !there.needs_gate() => Ok(Some(there)),
-        _ => Ok(None),
+    let Some(there) = named_by(alloc, target)? else {
+        return Ok(None);
+    };
+    if gate.is_none() && there.needs_gate() {
+        return Ok(None);
     }
+    Ok(Some(there))
 }
 
 /// What is asked for there, if by its own verb.

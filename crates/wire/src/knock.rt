@@ -5,7 +5,7 @@ ghost use Rattle.std.specs.Char.{is_ascii_digit};
 ghost use Rattle.std.specs.List.{All, prefix_len};
 ghost use Rattle.httparse.specs.Spans.{IsHeaderWithin, header_bytes};
 ghost use Rattle.codes.specs.Codes.{holders_of};
-ghost use Rattle.wire.specs.Gates.{IsKnock, clerk_under, gate_entry, given_entry, kept_out, kept_out_by, knock_at, knock_entry, sent_codes};
+ghost use Rattle.wire.specs.Gates.{IsKnock, clerk_under, gate_entry, given_entry, is_wrong_code, kept_out, kept_out_by, knock_at, knock_entry, sent_codes};
 
 use crate::denial::Denial;
 use crate::digits::number_in;
@@ -67,9 +67,15 @@ fn kept_out_by(held: &Codes, clerk: u32, buffer: &[u8], headers: &[HeaderSpan]) 
     ensures { result ≡ kept_out_by (holders_of held.now) clerk (sent_codes (map (header_bytes buffer.now) headers.now)) }
 {
     match value_of(buffer, headers, b"authorization") {
-        Ok(Some(value)) if held.admits(clerk, value) => None,
+        Ok(Some(value)) => {
+            if held.admits(clerk, value) {
+                None
+            } else {
+                Some(Denial::WrongCode { clerk })
+            }
+        }
         Ok(None) => Some(Denial::Unauthorized { clerk }),
-        _ => Some(Denial::WrongCode { clerk }),
+        Err(_) => Some(Denial::WrongCode { clerk }),
     }
 }
 
@@ -83,9 +89,23 @@ pub(crate) fn kept_out(
     requires { All (IsHeaderWithin (length buffer.now)) headers.now }
     ensures { result ≡ kept_out (option_map gate_entry gate.entry) clerk (map (header_bytes buffer.now) headers.now) }
 {
-    match (gate, clerk) {
-        (Some(gate), Some(clerk)) => kept_out_by(gate.codes, clerk, buffer, headers),
-        _ => None,
+    match gate {
+        Some(gate) => match clerk {
+            Some(clerk) => kept_out_by(gate.codes, clerk, buffer, headers),
+            None => None,
+        },
+        None => None,
+    }
+}
+
+/// A code was sent, and it is wrong.
+fn is_wrong_code(why: Option<Denial>) -> bool
+    ensures { result ≡ is_wrong_code why }
+{
+    match why {
+        Some(Denial::WrongCode { .. }) => true,
+        Some(_) => false,
+        None => false,
     }
 }
 
@@ -102,7 +122,7 @@ fn knock_at(given: Given<'_>, buffer: &[u8], headers: &[HeaderSpan], target: &[u
     let why = kept_out_by(gate.codes, clerk, buffer, headers);
     Some(Knock {
         clerk,
-        is_wrong: matches!(why, Some(Denial::WrongCode { .. })),
+        is_wrong: is_wrong_code(why),
     })
 }
 
