@@ -149,6 +149,16 @@ module _ {S : Type 0} (given : GivenEntry) (state_of : Held S → State) where
     clean = λ clean. clean;
   }
 
+  -- and a wrong code is noted behind it
+  pub noted_still : (old : Desk S) (visit : Visit) (new : OfficeValue S) (kept later : KeptEntry) → later.reads ≡ kept.reads → ServesClient given state_of old visit (desk_at new kept)
+      → ServesClient given state_of old visit (desk_at new later)
+  noted_still old visit new kept later same it = record {
+    serves = it.serves;
+    keeps = subst (λ (rs : List ReadEntry). KeepsReads given state_of old visit.got (desk_at new (record { reads = rs; tries = later.tries }))) (sym same) it.keeps;
+    turned_away = it.turned_away;
+    clean = it.clean;
+  }
+
   -- ---- what is kept of it
 
   behind : (s : OfficeState) (gone kept : List ReadEntry) → AreReadAt given s (gone ++ kept) → AreReadAt given s kept

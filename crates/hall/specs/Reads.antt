@@ -13,6 +13,7 @@ use Rattle.wire.specs.declared.serving.Served.TheVariants.{Answered, ReadFailed,
 use Rattle.wire.specs.declared.target.Reading.{Reading}
 use Rattle.hall.specs.declared.reads.Kept.{Kept}
 use Rattle.hall.specs.declared.reads.KeptAnswer.{KeptAnswer}
+use Rattle.hall.specs.declared.remembered.Remembered.{Remembered}
 
 -- the bytes of a request, and those of the answer that was told to them
 pub record ReadEntry : Type 0 where
@@ -61,8 +62,8 @@ pub record KeptEntry : Type 0 where
   pub reads : List ReadEntry
   pub tries : List TriesEntry
 
-abbrev pub kept_in : Kept → KeptEntry
-kept_in kept = record { reads = reads_in kept; tries = entries_of kept.tries }
+abbrev pub kept_in : Remembered → KeptEntry
+kept_in kept = record { reads = reads_in kept.reads; tries = entries_of kept.tries }
 
 -- an office that serves, and what is kept beside it
 pub record Desk (S : Type 0) : Type 0 where

@@ -18,7 +18,8 @@ ghost use Rattle.hall.specs.Visits.{HasServed, IsKeptWaiting, IsLetIn, IsToldToW
 use crate::aside::Aside;
 use crate::message::hear_message;
 use crate::ordering::answer_order;
-use crate::reads::{Kept, asks_reading};
+use crate::reads::asks_reading;
+use crate::remembered::Remembered;
 use crate::terms::Terms;
 use gathering::{Answer, Client, Door, Gathered, Heard, Line, Lost, Writing, deliver};
 use office::Office;
@@ -147,7 +148,7 @@ fn read_answer<S: Alter>(
     given: Given<'_>,
     got: &[u8],
     office: &mut Office<S>,
-    kept: &mut Kept,
+    kept: &mut Remembered,
 ) -> Answer
     requires open { office.old.closed ≡ false }
     requires asks { (what : Reading) × Asks (given_entry given) got.now (reading what) }
@@ -156,14 +157,14 @@ fn read_answer<S: Alter>(
     ensures tries { entries_of kept.new.tries ≡ entries_of kept.old.tries }
     ensures untold { result.sent ≡ 0 }
 {
-    if let Some(bytes) = kept.told_to(alloc, got) {
+    if let Some(bytes) = kept.reads.told_to(alloc, got) {
         return Answer { bytes, sent: 0 };
     }
     let (bytes, is_told) = served(alloc, given, got, office);
     if !is_told {
         return Answer { bytes, sent: 0 };
     }
-    kept.keep(alloc, got, bytes.as_slice());
+    kept.reads.keep(alloc, got, bytes.as_slice());
     Answer { bytes, sent: 0 }
 }
 
@@ -174,7 +175,7 @@ fn answered<S: Alter>(
     given: Given<'_>,
     got: &[u8],
     office: &mut Office<S>,
-    kept: &mut Kept,
+    kept: &mut Remembered,
 ) -> Answer
     ensures served { (number moment : ℕ) → ServesClient (given_entry given.entry) (state S.Store) (desk_at office.old (kept_in kept.old))
         (record { door = Door.Clients; number = number; moment = moment; got = got.now; answer = result.bytes.items }) (desk_at office.new (kept_in kept.new)) }
@@ -184,7 +185,7 @@ fn answered<S: Alter>(
     if is_reading(alloc, given, got, office) {
         return read_answer(alloc, given, got, office, kept);
     }
-    kept.empty();
+    kept.reads.empty();
     let (bytes, _) = served(alloc, given, got, office);
     Answer { bytes, sent: 0 }
 }
@@ -210,7 +211,7 @@ fn answer_client<S: Alter>(
     now: u64,
     got: &[u8],
     office: &mut Office<S>,
-    kept: &mut Kept,
+    kept: &mut Remembered,
 ) -> Answer
     ensures meets { (number : ℕ) → let visit = record { door = Door.Clients; number = number; moment = now; got = got.now; answer = result.bytes.items } in
         let old = desk_at office.old (kept_in kept.old) in let new = desk_at office.new (kept_in kept.new) in
@@ -237,7 +238,7 @@ fn answer_to<L: Line, A: Aside, S: Alter>(
     got: &[u8],
     line: L,
     office: &mut Office<S>,
-    kept: &mut Kept,
+    kept: &mut Remembered,
 ) -> (L, Answer)
     requires fresh { HasTaken (L.taken line) [] }
     requires whole { door ≡ Door.Orders → HasCameWhole got.now }
@@ -251,7 +252,7 @@ fn answer_to<L: Line, A: Aside, S: Alter>(
             answer_client(alloc, terms.given, now, got, office, kept),
         ),
         Door::Orders => {
-            kept.empty();
+            kept.reads.empty();
             answer_order(alloc, terms.file, aside, got, line, office)
         }
     }
@@ -282,7 +283,7 @@ fn take_turn<L: Line, A: Aside, S: Alter>(
     aside: &A,
     client: Client<L>,
     office: &mut Office<S>,
-    kept: &mut Kept,
+    kept: &mut Remembered,
 ) -> (Client<L>, Attended)
     requires fresh { HasTaken (L.taken client.line) [] }
     requires whole { client.door ≡ Door.Orders → HasCameWhole client.got.items }
@@ -338,7 +339,7 @@ pub fn attend<L: Line, A: Aside, S: Alter>(
     aside: &A,
     client: Client<L>,
     office: &mut Office<S>,
-    kept: &mut Kept,
+    kept: &mut Remembered,
 ) -> (Client<L>, Attended)
     requires untold { IsUntold (line_of L.held L.taken) client }
     ensures is { (start : L) → IsOf (line_of L.held L.taken) start client → IsOf (line_of L.held L.taken) start result.0 }

@@ -23,6 +23,7 @@ mod message;
 mod ordering;
 mod outlet;
 mod reads;
+mod remembered;
 pub mod terms;
 // one who goes on
 pub mod attending;

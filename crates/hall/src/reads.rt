@@ -1,19 +1,17 @@
-//! What is kept in memory: answers to reads, to be told again while nothing changes; and the wrong codes that came.
+//! Answers to reads that are kept, to be told again while nothing changes.
 //!
-//! Whoever asks the same, byte for byte, is told the same. Before any turn that isn't a read, no answer is kept any more.
+//! Whoever asks the same, byte for byte, is told the same. Before any turn that isn't a read, nothing is kept any more.
 
-ghost use Rattle.std.specs.Prelude.{◌≡◌, ◌⊎◌, ◌≤◌, ◌<◌, ◌++◌, ◌∷◌, [], IfSome, List, Option, ℕ, length, option_map, true};
+ghost use Rattle.std.specs.Prelude.{◌≡◌, ◌⊎◌, ◌≤◌, ◌<◌, ◌++◌, ◌∷◌, [], IfSome, List, Option, ℕ, length, true};
 ghost use Rattle.std.specs.List.{Contains};
 ghost use Rattle.wire.specs.Asking.{Asks, reading};
-ghost use Rattle.codes.specs.Tries.{entries_of};
-ghost use Rattle.wire.specs.Gates.{given_entry, knock_entry};
+ghost use Rattle.wire.specs.Gates.{given_entry};
 ghost use Rattle.wire.specs.declared.target.Reading.{Reading};
-ghost use Rattle.hall.specs.Reads.{ReadEntry, kept_in, must_wait, reads_in, tries_behind};
+ghost use Rattle.hall.specs.Reads.{ReadEntry, reads_in};
 
-use codes::Tries;
 use gathering::Gathered;
 use std::alloc::Global;
-use wire::{Asked, Given, Knock, read_asked};
+use wire::{Asked, Given, read_asked};
 
 /// The most bytes that are kept, of requests and answers together.
 const MAX_KEPT: usize = 16 << 20;
@@ -28,12 +26,11 @@ pub struct KeptAnswer {
     pub answer: Vec<u8>,
 }
 
-/// The answers to reads that were told since anything may have changed, the oldest first; and the wrong codes that came.
+/// The answers to reads that were told since anything may have changed, the oldest first.
 #[derive(Drop)]
 pub struct Kept {
     pub answers: Vec<KeptAnswer>,
     pub bytes: usize,
-    pub tries: Tries,
 }
 
 /// Whether bytes ask for a read: a clerk's work, the candidates of his batch, a stage sheet or a declaration. Where memory is
@@ -46,44 +43,19 @@ pub fn asks_reading(alloc: Global, given: Given<'_>, got: &[u8]) -> bool
 }
 
 impl Kept {
-    /// No answer is kept yet, and these wrong codes came. Takes no memory.
-    pub fn new(alloc: Global, tries: Tries) -> Kept
-        ensures { kept_in result ≡ record { reads = []; tries = entries_of tries } }
+    /// Nothing is kept yet. Takes no memory.
+    pub fn new(alloc: Global) -> Kept
+        ensures { reads_in result ≡ [] }
     {
         Kept {
             answers: Vec::new(alloc),
             bytes: 0,
-            tries,
         }
     }
 
-    /// Whether who knocks so must wait at a moment.
-    pub fn must_wait(&self, knock: Option<Knock>, now: u64) -> bool
-        ensures { result ≡ must_wait (option_map knock_entry knock) now (entries_of self.now.tries) }
-    {
-        match knock {
-            Some(knock) => self.tries.waits(knock.clerk, now),
-            None => false,
-        }
-    }
-
-    /// Notes a wrong code, where one came with who knocked so.
-    pub fn note(&mut self, knock: Option<Knock>, now: u64)
-        ensures reads { reads_in self.new ≡ reads_in self.old }
-        ensures tries { entries_of self.new.tries ≡ tries_behind (option_map knock_entry knock) now (entries_of self.old.tries) }
-    {
-        let Some(knock) = knock else {
-            return;
-        };
-        if knock.is_wrong {
-            self.tries.note(knock.clerk, now);
-        }
-    }
-
-    /// No answer is kept any more.
+    /// Nothing is kept any more.
     pub fn empty(&mut self)
-        ensures reads { reads_in self.new ≡ [] }
-        ensures tries { entries_of self.new.tries ≡ entries_of self.old.tries }
+        ensures { reads_in self.new ≡ [] }
     {
         self.answers.clear();
         self.bytes = 0;
@@ -106,8 +78,7 @@ impl Kept {
 
     /// Lets the oldest go, until so many bytes more may be kept.
     fn make_room(&mut self, more: usize)
-        ensures reads { (gone : List ReadEntry) × (reads_in self.old ≡ gone ++ reads_in self.new) }
-        ensures tries { entries_of self.new.tries ≡ entries_of self.old.tries }
+        ensures { (gone : List ReadEntry) × (reads_in self.old ≡ gone ++ reads_in self.new) }
     {
         for _ in 0..MAX_ANSWERS {
             let is_full = self.answers.len() >= MAX_ANSWERS;
@@ -125,8 +96,7 @@ impl Kept {
 
     /// Keeps an answer, if there is room for it: the oldest are let go. Where memory is wanting, it isn't kept.
     pub fn keep(&mut self, alloc: Global, got: &[u8], answer: &[u8])
-        ensures tries { entries_of self.new.tries ≡ entries_of self.old.tries }
-        ensures reads { (gone kept : List ReadEntry) × (reads_in self.old ≡ gone ++ kept)
+        ensures { (gone kept : List ReadEntry) × (reads_in self.old ≡ gone ++ kept)
             × ((reads_in self.new ≡ kept) ⊎ (reads_in self.new ≡ kept ++ record { got = got.now; answer = answer.now } ∷ [])) }
     {
         let len = got.len().saturating_add(answer.len());

@@ -17,7 +17,7 @@ ghost use Rattle.hall.specs.Halls.{GoesOn, GoesOnServing, IsWithin, ServesHall};
 use crate::aside::Aside;
 use crate::attending::{Attended, attend};
 use crate::leaving::{PATIENCE, keep_within, let_go_late, make_room};
-use crate::reads::Kept;
+use crate::remembered::Remembered;
 use crate::terms::Terms;
 use codes::Tries;
 use gathering::room::{longest, place_of};
@@ -59,7 +59,7 @@ fn go_on<L: Line, C: Clock, A: Aside, S: Alter>(
     aside: &A,
     client: Client<L>,
     office: &mut Office<S>,
-    kept: &mut Kept,
+    kept: &mut Remembered,
 ) -> (Client<L>, Result<bool, Broken>)
     requires untold { IsUntold (line_of L.held L.taken) client }
     ensures is { (start : L) → IsOf (line_of L.held L.taken) start client → IsOf (line_of L.held L.taken) start result.0 }
@@ -94,7 +94,7 @@ fn go_on_at<L: Line + Drop, C: Clock, A: Aside, S: Alter>(
     room: &mut Room<L>,
     place: usize,
     office: &mut Office<S>,
-    kept: &mut Kept,
+    kept: &mut Remembered,
 ) -> Result<(), Broken>
     requires place { place < length room.old.clients.items }
     requires sound { IsSound (given_in terms) (line_of L.held L.taken) room.old }
@@ -126,7 +126,7 @@ fn go_on_numbered<L: Line + Drop, C: Clock, A: Aside, S: Alter>(
     room: &mut Room<L>,
     number: u64,
     office: &mut Office<S>,
-    kept: &mut Kept,
+    kept: &mut Remembered,
 ) -> Result<(), Broken>
     requires { IsSound (given_in terms) (line_of L.held L.taken) room.old }
     ensures goes_on { (let_in : Option (List (Comer L))) → GoesOnServing (given_in terms.entry) (line_of L.held L.taken) (state S.Store) let_in let_in room.old room.new (desk_at office.old (kept_in kept.old)) (desk_at office.new (kept_in kept.new)) }
@@ -149,7 +149,7 @@ fn go_on_all<D: Doors, C: Clock, A: Aside, S: Alter>(
     aside: &A,
     room: &mut Room<D::Line>,
     office: &mut Office<S>,
-    kept: &mut Kept,
+    kept: &mut Remembered,
 ) -> Result<(), Broken>
     requires { IsSound (given_in terms) (line_of D.Line.held D.Line.taken) room.old }
     ensures goes_on { GoesOnServing (given_in terms.entry) (line_of D.Line.held D.Line.taken) (state S.Store) (D.came doors.old) (D.came doors.new) room.old room.new (desk_at office.old (kept_in kept.old)) (desk_at office.new (kept_in kept.new)) }
@@ -243,7 +243,7 @@ fn go_round<D: Doors, C: Clock, A: Aside, S: Alter>(
     most: u64,
     room: &mut Room<D::Line>,
     office: &mut Office<S>,
-    kept: &mut Kept,
+    kept: &mut Remembered,
 ) -> Result<bool, Broken>
     requires { IsSound (given_in terms) (line_of D.Line.held D.Line.taken) room.old }
     ensures goes_on { GoesOnServing (given_in terms.entry) (line_of D.Line.held D.Line.taken) (state S.Store) (D.came doors.old) (D.came doors.new) room.old room.new (desk_at office.old (kept_in kept.old)) (desk_at office.new (kept_in kept.new)) }
@@ -297,7 +297,7 @@ pub fn serve_hall<D: Doors, C: Clock, A: Aside, S: Alter>(
 {
     let most = connections.unwrap_or(u64::MAX);
     let mut room = Room::new(alloc);
-    let mut kept = Kept::new(alloc, tries);
+    let mut kept = Remembered::new(alloc, tries);
     for _ in 0..u64::MAX {
         if go_round(
             alloc, clock, doors, terms, aside, most, &mut room, office, &mut kept,
