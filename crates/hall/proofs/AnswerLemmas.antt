@@ -172,12 +172,12 @@ module _ {S : Type 0} (given : GivenEntry) (state_of : Held S → State) where
   keeps_same old new kept got (what, asks) only = inr ((what, asks), λ clean is_open s at right. (right, only clean is_open s at what asks))
 
   -- this answer may be kept too, and the oldest were let go
-  pub keeps_more : (old new : OfficeValue S) (kept later : KeptEntry) (got answer : List ℕ) → (what : Reading) × Asks given got (reading what)
+  pub keeps_more : (old new : OfficeValue S) (kept later : KeptEntry) (got answer told : List ℕ) → told ≡ answer → (what : Reading) × Asks given got (reading what)
       → WhenOpenAt state_of old new (λ s. (what : Reading) → Asks given got (reading what) → IsRead given s got answer × IsOpenAt s new.closed (state_of new.held))
       → WhenOpenAt state_of old new (λ s. (what : Reading) → Asks given got (reading what) → IsReadAt s new.closed (state_of new.held))
-      → (gone left : List ReadEntry) × (kept.reads ≡ gone ++ left) × ((later.reads ≡ left) ⊎ (later.reads ≡ left ++ record { got = got; answer = answer } ∷ []))
+      → (gone left : List ReadEntry) × (kept.reads ≡ gone ++ left) × ((later.reads ≡ left) ⊎ (later.reads ≡ left ++ record { got = got; answer = told } ∷ []))
       → KeepsReads given state_of (desk_at old kept) got (desk_at new later)
-  keeps_more old new kept later got answer (what, asks) read only (gone, left, is, now) = inr (
+  keeps_more old new kept later got answer told same_told (what, asks) read only (gone, left, is, now) = inr (
     (what, asks),
     λ clean is_open s at right. (
       let still = behind s gone left (subst (λ (rs : List ReadEntry). AreReadAt given s rs) is right) in
@@ -185,7 +185,8 @@ module _ {S : Type 0} (given : GivenEntry) (state_of : Held S → State) where
             | inl same ↦ subst (λ (rs : List ReadEntry). AreReadAt given s rs) (sym same) still
             | inr more ↦
                 subst (λ (rs : List ReadEntry). AreReadAt given s rs) (sym more)
-                (All-push (λ (r : ReadEntry). IsRead given s r.got r.answer) left (record { got = got; answer = answer }) still (read clean is_open s at what asks).0)
+                (All-push (λ (r : ReadEntry). IsRead given s r.got r.answer) left (record { got = got; answer = told }) still
+                (subst (λ (a : List ℕ). IsRead given s got a) (sym same_told) (read clean is_open s at what asks).0))
           ],
       only clean is_open s at what asks,
     ),

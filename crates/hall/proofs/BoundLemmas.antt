@@ -1,8 +1,8 @@
 -- No more are in a room than may be, whoever comes in, goes on or leaves.
-use Rattle.std.proofs.Common.{◌≡◌, ◌≤◌, ◌<◌, ◌+◌, ◌∙◌, ◌⊎◌, ◌∷◌, ◌++◌, ℕ, List, [], Option, ap, arith, inl, inr, length, remove, subst, sym}
+use Rattle.std.proofs.Common.{◌≡◌, ◌≤◌, ◌<◌, ◌+◌, ◌∙◌, ◌⊎◌, ◌∷◌, ◌++◌, ℕ, List, [], Option, ap, arith, inl, inr, insert, length, remove, subst, sym}
 use Rattle.std.specs.List.{FoldsTo}
 use Rattle.std.proofs.lemmas.List.{length_push}
-use Rattle.std.proofs.lemmas.List.Edits.{length-remove}
+use Rattle.std.proofs.lemmas.List.Edits.{length-insert, length-remove}
 use Rattle.std.proofs.lemmas.List.Sums.{sum_by-remove, sum_by_push}
 use Rattle.gathering.specs.Clients.{IsNew}
 use Rattle.gathering.specs.Rooms.{answer_bytes, bytes_held, bytes_of}
@@ -23,6 +23,17 @@ module _ {L : Type 0} where
       let fewer = length-remove clients place within in
       let less = sum_by-remove bytes_of clients place d within in
       (omega (arith, fewer, was.0), omega (arith, less, was.1))
+
+  -- one was taken out of his place, and stands there again, or left
+  pub few_back : (clients back : List (Client L)) (place : ℕ) (new : Client L) → place < length clients → length clients ≤ most_clients
+      → (back ≡ insert (remove clients place) place new) ⊎ (back ≡ remove clients place) → length back ≤ most_clients
+  few_back clients back place new within few (inl is) =
+      let fewer = length-remove clients place within in
+      let more = length-insert (remove clients place) place new (omega (arith, fewer, within)) in
+      subst (λ (cs : List (Client L)). length cs ≤ most_clients) (sym is) (omega (arith, fewer, more, few))
+  few_back clients back place new within few (inr is) =
+      let fewer = length-remove clients place within in
+      subst (λ (cs : List (Client L)). length cs ≤ most_clients) (sym is) (omega (arith, fewer, few))
 
   let_go : (least now : ℕ) (places : List ℕ) (old new : List (Client L)) → FoldsTo (IsLetGo least now) old places new → IsWithinOf old → IsWithinOf new
   let_go least now [] old new same was = subst (λ (cs : List (Client L)). IsWithinOf cs) same was

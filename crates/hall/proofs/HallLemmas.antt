@@ -6,6 +6,7 @@ use Rattle.std.specs.List.{FoldsTo}
 use Rattle.std.specs.Vec.{with_item}
 use Rattle.std.proofs.lemmas.List.{get_or_read, map_push}
 use Rattle.std.proofs.lemmas.List.Elements.{All-nil, All-push}
+use Rattle.std.proofs.lemmas.List.Sums.{sum_by-append}
 use Rattle.sqlite.specs.Held.{Held}
 use Rattle.sqlite.specs.State.{HasCleanDisk, State}
 use Rattle.office.specs.Values.{OfficeValue}
@@ -34,7 +35,7 @@ use Rattle.hall.proofs.TurnLemmas.{is_heard}
 -- ---- a place
 
 -- one was taken out of his place, and stands there again as another
-pub set_again : {X : Type 0} (xs : List X) (place : ℕ) (x : X) → place < length xs → insert (remove xs place) place x ≡ set xs place x
+set_again : {X : Type 0} (xs : List X) (place : ℕ) (x : X) → place < length xs → insert (remove xs place) place x ≡ set xs place x
 set_again [] place x within = absurd (omega (arith, within))
 set_again (y ∷ ys) zero x within = refl
 set_again {X} (y ∷ ys) (suc place) x within = ap (λ (zs : List X). y ∷ zs) (set_again ys place x (omega (arith, within)))
@@ -59,8 +60,7 @@ lets_in_then {L} (Some lines) mid new first next a b = b ∙ ap (option_map (λ 
 
 -- how many of them count
 clients_append : {L : Type 0} (first next : List (Comer L)) → clients_among (first ++ next) ≡ clients_among first + clients_among next
-clients_append [] next = refl
-clients_append (c ∷ first) next = let more = clients_append first next in omega (arith, more)
+clients_append first next = sum_by-append (λ comer. count_at comer.door) first next
 
 module _ {L : Type 0} (given : Given) (line : Line L) where
   -- ---- a room
@@ -243,13 +243,24 @@ module _ {L : Type 0} (given : Given) (line : Line L) where
     -- one went on, and left
     pub left_after : (let_in : Option (List (Comer L))) (room left : Room L) (place : ℕ) (old new : Client L) (before later : Desk S) → place < length room.clients.items
         → old ≡ get_or room.clients.items place old → new.door ≡ old.door → new.number ≡ old.number → ((start : L) → IsOf line start old → IsOf line start new)
-        → MayHaveTurn given line state_of old new before later → left.clients.items ≡ remove room.clients.items place → left.came ≡ room.came → left.counted ≡ room.counted
+        → (now : ℕ) × MayHaveTurn given line state_of now old new before later → left.clients.items ≡ remove room.clients.items place → left.came ≡ room.came → left.counted ≡ room.counted
         → GoesOnServing given line state_of let_in let_in room left before later
     left_after let_in room left place old new before later within at door number is turn items came counted =
         let went = room_with room place new in
         serving_then let_in let_in let_in room went left before later later (goes_on_at state_of let_in room went place old new before later within at door number is turn refl refl refl)
         (serving_none let_in let_in went left later
         (goes_less let_in let_in went left place refl (omega (arith, within, length-set room.clients.items place new)) (items ∙ sym (remove_set room.clients.items place new within)) came counted))
+
+    -- one went on, and stands in his place again, or left
+    pub back_after : (let_in : Option (List (Comer L))) (room back : Room L) (place : ℕ) (old new : Client L) (before later : Desk S) → place < length room.clients.items
+        → old ≡ get_or room.clients.items place old → new.door ≡ old.door → new.number ≡ old.number → ((start : L) → IsOf line start old → IsOf line start new)
+        → (now : ℕ) × MayHaveTurn given line state_of now old new before later
+        → (back.clients.items ≡ insert (remove room.clients.items place) place new) ⊎ (back.clients.items ≡ remove room.clients.items place) → back.came ≡ room.came → back.counted ≡ room.counted
+        → GoesOnServing given line state_of let_in let_in room back before later
+    back_after let_in room back place old new before later within at door number is turn (inl items) came counted =
+        goes_on_at state_of let_in room back place old new before later within at door number is turn (items ∙ set_again room.clients.items place new within) came counted
+    back_after let_in room back place old new before later within at door number is turn (inr items) came counted =
+        left_after let_in room back place old new before later within at door number is turn items came counted
 
     -- those who were in went on, some were let go, and more came in
     pub serving_round : (let_in let_in_mid let_in_later : Option (List (Comer L))) (old went left new : Room L) (before later : Desk S) (least now : ℕ)
@@ -280,8 +291,8 @@ module _ {L : Type 0} (given : Given) (line : Line L) where
         → GoesOnServing given line state_of let_in let_in_later old new (with_none_kept tries before) later → old.clients.items ≡ [] → old.came ≡ 0 → old.counted ≡ 0 → IfSome most (λ n. new.counted ≤ n)
         → OnOk result (IfSome most (λ n. new.counted ≡ n))
         → ServesHall given line state_of let_in let_in_later most tries before later.office result
-    hall_serves let_in let_in_later most tries old new before later result it none zero uncounted few all =
-        let (guests, came, are) = it.goes_on.own [] [] (are_same given line [] [] 0 old.came [] old.clients.items zero none (none_in given line)) in
+    hall_serves let_in let_in_later most tries old new before later result it none first uncounted few all =
+        let (guests, came, are) = it.goes_on.own [] [] (are_same given line [] [] 0 old.came [] old.clients.items first none (none_in given line)) in
         let sum = it.goes_on.counted in
         let counted : new.counted ≡ clients_among (map (λ (g : Guest L). g.came) guests) =
         subst (λ (cs : List (Comer L)). new.counted ≡ clients_among cs) (sym came) (omega (arith, sum, uncounted)) in
@@ -301,7 +312,7 @@ module _ {L : Type 0} (given : Given) (line : Line L) where
 
 -- a room with nobody in it is sound
 pub sound_empty : {L : Type 0} (given : Given) (line : Line L) (room : Room L) → room.clients.items ≡ [] → room.came ≡ 0 → IsSound given line room
-sound_empty {L} given line room none zero = ([], [], are_same given line [] [] 0 room.came [] room.clients.items zero none (none_in given line))
+sound_empty {L} given line room none first = ([], [], are_same given line [] [] 0 room.came [] room.clients.items first none (none_in given line))
 
 -- of those who are in a room that is sound, whoever has no answer was told nothing
 pub untold_at : {L : Type 0} (given : Given) (line : Line L) (room : Room L) (place : ℕ) (client : Client L) → IsSound given line room → place < length room.clients.items

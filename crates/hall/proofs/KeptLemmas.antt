@@ -150,7 +150,7 @@ module _ {S : Type 0} (state_of : Held S → State) (folder : Folder) (s : Offic
       inl (
         take answered requests,
         take 1 (drop answered requests),
-        (old, new, requests, answered, done, (refl, refl)),
+        (old, new, (requests, answered, (done, (refl, refl)))),
         open_done (state_of old.held) new.closed (state_of new.held) folder s job course done is_open,
       )
   job_leaves old new job cut page requests answered done true is_closed =
@@ -159,7 +159,7 @@ module _ {S : Type 0} (state_of : Held S → State) (folder : Folder) (s : Offic
       inr (
         take answered requests,
         take 1 (drop answered requests),
-        (old, new, requests, answered, done, (refl, refl)),
+        (old, new, (requests, answered, (done, (refl, refl)))),
         is_closed,
         leaves_as (state_of new.held) _ _ (λ x some. after_next s course x kept.within some) kept.leaves,
       )

@@ -1,5 +1,5 @@
 -- Clients who are let go, one after the other.
-use Rattle.std.proofs.Common.{◌≡◌, ◌≤◌, ◌<◌, ◌+◌, ◌-◌, ◌∙◌, ◌⊎◌, ◌∷◌, ◌++◌, Bool, false, true, ℕ, List, [], ap, arith, get_or, inl, inr, length, refl, remove, subst, sym}
+use Rattle.std.proofs.Common.{◌≡◌, ◌≤◌, ◌<◌, ◌+◌, ◌-◌, ◌∙◌, ◌⊎◌, ◌∷◌, ◌++◌, Bool, false, true, ℕ, List, [], ap, arith, cond, get_or, inl, inr, length, refl, remove, subst, sym}
 use Rattle.std.proofs.lemmas.List.{get_or_read, nil_from_length}
 use Rattle.std.specs.List.{FoldsTo}
 use Rattle.gathering.specs.Rooms.{IsLongest, bytes_held}
@@ -62,3 +62,9 @@ none_left first last turns (inr empty) few = empty
 
 pub none_held : {L : Type 0} (last : List (Client L)) (most : ℕ) → last ≡ [] → bytes_held last ≤ most
 none_held {L} last most empty = subst (λ (cs : List (Client L)). bytes_held cs ≤ most) (sym empty) (omega arith)
+
+-- ---- one who is put back
+
+pub either : {X : Type 0} (b : Bool) (now one other : X) → now ≡ cond b one other → (now ≡ one) ⊎ (now ≡ other)
+either true now one other is = inl is
+either false now one other is = inr is

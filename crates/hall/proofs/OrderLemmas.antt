@@ -1,5 +1,5 @@
 -- An order that has its turn, part by part.
-use Rattle.std.proofs.Common.{◌≡◌, ◌∙◌, ◌⊎◌, ◌∷◌, ◌++◌, Bool, true, false, true≢false, ℕ, List, [], None, Ok, Option, Some, ap, drop, inl, inr, map, refl, subst, sym}
+use Rattle.std.proofs.Common.{◌≡◌, ◌∙◌, ◌⊎◌, ◌∷◌, ◌++◌, Bool, true, false, true≢false, ℕ, List, [], None, Bor, Ok, Option, Some, ap, drop, inl, inr, map, refl, subst, sym}
 use Rattle.std.specs.Io.KnownBytes.{Appends}
 use Rattle.std.specs.List.{list_all}
 use Rattle.std.specs.Str.{is_utf8}
@@ -107,8 +107,11 @@ other_file file got h message other = inr (refl, λ o is for_file text. other (s
 -- its words are no text
 pub no_text : (file : FileNumbers) (got : List ℕ) (h : Handed) → IsMessage got (handed_entry h) → (list_all is_utf8 (map (λ (p : Piece). p.name.now) h.words.items) ≡ true → ⊥)
     → IsUnread file got (asked.Refused (Office Store))
-no_text file got h message bad = inr (refl, λ o is for_file text.
-    bad (ap (list_all is_utf8) (sym (words_read h)) ∙ subst (λ (x : HandedEntry). list_all is_utf8 (words_in x) ≡ true) (same_order got o (handed_entry h) is message) text))
+no_text file got h message bad = inr (
+  refl,
+  λ o is for_file text.
+      bad (ap (list_all is_utf8) (sym (words_read h)) ∙ subst (λ (x : HandedEntry). list_all is_utf8 (words_in x) ≡ true) (same_order got o (handed_entry h) is message) text),
+)
 
 -- its words weren't read: memory was wanting, or they are no text
 pub words_unread : (file : FileNumbers) (got : List ℕ) (h : Handed) (words : List Piece) (fault : Fault) → IsMessage got (handed_entry h) → words ≡ h.words.items
@@ -122,13 +125,25 @@ words_unread file got h words fault message same (inr (store, bad)) =
 pub no_order : (file : FileNumbers) (got message : List ℕ) → message ≡ drop 8 got → ((h : HandedEntry) → Fits h → message ≡ spelling h → ⊥) → IsUnread file got (asked.Refused (Office Store))
 no_order file got message is none = inr (refl, λ h it for_file text. none h it.fits (is ∙ it.is))
 
+-- no order was read: memory was wanting, or its bytes spell none
+pub order_unread : (file : FileNumbers) (got message : List ℕ) (fault : Fault) → message ≡ drop 8 got
+    → (fault ≡ Memory) ⊎ ((fault ≡ Store) × ((h : HandedEntry) → Fits h → message ≡ spelling h → ⊥)) → IsUnread file got (asked.Refused (Office fault))
+order_unread file got message fault is (inl wanting) = inl (ap (λ (f : Fault). asked.Refused (Office f)) wanting)
+order_unread file got message fault is (inr (store, none)) = subst (λ (f : Fault). IsUnread file got (asked.Refused (Office f))) (sym store) (no_order file got message is none)
+
 -- what isn't read is refused
 pub follows_unread : {S : Type 0} (file : FileNumbers) (state_of : Held S → State) (old new : OfficeValue S) (got frames : List ℕ) (files : List PieceEntry) (what : Asked) → IsUnread file got what → files ≡ []
     → TellsAsked state_of old files what frames new → FollowsOrder file state_of old got frames new
 follows_unread {S} file state_of old new got frames files what unread none tells = record { files = files; asked = what; is = inr (unread, none); tells = tells }
 
--- what is read is followed
-pub follows_read : {S : Type 0} (file : FileNumbers) (state_of : Held S → State) (old new : OfficeValue S) (got frames : List ℕ) (h : Handed) (what : Asked) → IsMessage got (handed_entry h)
-    → IsForFile file (handed_entry h) → AsksSo (handed_entry h) what → TellsAsked state_of old (piece_entries h.files.items) what frames new → FollowsOrder file state_of old got frames new
-follows_read {S} file state_of old new got frames h what message for_file asks tells =
-    record { files = piece_entries h.files.items; asked = what; is = inl (handed_entry h, message, for_file, refl, asks); tells = tells }
+-- what is read is followed, by the words and with the files as they were read
+pub follows_read : {S : Type 0} (file : FileNumbers) (state_of : Held S → State) (old new : OfficeValue S) (got frames : List ℕ) (h : Handed) (files : List Piece) (what : Asked)
+    → IsMessage got (handed_entry h) → IsForFile file (handed_entry h) → files ≡ h.files.items → AsksSo (handed_entry h) what → TellsAsked state_of old (piece_entries files) what frames new
+    → FollowsOrder file state_of old got frames new
+follows_read {S} file state_of old new got frames h files what message for_file same asks tells =
+    record { files = piece_entries files; asked = what; is = inl (handed_entry h, message, for_file, ap piece_entries same, asks); tells = tells }
+
+pub words_same : (h : Handed) (seen : List Piece) (texts words : List (Bor (List ℕ))) → seen ≡ h.words.items
+    → map (λ (t : Bor (List ℕ)). t.now) texts ≡ map (λ (p : Piece). p.name.now) seen → words ≡ texts → words_in (handed_entry h) ≡ map (λ (t : Bor (List ℕ)). t.now) words
+words_same h seen texts words is read same =
+    words_read h ∙ ap (map (λ (p : Piece). p.name.now)) (sym is) ∙ sym read ∙ ap (map (λ (t : Bor (List ℕ)). t.now)) (sym same)

@@ -1,7 +1,8 @@
 //! An office that serves: clients and orders come in, go on side by side, and have their turns one after the other.
 
-ghost use Rattle.std.specs.Prelude.{◌≡◌, ◌≤◌, ◌+◌, ◌*◌, ◌-◌, ◌^◌, ◌<◌, ℕ, [], IfSome, List, None, Ok, OnOk, Option, length, true};
+ghost use Rattle.std.specs.Prelude.{◌≡◌, ◌⊎◌, ◌≤◌, ◌+◌, ◌*◌, ◌-◌, ◌^◌, ◌<◌, ℕ, [], IfSome, List, None, Ok, OnOk, Option, length, true};
 ghost use Rattle.std.specs.Duration.{as_nanos};
+ghost use Rattle.std.specs.List.{insert};
 ghost use Rattle.sqlite.specs.State.{HasCleanDisk};
 ghost use Rattle.sqlite.specs.Held.{state};
 ghost use Rattle.gathering.specs.Lines.{line_of};
@@ -50,8 +51,39 @@ fn moment_at_gate<C: Clock>(clock: &C, terms: Terms<'_>) -> Result<u64, Broken> 
     }
 }
 
-/// One of those who are in goes on, and is given back; whether he stays in. His half minute begins anew once he has his answer:
-/// however long his turn took, he has all of it.
+/// One of those who are in goes on at a moment, and is given back; whether he stays in. His half minute begins anew once he has
+/// his answer: however long his turn took, he has all of it.
+fn go_on_now<L: Line, C: Clock, A: Aside, S: Alter>(
+    alloc: Global,
+    clock: &C,
+    terms: Terms<'_>,
+    now: u64,
+    aside: &A,
+    client: Client<L>,
+    office: &mut Office<S>,
+    kept: &mut Remembered,
+) -> (Client<L>, Result<bool, Broken>)
+    requires untold { IsUntold (line_of L.held L.taken) client }
+    ensures is { (start : L) → IsOf (line_of L.held L.taken) start client → IsOf (line_of L.held L.taken) start result.0 }
+    ensures same { (result.0.door ≡ client.door) × (result.0.number ≡ client.number) }
+    ensures turn { MayHaveTurn (given_in terms.entry) (line_of L.held L.taken) (state S.Store) now client result.0 (desk_at office.old (kept_in kept.old)) (desk_at office.new (kept_in kept.new)) }
+{
+    let (mut client, attended) = attend(alloc, terms, now, aside, client, office, kept);
+    match attended {
+        Attended::Waits => (client, Ok(true)),
+        Attended::Served => match moment(clock) {
+            Ok(later) => {
+                client.since = later;
+                (client, Ok(true))
+            }
+            Err(Broken) => (client, Err(Broken)),
+        },
+        Attended::Done => (client, Ok(false)),
+        Attended::Lost => (client, Ok(false)),
+    }
+}
+
+/// One of those who are in goes on, and is given back; whether he stays in. Where the clock fails at the gate, he doesn't go on.
 fn go_on<L: Line, C: Clock, A: Aside, S: Alter>(
     alloc: Global,
     clock: &C,
@@ -66,23 +98,20 @@ fn go_on<L: Line, C: Clock, A: Aside, S: Alter>(
     ensures same { (result.0.door ≡ client.door) × (result.0.number ≡ client.number) }
     ensures turn { (now : ℕ) × MayHaveTurn (given_in terms.entry) (line_of L.held L.taken) (state S.Store) now client result.0 (desk_at office.old (kept_in kept.old)) (desk_at office.new (kept_in kept.new)) }
 {
-    let now = match moment_at_gate(clock, terms) {
-        Ok(now) => now,
-        Err(Broken) => return (client, Err(Broken)),
-    };
-    let (mut client, attended) = attend(alloc, terms, now, aside, client, office, kept);
-    match attended {
-        Attended::Waits => (client, Ok(true)),
-        Attended::Served => match moment(clock) {
-            Ok(later) => {
-                client.since = later;
-                (client, Ok(true))
-            }
-            Err(Broken) => (client, Err(Broken)),
-        },
-        Attended::Done => (client, Ok(false)),
-        Attended::Lost => (client, Ok(false)),
+    match moment_at_gate(clock, terms) {
+        Ok(now) => go_on_now(alloc, clock, terms, now, aside, client, office, kept),
+        Err(Broken) => (client, Err(Broken)),
     }
+}
+
+/// Puts one back in his place. Where memory is wanting for it, he leaves.
+fn put_back<L: Line + Drop>(room: &mut Room<L>, place: usize, client: Client<L>)
+    requires { place ≤ length room.old.clients.items }
+    ensures items { (room.new.clients.items ≡ insert room.old.clients.items place client) ⊎ (room.new.clients.items ≡ room.old.clients.items) }
+    ensures came { room.new.came ≡ room.old.came }
+    ensures counted { room.new.counted ≡ room.old.counted }
+{
+    let _ = room.clients.insert(place, client);
 }
 
 /// The one at a place goes on. Where he is done, or lost, he leaves; and so he does where memory is wanting for his place.
@@ -108,13 +137,9 @@ fn go_on_at<L: Line + Drop, C: Clock, A: Aside, S: Alter>(
     if !stays? {
         return Ok(());
     }
-    match room.clients.insert(place, client) {
-        Ok(()) => {
-            keep_within(room);
-            Ok(())
-        }
-        Err(_) => Ok(()),
-    }
+    put_back(room, place, client);
+    keep_within(room);
+    Ok(())
 }
 
 /// The one with a number goes on, if he is in.

@@ -22,4 +22,3 @@ pub returns-in-Ended-clause-gathers : goal.returns-in-Ended-clause-gathers
 returns-in-Ended-clause-gathers g c =
     gathers_then (line_of g.L.Line.held g.L.Line.taken) c.args.client.now.line c.hear_length.new.client.line c.hear.new.self.line c.args.client.now.got.items c.hear_length.new.client.got.items c.hear.new.self.got.items
     c.hear_length.ensures.gathers c.hear.ensures.gathers
-
