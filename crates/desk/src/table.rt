@@ -19,6 +19,8 @@ pub(crate) enum Kind {
     Id,
     /// An origin as a browser writes it, after `--origin`; it may be left out.
     Origin,
+    /// The path of a file of codes, after `--codes`; it may be left out.
+    CodesFile,
     /// Any text, after `--title`; left out, it is empty.
     Title,
     /// A digest in 64 hexadecimal digits, after `--sha256`; it may be left out.
@@ -135,6 +137,15 @@ pub(crate) const CONNECTIONS: Word =
 
 pub(crate) const ORIGIN: Word =
     word!(Origin "origin", "The origin of pages that ask through a proxy, as https://count.example.org;\nleft out, no page of another machine is answered");
+
+pub(crate) const CODES: Word =
+    word!(CodesFile "codes", "The path of a file of clerks' codes, by which each gets his page to key on;\nleft out, a clerk is known by his number alone");
+
+pub(crate) const CODES_FILE: Word =
+    word!(Text "FILE", "The path of the file of codes; there must be nothing at it yet");
+
+pub(crate) const CLERKS: Word =
+    word!(Text "CLERKS", "The clerks from one number to another, 1 to 999, as 1-40");
 
 pub(crate) const TITLE: Word =
     word!(Title "title", "What stands above, as the names of the election and of the council;\nin quotes where it has spaces");

@@ -39,6 +39,7 @@ const END_OF_HELP: &str =
   journal            What was kept, as a script of orders that makes the same office anew
   replay FILE        Sends the orders of a text file, a line each, up to a refusal
   copy NEW           Makes a copy of the office, in a file that isn't there yet
+  codes FILE CLERKS  Writes a new file of codes for clerks, as 1-40, to be cut into slips
 
 For everyone who wants to see or check a count, once the ward is sealed:
   ballots WARD       Its ballots, in a form that counting programs read (BLT)
@@ -103,6 +104,7 @@ fn arg_of<'a>(alloc: Global, word: Word) -> Arg<'a>
         Kind::Text | Kind::Verdict => arg.required(true),
         Kind::Id => arg.long(word.name).value_name("ID").required(true),
         Kind::Origin => arg.long(word.name).value_name("ORIGIN"),
+        Kind::CodesFile => arg.long(word.name).value_name("FILE"),
         Kind::Title => arg.long(word.name).value_name("TEXT"),
         Kind::Digest => arg.long(word.name).value_name("HEX"),
         Kind::Texts => arg.action(ArgAction::Append),

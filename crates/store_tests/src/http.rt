@@ -272,6 +272,59 @@ fn are_too_many<M: Machine + Drop>(rt: &(impl Abort + AllocGlobal), machine: M) 
     )
 }
 
+/// A file of codes; and the work of clerk 4, asked for by his code, by a wrong one, and by none.
+const CODES: &str = "4 kf7m-2wxt\n9 w3hd-4psn\n";
+
+const BY_HIS_CODE: &[u8] =
+    b"GET /clerks/4/work HTTP/1.1\r\nAuthorization: Basic NDprZjdtLTJ3eHQ=\r\n\r\n";
+
+const BY_A_WRONG_ONE: &[u8] =
+    b"GET /clerks/4/work HTTP/1.1\r\nAuthorization: Basic OTp3M2hkLTRwc24=\r\n\r\n";
+
+/// What is told of the last two, and of whoever knocks behind ten wrong ones.
+const UNAUTHORIZED: &str =
+    "HTTP/1.1 401 Unauthorized\r\nContent-Type: application/json\r\nContent-Length: 24\r\nWWW-Authenticate: Basic realm=\"clerk 4\", charset=\"UTF-8\"\r\nConnection: close\r\n\r\n{\"error\":\"unauthorized\"}";
+
+const MUST_WAIT: &str =
+    "HTTP/1.1 429 Too Many Requests\r\nContent-Type: application/json\r\nContent-Length: 32\r\nRetry-After: 60\r\nConnection: close\r\n\r\n{\"error\":\"too many wrong codes\"}";
+
+/// Clerk 4's work is told by his code alone, also where it was kept; and behind ten wrong codes nobody is told it. The wards are
+/// everyone's.
+fn come_with_codes<M: Machine + Drop>(
+    rt: &(impl Abort + AllocGlobal),
+    machine: M,
+) -> Result<M, Fail> {
+    let mut comers = Vec::new(rt.alloc());
+    let mut texts = Vec::new(rt.alloc());
+    for (sends, told) in [
+        (BY_HIS_CODE, FOUR_TO_KEY),
+        (BY_HIS_CODE, FOUR_TO_KEY),
+        (FOUR, UNAUTHORIZED),
+        (BY_HIS_CODE, FOUR_TO_KEY),
+        (SHEET, WRONG_PHASE),
+    ] {
+        comers.push(Some(Client::whole(sends)))?;
+        texts.push(told)?;
+    }
+    for _ in 0..10 {
+        comers.push(Some(Client::whole(BY_A_WRONG_ONE)))?;
+        texts.push(UNAUTHORIZED)?;
+    }
+    for (sends, told) in [
+        (BY_HIS_CODE, MUST_WAIT),
+        (FOUR, MUST_WAIT),
+        (SHEET, WRONG_PHASE),
+    ] {
+        comers.push(Some(Client::whole(sends)))?;
+        texts.push(told)?;
+    }
+    let evening = Evening {
+        codes: Some(CODES),
+        ..Evening::of(comers.as_slice())
+    };
+    serve_all(rt, machine, evening, texts.as_slice())
+}
+
 /// Of bodies of a megabyte each, 63 may be held at once. Where one more comes, who has waited longest is let go, and nobody else.
 fn hold_too_much<M: Machine + Drop>(
     rt: &(impl Abort + AllocGlobal),
@@ -318,6 +371,7 @@ fn come_at_once<M: Machine + Drop>(rt: &(impl Abort + AllocGlobal)) -> Result<()
     let machine = are_not_let_in(rt, machine)?;
     let machine = are_too_many(rt, machine)?;
     let machine = hold_too_much(rt, machine)?;
+    let machine = come_with_codes(rt, machine)?;
     have_their_turns(rt, machine)?;
     let machine: M = play_acts(rt, BEGUN)?;
     let machine = break_at_each_byte(rt, machine)?;

@@ -1,0 +1,5 @@
+-- Lemmas.
+pub mod LetterLemmas
+pub mod NumberLemmas
+pub mod TryLemmas
+pub mod HolderLemmas
