@@ -320,7 +320,7 @@ fn spaces(alloc: Global) -> Result<String, AllocError> {
 fn asks_spaces(rt: &(impl Abort + AllocGlobal)) -> Result<(), Fail> {
     let request = spaces(rt.alloc())?;
     let mut reader = Counted::new(request.as_bytes());
-    asks_in(rt, None, &mut reader, "BadRequest")
+    asks_in(rt, NOTHING, &mut reader, "BadRequest")
 }
 
 #[test]
@@ -341,7 +341,7 @@ fn long_heads_and_bodies(rt: HostRuntime) -> Result<(), Fail> {
 fn breaks_off(rt: &(impl Abort + AllocGlobal), left: &[u8], is_whole: bool) -> Result<(), Fail> {
     let mut reader = Counted::new(Slow { left, fails: true });
     let wanted = if is_whole { KEYED } else { "broken" };
-    asks_in(rt, None, &mut reader, wanted)?;
+    asks_in(rt, NOTHING, &mut reader, wanted)?;
     assert_eq!(rt; reader.failures(), u64::from(!is_whole));
     Ok(())
 }

@@ -19,7 +19,7 @@ const NINE: &str = "Basic OTp3M2hkLTRwc24=";
 
 /// Texts that are no files of codes, and what is told of each.
 const FAULTS: [(&str, &str); 16] = [
-    ("4", "1 at 1"),
+    ("4", "2 at 1"),
     ("kf7m-2wxt\n", "1 at 1"),
     ("0 kf7m-2wxt\n", "1 at 1"),
     ("04 kf7m-2wxt\n", "1 at 1"),
@@ -206,7 +206,9 @@ fn codes_of_clerks(rt: HostRuntime) -> Result<(), Fail> {
     assert!(rt; tries.waits(4, 120_998) && !tries.waits(4, 120_999) && !tries.waits(9, 61_000));
     assert!(rt; !waits_behind(alloc, given, &mut tries, NINE, 9, 200_000)?);
     assert!(rt; !waits_behind(alloc, given, &mut tries, NINE, 1, 260_000)?);
-    let clerks = Clerks::parse("1-40").ok_or(Fail::from("no clerks"))?;
+    let Some(clerks) = Clerks::parse("1-40") else {
+        return Err(Fail::from("no clerks"));
+    };
     let made = make(alloc, &rt, clerks);
     assert!(rt;
         made.is_ok_and(|text| text.as_str().lines().count() == 40 && text.len() == 9 * 12 + 31 * 13)

@@ -1,17 +1,15 @@
 -- Who asks under a clerk's number: where codes are asked for, the holder of his code.
-use Rattle.std.proofs.Common.{◌≡◌, ◌∙◌, ◌&&◌, ◌==◌, Bool, true, false, cond, List, [], ◌∷◌, ◌++◌, Option, Some, None, Result, Ok, Err, ap, arith, codes, drop, inl, inr, length, map, not, refl, subst, sym, take, ℕ}
-use Rattle.std.specs.Prelude.{bytes_eq, if◌then◌else◌, nat_le, option_and_then, slice_index}
+use Rattle.std.proofs.Common.{◌≡◌, ◌∙◌, ◌&&◌, ◌==◌, Bool, true, false, List, [], ◌∷◌, ◌++◌, Option, Some, None, Result, Ok, Err, ap, arith, codes, inr, length, map, not, refl, subst, sym, ℕ}
+use Rattle.std.specs.Prelude.{bytes_eq, nat_le, option_and_then, slice_index}
 use Rattle.std.specs.Char.{is_ascii_digit}
 use Rattle.std.specs.List.{list_all, prefix_len}
 use Rattle.std.proofs.lemmas.Bool.{and_parts}
 use Rattle.std.proofs.Math.Seq.{take-append_seam}
-use Rattle.httparse.specs.Grammar.{RequestHead}
 use Rattle.httparse.specs.Spans.{name_and_value}
-use Rattle.codes.specs.Codes.{Holder, is_of}
-use Rattle.wire.specs.Asking.{AskedEntry, Asks, AsksByHolder, HoldsCode, asked_by, asked_for, asked_in, asked_of, asked_with, clerk_asked, let_in, verb_of, verb_text, wanted_by}
+use Rattle.codes.specs.Codes.{is_of}
+use Rattle.wire.specs.Asking.{AsksByHolder, HoldsCode, asked_by, asked_for, asked_in, asked_of, clerk_asked, let_in, verb_of, verb_text, wanted_by}
 use Rattle.wire.specs.Bodies.{KeyingEntry, body_in, keying_of}
 use Rattle.wire.specs.Gates.{GateEntry, GivenEntry, clerk_under, kept_out, kept_out_by, number_before, reader_of, sent_codes, served_at}
-use Rattle.wire.specs.Heads.{BeginsWith}
 use Rattle.wire.specs.Lengths.{NamedValue, body_length}
 use Rattle.wire.specs.Origins.{is_foreign}
 use Rattle.wire.specs.Targets.{IsTargetOf, is_number, most_digits, named_by, number_in}

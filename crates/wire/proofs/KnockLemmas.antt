@@ -1,5 +1,5 @@
 -- How bytes knock, by what was found at their front.
-use Rattle.std.proofs.Common.{◌≡◌, ◌∙◌, ◌<◌, ◌≤◌, ◌+◌, ◌∷◌, ◌++◌, Bool, true, false, All, List, [], Option, Some, None, ap, arith, cond, drop, get_or, length, map, refl, subst, suc, sym, take, zero, ℕ}
+use Rattle.std.proofs.Common.{◌≡◌, ◌∙◌, ◌<◌, ◌≤◌, ◌+◌, ◌∷◌, ◌++◌, Bool, true, false, List, [], Option, Some, None, ap, arith, cond, drop, get_or, inl, inr, length, map, refl, subst, suc, sym, take, zero, ℕ}
 use Rattle.std.specs.Prelude.{IsUtf8}
 use Rattle.std.specs.Char.{is_ascii_digit}
 use Rattle.std.specs.List.{list_all, prefix_len}
@@ -31,23 +31,21 @@ several-wrong holders clerk (value ∷ other ∷ more) many = refl
 below : (d : ℕ) → is_ascii_digit d ≡ true → d < 128
 below d is = grind (arith, nat_tests)
 
-digits-below : (ds : List ℕ) → list_all is_ascii_digit ds ≡ true → All (λ b. b < 128) ds
-digits-below [] all = λ i d there. absurd (omega (arith, there))
-digits-below (b ∷ bs) all = λ i d there. at i d there
-  where
-    at : (i d : ℕ) → i < length (b ∷ bs) → get_or (b ∷ bs) i d < 128
-    at zero d there = below b (and_parts (is_ascii_digit b) (list_all is_ascii_digit bs) all).0
-    at (suc i) d there = digits-below bs (and_parts (is_ascii_digit b) (list_all is_ascii_digit bs) all).1 i d (omega (arith, there))
+digits-below : (ds : List ℕ) → list_all is_ascii_digit ds ≡ true → (i d : ℕ) → i < length ds → get_or ds i d < 128
+digits-below [] all i d there = absurd (omega (arith, there))
+digits-below (b ∷ bs) all zero d there = below b (and_parts (is_ascii_digit b) (list_all is_ascii_digit bs) all).0
+digits-below (b ∷ bs) all (suc i) d there = digits-below bs (and_parts (is_ascii_digit b) (list_all is_ascii_digit bs) all).1 i d (omega (arith, there))
 
 prefix-digits : (xs : List ℕ) → list_all is_ascii_digit (take (prefix_len is_ascii_digit xs) xs) ≡ true
 prefix-digits [] = refl
-prefix-digits (x ∷ xs) = by (is_ascii_digit x) refl
+prefix-digits (x ∷ xs) = by (is_ascii_digit x) refl (prefix-digits xs)
   where
-    by : (b : Bool) → is_ascii_digit x ≡ b → list_all is_ascii_digit (take (cond b (1 + prefix_len is_ascii_digit xs) 0) (x ∷ xs)) ≡ true
-    by true is =
+    by : (b : Bool) → is_ascii_digit x ≡ b → list_all is_ascii_digit (take (prefix_len is_ascii_digit xs) xs) ≡ true
+        → list_all is_ascii_digit (take (cond b (1 + prefix_len is_ascii_digit xs) 0) (x ∷ xs)) ≡ true
+    by true is rest =
         let one : suc (prefix_len is_ascii_digit xs) ≡ 1 + prefix_len is_ascii_digit xs = omega arith in
-        subst (λ n. list_all is_ascii_digit (take n (x ∷ xs)) ≡ true) one (rw is (prefix-digits xs))
-    by false is = refl
+        subst (λ n. list_all is_ascii_digit (take n (x ∷ xs)) ≡ true) one (rw is rest)
+    by false is rest = refl
 
 -- the digits with which bytes begin are text
 pub digits-text : (behind : List ℕ) → IsUtf8 (take (prefix_len is_ascii_digit behind) behind)
@@ -58,17 +56,16 @@ digits-text behind =
 -- ---- a head, or none
 
 -- a head was found, and how it knocks
-pub knocks_found : (given : GivenEntry) (got : List ℕ) (n : ℕ) (headers : List HeaderSpan) (spans : RequestSpans) (fields : List NamedValue) (path : List ℕ) (found : Option KnockEntry)
-    → IsRequestOf (take n got) headers spans → n ≤ 8192 → length headers ≡ 32 → fields ≡ map (header_bytes (take n got)) (take spans.headers headers) → path ≡ span_bytes (take n got) spans.path
-    → found ≡ knock_at given fields path → IsKnock given got found
-knocks_found given got n headers spans fields path found (head, there) small places are at is =
+pub knocks_found : (given : GivenEntry) (got : List ℕ) (n : ℕ) (headers : List HeaderSpan) (spans : RequestSpans) (found : Option KnockEntry) → IsRequestOf (take n got) headers spans
+    → found ≡ knock_at given (map (header_bytes (take n got)) (take spans.headers headers)) (span_bytes (take n got) spans.path) → n ≤ 8192 → length headers ≡ 32 → IsKnock given got found
+knocks_found given got n headers spans found (head, there) is small places =
     let front = take n got in
     let back = drop n got in
     let e : got ≡ front ++ back = sym (take-append-drop n got) in
     let fits : length front ≤ 8192 = omega (arith, small, length-take n got) in
     let begun = begins got front back headers spans head there fits places e in
     let own : found ≡ knock_at given (map name_and_value head.fields) head.target =
-    is ∙ ap (λ (f : List NamedValue). knock_at given f path) (are ∙ there.fields) ∙ ap (λ p. knock_at given (map name_and_value head.fields) p) (at ∙ there.path) in
+    is ∙ ap (λ (f : List NamedValue). knock_at given f (span_bytes front spans.path)) there.fields ∙ ap (knock_at given (map name_and_value head.fields)) there.path in
     record {
       headed = λ other behind it.
           let (same, rest) = HasOneHead-all got head other (drop spans.len front ++ back) behind begun it in

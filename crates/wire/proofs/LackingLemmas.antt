@@ -7,7 +7,7 @@ use Rattle.httparse.specs.Grammar.{HasNoRequest, MayBecomeRequest, RequestHead, 
 use Rattle.httparse.specs.Spans.{IsRequestOf, RequestOverflows}
 use Rattle.httparse.specs.declared.spans.HeaderSpan.{HeaderSpan}
 use Rattle.httparse.specs.declared.spans.RequestSpans.{RequestSpans}
-use Rattle.wire.specs.Asking.{AskedEntry, Asks, IsWanting, LacksBehind, LacksBytes, LacksFound, asked_by, asked_in, asked_of}
+use Rattle.wire.specs.Asking.{IsWanting, LacksBehind, LacksBytes, LacksFound, asked_by, asked_in, asked_of}
 use Rattle.wire.specs.Bodies.{body_in, keying_of}
 use Rattle.wire.specs.Gates.{GateEntry, GivenEntry}
 use Rattle.wire.specs.Heads.{BeginsWith, HasNoHead}

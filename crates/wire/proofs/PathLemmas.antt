@@ -156,7 +156,7 @@ two-taken : (r : TwoRoute) → IsTwoRoute r → (target c b : List ℕ) → targ
 two-taken r is target c b at c_whole b_whole =
     walk-part (pattern_of r) r.text target (9, 10) ((21, 22) ∷ []) (codes "/clerks/") (codes "/batches/" ++ (param_token ∷ (47 ∷ r.end))) [] c
     (codes "batches/" ++ (b ++ (47 ∷ r.end))) 0 0 refl refl refl at c_whole (is.stops_one target)
-    ∙ ap (λ n. with_taken n c _) is.clerk
+    ∙ ap (λ n. with_taken n c (walk (pattern_of r) r.text target ((21, 22) ∷ []) 9 (8 + length c))) is.clerk
     ∙ ap (with_taken (codes "c") c)
     (walk-part (pattern_of r) r.text target (21, 22) [] (codes "/batches/") (47 ∷ r.end) (codes "/clerks/" ++ c) b r.end 9 (8 + length c)
     (sym (length-append (codes "/clerks/") c)) refl refl (at ∙ sym (append_assoc (codes "/clerks/") c (codes "/batches/" ++ (b ++ (47 ∷ r.end))))) b_whole (is.stops_two target)
@@ -297,12 +297,12 @@ candidates-found c b is_c is_b =
 routes-own : (target : List ℕ) → Gives (NamesOwn target) office_routes target
 unfolding keyings candidates work page leaving sheet declaration scan
 routes-own target = (
-  one-own page is-page target,
+  two-own candidates is-candidates target,
   (
-    two-own candidates is-candidates target,
+    two-own keyings is-keyings target,
     (
-      two-own keyings is-keyings target,
-      (one-own leaving is-leaving target, (one-own work is-work target, (one-own declaration is-declaration target, (one-own sheet is-sheet target, tt)))),
+      one-own leaving is-leaving target,
+      (one-own work is-work target, (one-own page is-page target, (one-own declaration is-declaration target, (one-own sheet is-sheet target, tt)))),
     ),
   ),
 )

@@ -1,7 +1,7 @@
 -- The answers that stand fixed, letter by letter.
 use Rattle.std.proofs.Common.{◌≡◌, Some, ap, refl, ℕ}
 use Rattle.std.specs.Fmt.{digits}
-use Rattle.wire.specs.Asking.{left}
+use Rattle.wire.specs.Asking.{has_left}
 use Rattle.wire.specs.Responses.{clerk_kept_out, denied_response, fault_response, lines_and_body, response_bytes, shown_response, unauthorized_response, waits_response}
 use Rattle.wire.specs.declared.denial.Denial.{Denial}
 use Rattle.wire.specs.declared.denial.Denial.TheVariants.{BadRequest, Forbidden, MethodNotAllowed, NotFound, TooLarge, Unauthorized, WrongCode}
@@ -40,7 +40,7 @@ pub waits-told : WAITS.now ≡ response_bytes waits_response
 unfolding digits lines_and_body
 waits-told = refl
 
-pub left-told : LEFT.now ≡ response_bytes (shown_response left)
+pub left-told : LEFT.now ≡ response_bytes (shown_response has_left)
 unfolding digits lines_and_body
 left-told = refl
 

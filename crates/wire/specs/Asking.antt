@@ -29,11 +29,11 @@ use Rattle.wire.specs.Targets.{named_by}
 -- what is shown to a clerk whatever the state is: his page; or that he has left, and his browser is to forget his code
 pub data ShowEntry : Type 0 where
   page : PageEntry → ShowEntry
-  left : ShowEntry
+  has_left : ShowEntry
 
 abbrev pub show_entry : Show → ShowEntry
 show_entry (Page its) = page (page_entry its)
-show_entry Left = left
+show_entry Left = has_left
 
 -- what is asked: nothing, for it is denied; to be shown something that is a clerk's; to keep a clerk's keying of a batch; or to read
 pub data AskedEntry : Type 0 where
@@ -107,7 +107,7 @@ page_at (Some gate) clerk = shown clerk (page gate.page)
 abbrev pub asked_of : Option GateEntry → Result Target Denial → Result ℕ Denial → List ℕ → AskedEntry
 asked_of gate (Ok (target.Keying clerk batch)) size behind = asked_with clerk batch size behind
 asked_of gate (Ok (target.Page clerk)) size behind = page_at gate clerk
-asked_of gate (Ok (target.Leave clerk)) size behind = shown clerk left
+asked_of gate (Ok (target.Leave clerk)) size behind = shown clerk has_left
 asked_of gate (Ok (target.Reading what)) size behind = reading what
 asked_of gate (Err why) size behind = denied why
 

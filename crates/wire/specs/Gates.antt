@@ -1,5 +1,5 @@
 -- Clerks' targets where codes are asked for: who is let in under a clerk's number, and who knocks there.
-use Rattle.std.specs.Prelude.{◌≡◌, ◌&&◌, ◌==◌, ◌∷◌, Bool, List, [], None, Option, Some, codes, drop, false, if◌then◌else◌, map, nat_eq, option_map, slice_index, take, true, ℕ}
+use Rattle.std.specs.Prelude.{◌≡◌, ◌==◌, ◌∷◌, Bool, List, [], None, Option, Some, codes, drop, false, if◌then◌else◌, map, nat_eq, option_map, slice_index, take, true, ℕ}
 use Rattle.std.specs.Char.{is_ascii_digit}
 use Rattle.std.specs.List.{prefix_len, starts_with}
 use Rattle.httparse.specs.Grammar.{RequestHead}

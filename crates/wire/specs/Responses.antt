@@ -1,8 +1,7 @@
 -- The bytes of an answer over HTTP.
 use Rattle.std.specs.Prelude.{◌∷◌, List, [], ◌++◌, Option, Some, None, codes, decimal, length, unwrap_or, ℕ}
 use Rattle.http.specs.StatusCode.{reason_phrase}
-use Rattle.wire.specs.Asking.{ShowEntry, left, page, verb_text}
-use Rattle.wire.specs.Gates.{PageEntry}
+use Rattle.wire.specs.Asking.{ShowEntry, has_left, page, verb_text}
 use Rattle.wire.specs.Replies.{fault_body, refusal_body, reply_body}
 use Rattle.wire.specs.declared.denial.Denial.{Denial}
 use Rattle.wire.specs.declared.denial.Denial.TheVariants.{BadRequest, Forbidden, MethodNotAllowed, NotFound, TooLarge, Unauthorized, WrongCode}
@@ -109,7 +108,7 @@ waits_response = record { status = 429; more = waits; content = Json; body = cod
 -- what is shown to a clerk whatever the state is
 abbrev pub shown_response : ShowEntry → ResponseEntry
 shown_response (page its) = record { status = 200; more = guards its.policy; content = Html; body = its.text }
-shown_response left = record { status = 200; more = forgets; content = Json; body = codes "{\"left\":true}" }
+shown_response has_left = record { status = 200; more = forgets; content = Json; body = codes "{\"left\":true}" }
 
 -- why a request is denied
 abbrev pub denied_response : Denial → ResponseEntry

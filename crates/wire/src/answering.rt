@@ -15,7 +15,7 @@ ghost use Rattle.wire.specs.Told.{IsTold};
 
 use crate::asked::{Asked, Keying};
 use crate::bodies::{fault_body, refusal_body, reply_body};
-use crate::paper::paper_body;
+use crate::candidates::paper_body;
 use crate::response::{Content, Response};
 use crate::target::Reading;
 use crate::work::work_body;

@@ -1,6 +1,6 @@
 //! What a request asks.
 
-ghost use Rattle.std.specs.Prelude.{◌≡◌, ◌≢◌, ◌-◌, ◌^◌, ◌<◌, ◌++◌, IfErr, IfOk, IfSome, List, Ok, OnOk, Option, map, take, ℕ};
+ghost use Rattle.std.specs.Prelude.{◌≡◌, ◌≢◌, ◌-◌, ◌^◌, ◌<◌, ◌++◌, IfErr, IfOk, IfSome, List, Ok, OnOk, Option, length, map, option_map, take, ℕ};
 ghost use Rattle.wire.specs.Asking.{Asks, AsksByHolder, AsksOneThing, ShowEntry, DeniesForeign, FailsAfter, IsUnread, IsWanting, LacksAt, LacksBody, TakesOwn, asked_at, asked_entry, asked_for, asked_with, page_at, verb_of, verb_text, wanted};
 ghost use Rattle.wire.specs.Gates.{GateEntry, GivenEntry, gate_entry, given_entry, needs_gate, reading_needs_gate, served_at};
 ghost use Rattle.wire.specs.Targets.{NamesItsOwn, named_by};

@@ -41,7 +41,7 @@ pub mod target;
 mod unread;
 // what is answered
 mod bodies;
-mod paper;
+mod candidates;
 mod response;
 mod work;
 // one connection

@@ -2,7 +2,7 @@
 
 ghost use Rattle.std.specs.Prelude.{◌≡◌, IfOk, None, OnErr, length, string_bytes};
 ghost use Rattle.wire.specs.Told.{IsTold, IsWritten, told_bytes};
-ghost use Rattle.wire.specs.Asking.{show_entry};
+ghost use Rattle.wire.specs.Asking.{has_left, show_entry};
 ghost use Rattle.wire.specs.Gates.{page_entry};
 ghost use Rattle.wire.specs.Responses.{clerk_kept_out, code_line, denied_response, fault_response, guard_lines, lines_and_body, media_type, nothing, phrase, response_bytes, shown_response, unauthorized_response, waits_response};
 
@@ -198,7 +198,7 @@ fn response_with(
     beside: &str,
     body: &str,
 ) -> Result<String, AllocError>
-    ensures { IfOk result (λ text. string_bytes text ≡ lines_and_body status.now (phrase status.now) (media_type content) (length body.now) beside.now body.now) }
+    ensures { IfOk result (λ text. string_bytes text ≡ lines_and_body status (phrase status) (media_type content) (length body.now) beside.now body.now) }
 {
     let (phrase, media_type) = (phrase(status), media_type(content));
     lines_and_body(
@@ -280,16 +280,23 @@ impl Response {
         }
     }
 
+    /// The answer to who leaves.
+    fn left() -> Response
+        ensures { IsWritten (shown_response has_left) result }
+    {
+        Response {
+            status: 200,
+            bytes: Bytes::Fixed(LEFT),
+        }
+    }
+
     /// What is shown to a clerk whatever the state is; or the answer that tells that memory is wanting.
     pub(crate) fn shown(alloc: Global, show: Show<'_>) -> Response
         ensures { IsTold (shown_response (show_entry show.entry)) result }
     {
         match show {
             Show::Page(page) => Response::of_text(200, page_response_text(alloc, page)),
-            Show::Left => Response {
-                status: 200,
-                bytes: Bytes::Fixed(LEFT),
-            },
+            Show::Left => Response::left(),
         }
     }
 

@@ -1,6 +1,5 @@
 -- Why `lacks` keeps its promise.
-use Rattle.std.proofs.Common.{rules, ◌-◌, arith, length, refl}
-use Rattle.std.proofs.lemmas.List.{length-take}
+use Rattle.std.proofs.Common.{rules, ◌-◌, length, refl}
 use Rattle.wire.specs.Gates.{given_entry}
 use Rattle.wire.proofs.LackingLemmas.{lacks_found, lacks_head, whole_found, whole_full, whole_over}
 use Rattle.wire.proofs.lacking.lacks.Goals as goal
