@@ -2,4 +2,3 @@
 pub mod LetterLemmas
 pub mod NumberLemmas
 pub mod TryLemmas
-pub mod HolderLemmas

@@ -1,5 +1,5 @@
 -- Numbers in a row.
-use Rattle.std.proofs.Common.{◌≡◌, ◌∙◌, ◌+◌, ◌++◌, ◌∷◌, [], List, ap, arith, refl, suc, zero, ℕ}
+use Rattle.std.proofs.Common.{◌≡◌, ◌∙◌, ◌+◌, ◌++◌, ◌∷◌, [], List, ap, arith, suc, zero, ℕ}
 use Rattle.codes.specs.Making.{numbers}
 
 pub one_number : (m n : ℕ) → m ≡ n → m ∷ [] ≡ n ∷ []

@@ -1,5 +1,5 @@
 -- Wrong codes that are noted, one entry after the other.
-use Rattle.std.proofs.Common.{◌≡◌, ◌∙◌, ◌+◌, ◌<◌, ◌++◌, ◌∷◌, [], List, ap, arith, drop, length, map, subst, suc, sym, take, zero, ℕ}
+use Rattle.std.proofs.Common.{◌≡◌, ◌∙◌, ◌+◌, ◌<◌, ◌++◌, ◌∷◌, [], List, ap, arith, drop, length, map, subst, suc, take, zero, ℕ}
 use Rattle.std.specs.Prelude.{slice_index_or, slice_set}
 use Rattle.codes.specs.Tries.{TriesEntry, noted, noted_one}
 

@@ -1,7 +1,10 @@
 -- New codes, and the clerks for whom they are made.
-use Rattle.std.specs.Prelude.{◌≡◌, ◌∷◌, ◌+◌, ◌-◌, ◌==◌, ◌&&◌, ◌%◌, Bool, false, zero, suc, List, [], Option, Some, None, Ok, codes, drop, if◌then◌else◌, length, map, nat_le, nat_lt, not, option_and_then, slice_index, take, ℕ}
+use Rattle.std.specs.Prelude.{◌≡◌, ◌⊎◌, ◌∷◌, ◌+◌, ◌-◌, ◌==◌, ◌&&◌, ◌%◌, Bool, true, zero, suc, List, [], Option, Some, None, Ok, codes, drop, if◌then◌else◌, length, map, nat_le, nat_lt, not, slice_index, take, ℕ}
 use Rattle.std.specs.List.{list_all, list_any, prefix_len}
 use Rattle.codes.specs.Files.{CodeEntry, clerk_in, codes_in}
+use Rattle.codes.specs.declared.fault.CodesFault.TheVariants.{NoRandom}
+use Rattle.codes.specs.declared.fault.ReadError.{ReadError}
+use Rattle.codes.specs.declared.fault.ReadError.TheVariants as read_error
 use Rattle.codes.specs.declared.range.Clerks.{Clerks}
 
 -- ---- codes
@@ -24,8 +27,7 @@ letter_of byte = if nat_lt byte drawing_bytes then Some (slice_index letters (by
 
 -- four letters, a hyphen, and four letters
 abbrev pub is_made : List ℕ → Bool
-is_made (a ∷ b ∷ c ∷ d ∷ hyphen ∷ e ∷ f ∷ g ∷ h ∷ []) = list_all is_letter (a ∷ b ∷ c ∷ d ∷ []) && ((hyphen == 45) && list_all is_letter (e ∷ f ∷ g ∷ h ∷ []))
-is_made other = false
+is_made code = (length code == 9) && ((slice_index code 4 == 45) && (list_all is_letter (take 4 code) && list_all is_letter (drop 5 code)))
 
 -- ---- clerks
 
@@ -61,8 +63,13 @@ clerks_in text = clerks_between (clerk_in (take (prefix_len is_no_hyphen text) t
 
 -- ---- a file of new codes
 
--- a text is a file of codes, one for each of these clerks, in their sequence
+-- a text is a file of codes, one for each of these clerks, in their sequence, and each is four letters, a hyphen, and four letters
 pub record IsMadeFor (clerks : List ℕ) (text : List ℕ) : Type 0 where
   pub entries : List CodeEntry
   pub is : codes_in text ≡ Ok entries
   pub each : map (λ (e : CodeEntry). e.clerk) entries ≡ clerks
+  pub made : list_all (λ (e : CodeEntry). is_made e.code) entries ≡ true
+
+-- why none are made: memory was wanting, or the system gives no random bytes
+abbrev pub IsUnmade : ReadError → Type 0
+IsUnmade why = (why ≡ read_error.Memory) ⊎ (why ≡ read_error.Fault NoRandom)

@@ -1,13 +1,15 @@
 //! New codes, by random bytes of the system.
 
-ghost use Rattle.std.specs.Prelude.{◌≡◌, ◌≤◌, ◌+◌, IfOk, IfSome, map, string_bytes, take, true, ◌<◌};
-ghost use Rattle.codes.specs.Codes.{holder};
-ghost use Rattle.codes.specs.Making.{IsMadeFor, clerks_of, is_letter, is_made, letter_of, numbers};
+ghost use Rattle.std.specs.Prelude.{◌≡◌, ◌<◌, ◌&&◌, ◌==◌, IfErr, IfOk, IfSome, length, map, string_bytes, take, true};
+ghost use Rattle.std.specs.List.{list_all};
+ghost use Rattle.codes.specs.Files.{CodeEntry, code_entry};
+ghost use Rattle.codes.specs.Making.{IsMadeFor, IsUnmade, clerks_of, is_letter, is_made, letter_of};
+ghost use Rattle.codes.specs.declared.fault.CodesFault.TheVariants.{NoRandom};
+ghost use Rattle.codes.specs.declared.fault.ReadError.TheVariants as read_error;
 
-use crate::credentials::Credentials;
-use crate::fault::{CodesFault, Flaw, ReadError};
-use crate::holders::Codes;
+use crate::fault::{CodesFault, ReadError};
 use crate::range::Clerks;
+use crate::reading::{CodeLine, entries_of, lines_of};
 use std::alloc::Global;
 use std::random::RandomSource;
 
@@ -23,6 +25,9 @@ const DRAWS: u32 = 100;
 /// How many bytes a code has.
 const CODE_BYTES: usize = 9;
 
+/// How many of them stand before its hyphen.
+const FRONT_BYTES: usize = 4;
+
 /// The letter that a byte draws, if it draws one.
 fn letter_of(byte: u8) -> Option<u8>
     ensures is { result ≡ letter_of byte }
@@ -35,9 +40,10 @@ fn letter_of(byte: u8) -> Option<u8>
     }
 }
 
-/// A letter that is drawn.
+/// A letter that is drawn. The only error is that the system gives no random bytes.
 fn letter<R: RandomSource>(random: &R) -> Result<u8, CodesFault>
-    ensures { IfOk result (λ letter. is_letter letter ≡ true) }
+    ensures ok { IfOk result (λ letter. is_letter letter ≡ true) }
+    ensures err { IfErr result (λ fault. fault ≡ NoRandom) }
 {
     for _ in 0..DRAWS {
         let mut byte = [0];
@@ -51,9 +57,10 @@ fn letter<R: RandomSource>(random: &R) -> Result<u8, CodesFault>
     Err(CodesFault::NoRandom)
 }
 
-/// A code that is drawn: four letters, a hyphen, and four letters.
+/// A code that is drawn: four letters, a hyphen, and four letters. The only error is that of a letter.
 fn code<R: RandomSource>(random: &R) -> Result<[u8; CODE_BYTES], CodesFault>
-    ensures { IfOk result (λ code. is_made code ≡ true) }
+    ensures ok { IfOk result (λ code. is_made code ≡ true) }
+    ensures err { IfErr result (λ fault. fault ≡ NoRandom) }
 {
     let front = [
         letter(random)?,
@@ -72,8 +79,11 @@ fn code<R: RandomSource>(random: &R) -> Result<[u8; CODE_BYTES], CodesFault>
     ])
 }
 
-/// A text with a line for each of some clerks, a code in each.
-fn lines<R: RandomSource>(alloc: Global, random: &R, clerks: Clerks) -> Result<String, ReadError> {
+/// A text with a line for each of some clerks, a code in each. The errors are that the system gives no random bytes, and want of
+/// memory.
+fn lines<R: RandomSource>(alloc: Global, random: &R, clerks: Clerks) -> Result<String, ReadError>
+    ensures { IfErr result IsUnmade }
+{
     let mut text = String::new(alloc);
     for clerk in clerks.first..=clerks.last {
         let code = match code(random) {
@@ -89,9 +99,45 @@ fn lines<R: RandomSource>(alloc: Global, random: &R, clerks: Clerks) -> Result<S
     Ok(text)
 }
 
-/// Whether these are the credentials of just these clerks, in their sequence.
-fn are_of(all: &[Credentials], clerks: Clerks) -> bool
-    ensures { result ≡ true → map (λ c. c.clerk) all.now ≡ clerks_of clerks }
+/// Whether a byte is one of the letters of codes.
+fn is_letter(byte: u8) -> bool
+    ensures { result ≡ is_letter byte }
+{
+    LETTERS.iter().any(|letter| *letter == byte)
+}
+
+/// Whether bytes are such letters alone.
+fn are_letters(text: &[u8]) -> bool
+    ensures { result ≡ list_all is_letter text.now }
+{
+    text.iter().all(|byte| is_letter(*byte))
+}
+
+/// Whether a code is four letters, a hyphen, and four letters.
+fn is_made(code: &[u8]) -> bool
+    ensures { result ≡ is_made code.now }
+{
+    code.len() == CODE_BYTES
+        && code[FRONT_BYTES] == b'-'
+        && are_letters(&code[..FRONT_BYTES])
+        && are_letters(&code[FRONT_BYTES + 1..])
+}
+
+/// Whether the codes of some lines are such codes alone.
+fn all_made(all: &[CodeLine<'_>]) -> bool
+    ensures { result ≡ list_all (λ (e : CodeEntry). is_made e.code) (map code_entry all.now) }
+{
+    for one in all {
+        if !is_made(one.code) {
+            return false;
+        }
+    }
+    true
+}
+
+/// Whether some lines are of just these clerks, in their sequence.
+fn are_of(all: &[CodeLine<'_>], clerks: Clerks) -> bool
+    ensures { result ≡ true → map (λ (e : CodeEntry). e.clerk) (map code_entry all.now) ≡ clerks_of clerks }
 {
     let mut next = u64::from(clerks.first);
     for one in all {
@@ -103,17 +149,29 @@ fn are_of(all: &[Credentials], clerks: Clerks) -> bool
     next == u64::from(clerks.last) + 1
 }
 
+/// Whether a text is a file of new codes for just these clerks: what is true is that it is one. The only error is want of memory.
+fn is_made_for(alloc: Global, text: &[u8], clerks: Clerks) -> Result<bool, ReadError>
+    ensures ok { IfOk result (λ is. is ≡ true → IsMadeFor (clerks_of clerks) text.now) }
+    ensures err { IfErr result (λ why. why ≡ read_error.Memory) }
+{
+    let lines = lines_of(alloc, text)?;
+    match entries_of(alloc, lines.as_slice()) {
+        Ok(entries) => { Ok(are_of(entries.as_slice(), clerks) && all_made(entries.as_slice())) }
+        Err(ReadError::Fault(_)) => Ok(false),
+        Err(ReadError::Memory) => Err(ReadError::Memory),
+    }
+}
+
 /// A file of new codes for some clerks, a line each, as a text. What was drawn is read again: where a code stands twice, all are
-/// drawn anew. The other errors are that the system gives no random bytes, and want of memory.
+/// drawn anew. The only errors are that the system gives no random bytes, and want of memory.
 pub fn make<R: RandomSource>(alloc: Global, random: &R, clerks: Clerks) -> Result<String, ReadError>
-    ensures { IfOk result (λ text. IsMadeFor (clerks_of clerks) (string_bytes text)) }
+    ensures ok { IfOk result (λ text. IsMadeFor (clerks_of clerks) (string_bytes text)) }
+    ensures err { IfErr result IsUnmade }
 {
     for _ in 0..DRAWS {
         let text = lines(alloc, random, clerks)?;
-        match Codes::read(alloc, text.as_bytes()) {
-            Ok(codes) if are_of(codes.all.as_slice(), clerks) => return Ok(text),
-            Ok(_) | Err(ReadError::Fault(_)) => {}
-            Err(ReadError::Memory) => return Err(ReadError::Memory),
+        if is_made_for(alloc, text.as_bytes(), clerks)? {
+            return Ok(text);
         }
     }
     Err(ReadError::Fault(CodesFault::NoRandom))

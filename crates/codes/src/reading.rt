@@ -165,7 +165,7 @@ fn entry_behind<'a>(before: &[CodeLine<'_>], line: &'a [u8]) -> Result<CodeLine<
 }
 
 /// The lines of a text.
-fn lines_of(alloc: Global, text: &[u8]) -> Result<Vec<Vec<u8>>, AllocError>
+pub(crate) fn lines_of(alloc: Global, text: &[u8]) -> Result<Vec<Vec<u8>>, AllocError>
     ensures { IfOk result (λ lines. map (λ line. line.items) lines.items ≡ lines_from [] text.now) }
 {
     let mut lines = Vec::new(alloc);
@@ -182,7 +182,7 @@ fn lines_of(alloc: Global, text: &[u8]) -> Result<Vec<Vec<u8>>, AllocError>
 }
 
 /// What all lines say; or want of memory, or the first line that is wrong.
-fn entries_of(alloc: Global, lines: &[Vec<u8>]) -> Result<Vec<CodeLine<'_>>, ReadError>
+pub(crate) fn entries_of(alloc: Global, lines: &[Vec<u8>]) -> Result<Vec<CodeLine<'_>>, ReadError>
     ensures ok { IfOk result (λ found. entries_from 1 [] (map (λ line. line.items) lines.now) ≡ Ok (map code_entry found.items)) }
     ensures err { IfErr result (λ why. (why ≡ read_error.Memory) ⊎ ((fault : CodesFault) × (why ≡ read_error.Fault fault) × (entries_from 1 [] (map (λ line. line.items) lines.now) ≡ Err fault))) }
 {

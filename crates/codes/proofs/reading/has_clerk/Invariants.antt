@@ -1,6 +1,5 @@
 -- What holds each time round the loop of `has_clerk`.
 use Rattle.std.proofs.Common.{◌≡◌, ◌==◌, drop, map}
-use Rattle.std.specs.Prelude.{bytes_eq}
 use Rattle.std.specs.List.{list_any}
 use Rattle.codes.specs.Files.{CodeEntry, code_entry}
 use Rattle.codes.proofs.reading.has_clerk.Given as goal

@@ -1,5 +1,5 @@
 -- What holds each time round the loop of `has_code`.
-use Rattle.std.proofs.Common.{◌≡◌, ◌==◌, drop, map}
+use Rattle.std.proofs.Common.{◌≡◌, drop, map}
 use Rattle.std.specs.Prelude.{bytes_eq}
 use Rattle.std.specs.List.{list_any}
 use Rattle.codes.specs.Files.{CodeEntry, code_entry}
