@@ -131,9 +131,13 @@ class Program:
         self.process.wait()
 
     def asked(self, text, *values):
-        base = sqlite3.connect(f"file:{os.path.join(self.folder, 'town.db')}?mode=ro", uri=True)
+        """What stands in a copy of the office: nobody else may look into its file while it is served."""
+        copy = os.path.join(self.folder, "copy.db")
+        self.order("copy", "copy.db")
+        base = sqlite3.connect(copy)
         found = [row[0] for row in base.execute(text, values)]
         base.close()
+        os.remove(copy)
         return found
 
     def rows(self, batch, round_, clerk):

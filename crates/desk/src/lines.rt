@@ -1,10 +1,10 @@
 //! The lines that an order prints, and its exit status.
 
-ghost use Rattle.std.specs.Prelude.{◌≡◌, ◌⊎◌, ◌-◌, ◌^◌, ◌<◌, ◌++◌};
+ghost use Rattle.std.specs.Prelude.{◌≡◌, ◌⊎◌, ◌-◌, ◌^◌, ◌<◌, ◌++◌, ◌∷◌, [], codes};
 ghost use Rattle.std.specs.List.{flat_map};
 ghost use Rattle.keyfile.specs.Faults.{flaw_batch, flaw_between, flaw_clerk};
 ghost use Rattle.desk.specs.Pages.{IsErrorTold, IsPut, Shows, fronted, line_front, migrated_text, numbered_line, outputs_of, printed, status_of_file};
-ghost use Rattle.codes.specs.Faults.{fault_line, fault_number as codes_number, fault_text as codes_text};
+ghost use Rattle.codes.specs.Faults.{fault_line, fault_text as codes_text};
 ghost use Rattle.desk.specs.Pages.{codes_made_page, codes_page, codes_place, failed, failure_number, failure_of, failure_text, page_of, refused, script_page, unjournalled, unread, words_page};
 
 use crate::scripts::ScriptFault;
@@ -243,15 +243,25 @@ fn put_place<W: Sink>(fault: CodesFault, sink: &mut W) -> Result<(), Broken>
     }
 }
 
+/// Puts of which line a fault of codes is, and its text behind it.
+fn put_codes_text<W: Sink>(fault: CodesFault, sink: &mut W) -> Result<(), Broken>
+    requires { W.failed sink.old < 2 ^ 64 - 1 }
+    ensures { IsPut W.taken W.failed sink.old sink.new (codes_place (fault_line fault) ++ flat_map (λ piece. piece) (codes ": " ∷ codes_text fault ∷ codes "\n" ∷ [])) result }
+{
+    put_place(fault, sink)?;
+    put_pieces(&[": ", fault.text(), "\n"], sink)
+}
+
 /// Puts a line that tells a fault of codes.
 fn put_codes_fault<W: Sink>(fault: CodesFault, sink: &mut W) -> Result<(), Broken>
     requires { W.failed sink.old < 2 ^ 64 - 1 }
     ensures { IsPut W.taken W.failed sink.old sink.new (codes_page fault).err result }
 {
-    let mut digits = Buffer::new();
-    put_pieces(&["codes fault ", digits.format(fault.number())], sink)?;
-    put_place(fault, sink)?;
-    put_pieces(&[": ", fault.text(), "\n"], sink)
+    put_pieces(
+        &["codes fault ", Buffer::new().format(fault.number())],
+        sink,
+    )?;
+    put_codes_text(fault, sink)
 }
 
 /// Tells why codes aren't taken, or not made, and gives the status: 1, or 3 where the error output fails.

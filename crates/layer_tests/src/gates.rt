@@ -1,6 +1,7 @@
 //! Clerks' codes: their file, who is let in, and who must wait.
 
 use super::asked::asks_of;
+use crate::printed::is_text;
 use codes::{Clerks, Codes, ReadError, Tries, make};
 use std::alloc::{AllocError, Global};
 use std::io;
@@ -93,11 +94,33 @@ const SENT: [(&str, &str, &str); 19] = [
     ),
 ];
 
-/// Whoever isn't a clerk needs no code.
-const FREE: [(&str, &str); 3] = [
-    ("GET /wards/7/sheet", "Sheet { ward: 7 }"),
-    ("GET /clerks//work", "NotFound"),
-    ("GET /clerks/04/work", "NotFound"),
+/// What is asked by whoever isn't a clerk, by a code that comes twice, and by a page from elsewhere.
+const BESIDE: [(&str, &str, &str); 5] = [
+    ("GET /wards/7/sheet", "", "Sheet { ward: 7 }"),
+    ("GET /clerks//work", "", "NotFound"),
+    ("GET /clerks/04/work", "", "NotFound"),
+    (
+        "GET /clerks/4/work",
+        "Authorization: Basic NDprZjdtLTJ3eHQ=\r\nAuthorization: Basic NDprZjdtLTJ3eHQ=\r\n",
+        "WrongCode { clerk: 4 }",
+    ),
+    (
+        "GET /clerks/4/work",
+        "Authorization: Basic NDprZjdtLTJ3eHQ=\r\nSec-Fetch-Site: cross-site\r\n",
+        "Forbidden",
+    ),
+];
+
+/// What is knocked with under clerk 4's number, how often, and when; and whether clerk 4 must wait at that moment then.
+const KNOCKS: [(&str, u32, u64, bool); 8] = [
+    (FOUR, 20, 0, false),
+    (NINE, 9, 1_000, false),
+    (NINE, 1, 60_999, true),
+    (NINE, 0, 120_998, true),
+    (NINE, 0, 120_999, false),
+    (NINE, 9, 200_000, false),
+    (NINE, 1, 260_000, false),
+    (NINE, 0, 260_001, false),
 ];
 
 /// What is told of a text that is a file of codes, or isn't.
@@ -152,70 +175,102 @@ impl RandomSource for Dry {
     }
 }
 
+/// The gate of these codes, and nothing else.
+fn gate_of(codes: &Codes) -> Given<'_> {
+    let page = Page {
+        text: "<p>keying</p>",
+        policy: "default-src 'none'",
+    };
+    Given {
+        origin: None,
+        gate: Some(Gate { codes, page }),
+    }
+}
+
+/// What texts are told that are no files of codes.
+fn faults_are_told(rt: &(impl Abort + AllocGlobal)) -> Result<(), Fail> {
+    for (text, told) in &FAULTS {
+        is_text(rt, fault_in(rt.alloc(), *text)?.as_str(), *told);
+    }
+    Ok(())
+}
+
+/// What is asked with one value of `Authorization`, or with none where it is empty.
+fn asks_sent(
+    rt: &(impl Abort + AllocGlobal),
+    given: Given<'_>,
+    line: &str,
+    value: &str,
+    asked: &str,
+) -> Result<(), Fail> {
+    if value.is_empty() {
+        return asks_at(rt, given, line, "", asked);
+    }
+    let headers = format!(in rt.alloc(); "aUTHORIZATION:\t{value} \r\n")?;
+    asks_at(rt, given, line, headers.as_str(), asked)
+}
+
+/// Each value that is sent.
+fn asks_all(rt: &(impl Abort + AllocGlobal), given: Given<'_>) -> Result<(), Fail> {
+    for (line, value, asked) in &SENT {
+        asks_sent(rt, given, *line, *value, *asked)?;
+    }
+    Ok(())
+}
+
+/// A code is wanted once, and of nobody but a clerk; and a page from elsewhere is told so first.
+fn asks_beside(rt: &(impl Abort + AllocGlobal), given: Given<'_>) -> Result<(), Fail> {
+    for (line, headers, asked) in &BESIDE {
+        asks_at(rt, given, *line, *headers, *asked)?;
+    }
+    Ok(())
+}
+
+/// Who must wait, and until when.
+fn who_waits(
+    rt: &(impl Abort + AllocGlobal),
+    given: Given<'_>,
+    tries: &mut Tries,
+) -> Result<(), Fail> {
+    let alloc = rt.alloc();
+    for (value, times, now, waits) in &KNOCKS {
+        assert!(rt; waits_behind(alloc, given, tries, *value, *times, *now)? == *waits);
+    }
+    Ok(())
+}
+
 #[test]
 fn codes_of_clerks(rt: HostRuntime) -> Result<(), Fail> {
-    let alloc = rt.alloc();
-    for (text, told) in FAULTS {
-        assert_eq!(rt; fault_in(alloc, text)?.as_str(), told);
-    }
-    let Ok(held) = Codes::read(alloc, FILE.as_bytes()) else {
+    faults_are_told(&rt)?;
+    let Ok(held) = Codes::read(rt.alloc(), FILE.as_bytes()) else {
         return Err(Fail::from("no codes are read"));
     };
-    let gate = Gate {
-        codes: &held,
-        page: Page {
-            text: "<p>keying</p>",
-            policy: "default-src 'none'",
-        },
-    };
-    let given = Given {
-        origin: None,
-        gate: Some(gate),
-    };
-    for (line, value, asked) in SENT {
-        if value.is_empty() {
-            asks_at(&rt, given, line, "", asked)?;
-        } else {
-            let headers = format!(in alloc; "aUTHORIZATION:\t{value} \r\n")?;
-            asks_at(&rt, given, line, headers.as_str(), asked)?;
-        }
-    }
-    for (line, asked) in FREE {
-        asks_at(&rt, given, line, "", asked)?;
-    }
-    let twice = format!(in alloc; "Authorization: {FOUR}\r\nAuthorization: {FOUR}\r\n")?;
-    asks_at(
-        &rt,
-        given,
-        "GET /clerks/4/work",
-        twice.as_str(),
-        "WrongCode { clerk: 4 }",
-    )?;
-    let foreign = format!(in alloc; "Authorization: {FOUR}\r\nSec-Fetch-Site: cross-site\r\n")?;
-    asks_at(
-        &rt,
-        given,
-        "GET /clerks/4/work",
-        foreign.as_str(),
-        "Forbidden",
-    )?;
-    let mut tries = Tries::new(alloc, &held)?;
-    assert!(rt; !waits_behind(alloc, given, &mut tries, FOUR, 20, 0)?);
-    assert!(rt; !waits_behind(alloc, given, &mut tries, NINE, 9, 1_000)?);
-    assert!(rt; waits_behind(alloc, given, &mut tries, NINE, 1, 60_999)?);
-    assert!(rt; tries.waits(4, 120_998) && !tries.waits(4, 120_999) && !tries.waits(9, 61_000));
-    assert!(rt; !waits_behind(alloc, given, &mut tries, NINE, 9, 200_000)?);
-    assert!(rt; !waits_behind(alloc, given, &mut tries, NINE, 1, 260_000)?);
-    let Some(clerks) = Clerks::parse("1-40") else {
-        return Err(Fail::from("no clerks"));
-    };
-    let made = make(alloc, &rt, clerks);
+    asks_all(&rt, gate_of(&held))?;
+    asks_beside(&rt, gate_of(&held))?;
+    let mut tries = Tries::new(rt.alloc(), &held)?;
+    who_waits(&rt, gate_of(&held), &mut tries)?;
+    assert!(rt; !tries.waits(9, 60_999));
+    Ok(())
+}
+
+/// Codes for clerks 1 to 40 stand in 40 lines; a system that gives no random bytes makes none.
+fn makes_codes(rt: &(impl Abort + AllocGlobal + RandomSource), clerks: Clerks) -> Result<(), Fail> {
+    let made = make(rt.alloc(), rt, clerks);
     assert!(rt;
         made.is_ok_and(|text| text.as_str().lines().count() == 40 && text.len() == 9 * 12 + 31 * 13)
     );
-    assert!(rt; make(alloc, &Dry, clerks).is_err());
-    for text in ["40-1", "0-4", "1-1000", "4", "1-", "-4", "1-4-5", "1 - 4"] {
-        assert!(rt; Clerks::parse(text).is_none());
+    assert!(rt; make(rt.alloc(), &Dry, clerks).is_err());
+    Ok(())
+}
+
+#[test]
+fn codes_are_made(rt: HostRuntime) -> Result<(), Fail> {
+    let Some(clerks) = Clerks::parse("1-40") else {
+        return Err(Fail::from("no clerks"));
+    };
+    makes_codes(&rt, clerks)?;
+    for text in &["40-1", "0-4", "1-1000", "4", "1-", "-4", "1-4-5", "1 - 4"] {
+        assert!(rt; Clerks::parse(*text).is_none());
     }
     Ok(())
 }

@@ -305,6 +305,7 @@ fn serve<S: Alter + Drop>(
     evening: Evening<'_>,
 ) -> Result<(Said, Connection<S>), Fail> {
     let pages = pages_of(alloc, evening.comers.len())?;
+    let (held, tries) = codes_of(alloc, evening)?;
     let mut office = match Office::open_from(alloc, conn) {
         Ok(office) => office,
         Err((fault, conn)) => {
@@ -320,7 +321,6 @@ fn serve<S: Alter + Drop>(
             ));
         }
     };
-    let (held, tries) = codes_of(alloc, evening)?;
     let served = {
         let clock = Jumping::by(evening.seconds);
         let mut coming = Coming::new(evening, &pages);
