@@ -151,9 +151,9 @@ fn answer_reading<S: Alter>(alloc: Global, office: &mut Office<S>, what: Reading
 /// Asks the office what a request asks, and answers that.
 pub(crate) fn answer<S: Alter>(alloc: Global, office: &mut Office<S>, asked: Asked<'_>) -> Response
     ensures answers { HasCleanDisk (state S.Store office.new.held) → office.old.closed ≡ false → (s : OfficeState) → IsAt s (state S.Store office.old.held)
-        → Readies s (asked_entry asked) result office.new.closed (state S.Store office.new.held) }
+        → Readies s (asked_entry asked.entry) result office.new.closed (state S.Store office.new.held) }
     ensures closed { office.old.closed ≡ true → office.new ≡ office.old }
-    ensures closed_told { office.old.closed ≡ true → IsTold (closed_response (asked_entry asked)) result }
+    ensures closed_told { office.old.closed ≡ true → IsTold (closed_response (asked_entry asked.entry)) result }
     ensures clean { HasCleanDisk (state S.Store office.new.held) → HasCleanDisk (state S.Store office.old.held) }
 {
     match asked {
