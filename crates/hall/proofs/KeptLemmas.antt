@@ -1,5 +1,5 @@
 -- What clients and orders who have their turns one after the other leave of an office.
-use Rattle.std.proofs.Common.{◌≡◌, ◌≤◌, ◌+◌, ◌∙◌, ◌⊎◌, ◌∷◌, ◌++◌, append_assoc, drop, true, ℕ, Bool, List, [], Option, Some}
+use Rattle.std.proofs.Common.{◌≡◌, ◌≤◌, ◌+◌, ◌∙◌, ◌⊎◌, ◌∷◌, ◌++◌, append_assoc, drop, true, ℕ, Bool, List, [], Some}
 use Rattle.std.proofs.Common.{arith, inl, inr, length, length-append, refl, sym, subst, suc, take, ap}
 use Rattle.std.specs.Prelude.{false}
 use Rattle.std.specs.List.{FoldsTo}
@@ -213,7 +213,7 @@ module _ {S : Type 0} (given : Given) (state_of : Held S → State) where
   away_at : (door : Door) (visit : Visit) (old new : Desk S) → ServesAt door given state_of old visit new → old.office.closed ≡ true → IsToldClosed door given visit × (new.office ≡ old.office)
   away_at Clients visit old new (inl it) closed = (inl it.told, ap (λ (d : Desk S). d.office) it.stays)
   away_at Clients visit old new (inr it) closed = let (told, stays) = it.serves.turned_away closed in (inr told, stays)
-  away_at Orders visit old new (it, emptied) closed =
+  away_at Orders visit old new (it, emptied, same) closed =
       let (page, stays) = it.tells.turned_away closed in
       (record { files = it.files; asked = it.asked; is = it.is; cut = it.tells.cut; told = subst (λ (p : Page). IsFramed it.tells.cut p visit.answer) page it.tells.told }, stays)
 
@@ -244,12 +244,12 @@ module _ {S : Type 0} (given : Given) (state_of : Held S → State) where
       subst (λ (d : Desk S). TurnLeaves Clients state_of given s visit d.kept.reads d.office.closed (state_of d.office.held)) (sym it.stays)
       (inl ([], inl (it.told, refl), right, record { is_open = is_open; at = at }))
   turn_leaves Clients s visit old new (inr it) clean is_open at right = served_leaves s visit old new it.serves clean is_open at right
-  turn_leaves Orders s visit old new (it, emptied) clean is_open at right =
+  turn_leaves Orders s visit old new (it, emptied, same) clean is_open at right =
       let told = it.tells in
       let tells : (sent last : List Request) → TellsSo state_of (folder_of it.files) s it.asked told.cut told.page sent last → TellsOrder state_of given.file s visit.got visit.answer sent last =
       λ sent last so. record { files = it.files; asked = it.asked; is = it.is; cut = told.cut; page = told.page; told = told.told; tells = so } in
       elim (order_leaves state_of (folder_of it.files) s old.office new.office it.asked told.cut told.page (told.does clean is_open s at)) [
-        | inl (sent, last, so, open_at) ↦ inl (sent, (last, tells sent last so), none_read given.clients (after s sent) new.kept.reads emptied.0, open_at)
+        | inl (sent, last, so, open_at) ↦ inl (sent, (last, tells sent last so), none_read given.clients (after s sent) new.kept.reads emptied, open_at)
         | inr (sent, last, so, is_closed, leaves) ↦ inr (sent, last, tells sent last so, is_closed, leaves)
       ]
 

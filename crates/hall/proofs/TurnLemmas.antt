@@ -6,7 +6,9 @@ use Rattle.register.specs.Offices.{OfficeState}
 use Rattle.store.specs.Offices.{IsAt}
 use Rattle.office.specs.Values.{OfficeValue}
 use Rattle.office.specs.Answers.{IsOpenAt}
+use Rattle.wire.specs.Responses.{waits_response}
 use Rattle.wire.specs.Serving.{EndsWith, IsServed, OnReadFailed, ReadiesClosed, ReadiesFor, Serves, ServesClosed}
+use Rattle.wire.specs.Told.{IsWritten}
 use Rattle.wire.specs.declared.serving.Served.{Served}
 use Rattle.wire.specs.declared.serving.Served.TheVariants.{Answered, ReadFailed, WriteFailed}
 use Rattle.gathering.specs.Lines.{Delivers, Gathers, Line}
@@ -20,7 +22,7 @@ use Rattle.gathering.proofs.LineLemmas.{heard_more, told_more, told_none}
 use Rattle.hall.specs.Terms.{Given}
 use Rattle.hall.specs.Turns.{HasCome, HasComeAt, MayHaveTurn, answer_of}
 use Rattle.hall.specs.Reads.{Desk}
-use Rattle.hall.specs.Visits.{EndsIn, HasServed, ServesVisit, Visit}
+use Rattle.hall.specs.Visits.{EndsIn, HasServed, IsToldToWait, ServesVisit, Visit}
 
 pub none_from : {X : Type 0} (found : Option X) → is_some found ≡ false → found ≡ None
 none_from None is = refl
@@ -67,6 +69,14 @@ visit_served given state_of old new held got before after answer served failed i
     these : (P : List ℕ → List ℕ → List ℕ → Type 0) → P held before after → P got [] answer
     these P p =
         subst (λ (a : List ℕ). P got [] a) (sym is_answer) (subst (λ (b : List ℕ). P got b after) is_before (subst (λ (g : List ℕ). P g before after) is_got p))
+
+-- who must wait was told so, by the clauses of the call that told him
+pub told_waiting : (visit : Visit) (before after : List ℕ) (served : Served) → before ≡ [] → visit.answer ≡ after → IsServed (IsWritten waits_response) (Some before) (Some after) served → IsToldToWait visit
+told_waiting visit before after served is_before is_answer it = (
+  served,
+  subst (λ (a : List ℕ). IsServed (IsWritten waits_response) (Some []) (Some a) served) (sym is_answer)
+      (subst (λ (b : List ℕ). IsServed (IsWritten waits_response) (Some b) (Some after) served) is_before it),
+)
 
 module _ {L : Type 0} (line : Line L) where
   -- who has no answer was heard, and told nothing

@@ -82,9 +82,13 @@ pub record IsLetIn {S : Type 0} (given : GivenEntry) (state_of : Held S → Stat
   pub serves : ServesClient given state_of old visit new
   pub noted : new.kept.tries ≡ tries_behind knock visit.moment old.kept.tries
 
--- who came in at a door had his turn: a client must wait, or is served; or an order is followed, and no answer is kept behind it
+-- a client had his turn: he must wait, or is let in
+abbrev pub MeetsClient : {S : Type 0} → GivenEntry → (Held S → State) → Desk S → Visit → Desk S → Type 0
+MeetsClient given state_of old visit new = IsKeptWaiting given old visit new ⊎ IsLetIn given state_of old visit new
+
+-- who came in at a door had his turn: a client's; or an order is followed, and no answer is kept behind it
 abbrev pub ServesAt : {S : Type 0} → Door → Given → (Held S → State) → Desk S → Visit → Desk S → Type 0
-ServesAt Clients given state_of old visit new = IsKeptWaiting given.clients old visit new ⊎ IsLetIn given.clients state_of old visit new
+ServesAt Clients given state_of old visit new = MeetsClient given.clients state_of old visit new
 ServesAt Orders given state_of old visit new =
     FollowsOrder given.file state_of old.office visit.got visit.answer new.office × (new.kept.reads ≡ []) × (new.kept.tries ≡ old.kept.tries)
 

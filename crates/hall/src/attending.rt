@@ -1,6 +1,6 @@
 //! Who goes on, a client or an order: he is heard, has his turn once what he asks has come to its end, and is told his answer.
 
-ghost use Rattle.std.specs.Prelude.{◌≡◌, ◌⊎◌, ℕ, [], None, Ok, Some, false, true};
+ghost use Rattle.std.specs.Prelude.{◌≡◌, ℕ, [], None, Ok, Some, false, true};
 ghost use Rattle.sqlite.specs.Held.{state};
 ghost use Rattle.gathering.specs.Lines.{Gathers, HasTaken, line_of};
 ghost use Rattle.gathering.specs.Clients.{IsOf, IsTold};
@@ -13,7 +13,7 @@ ghost use Rattle.wire.specs.Asking.{Asks, reading};
 ghost use Rattle.wire.specs.declared.target.Reading.{Reading};
 ghost use Rattle.codes.specs.Tries.{entries_of};
 ghost use Rattle.hall.specs.Reads.{IsRead, TellsNoFault, desk_at, kept_in};
-ghost use Rattle.hall.specs.Visits.{HasServed, IsKeptWaiting, IsLetIn, IsToldToWait, ServesClient, ServesVisit, Visit};
+ghost use Rattle.hall.specs.Visits.{HasServed, IsToldToWait, MeetsClient, ServesClient, ServesVisit, Visit};
 
 use crate::aside::Aside;
 use crate::message::hear_message;
@@ -213,9 +213,8 @@ fn answer_client<S: Alter>(
     office: &mut Office<S>,
     kept: &mut Remembered,
 ) -> Answer
-    ensures meets { (number : ℕ) → let visit = record { door = Door.Clients; number = number; moment = now; got = got.now; answer = result.bytes.items } in
-        let old = desk_at office.old (kept_in kept.old) in let new = desk_at office.new (kept_in kept.new) in
-        IsKeptWaiting (given_entry given.entry) old visit new ⊎ IsLetIn (given_entry given.entry) (state S.Store) old visit new }
+    ensures meets { (number : ℕ) → MeetsClient (given_entry given.entry) (state S.Store) (desk_at office.old (kept_in kept.old))
+        (record { door = Door.Clients; number = number; moment = now; got = got.now; answer = result.bytes.items }) (desk_at office.new (kept_in kept.new)) }
     ensures untold { result.sent ≡ 0 }
 {
     let knock = knock_of(given, got);
