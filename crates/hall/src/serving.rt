@@ -292,15 +292,15 @@ fn go_round<D: Doors, C: Clock, A: Aside, S: Alter>(
     Ok(false)
 }
 
-/// Serves those who come to the doors of an office, by what it was given, the origin of a proxy and the gate, if any: until so many
-/// clients came in and all who are in left, or without end, where no number is given. Orders that are handed over come in too, before
-/// clients, and don't count.
+/// Serves those who come to the doors of an office, by what it was given, the origin of a proxy and the gate, if any: until so
+/// many clients came in and all who are in left, or without end, where no number is given. Orders that are handed over come in
+/// too, before clients, and don't count.
 ///
 /// All are heard side by side, and so they are told their answers. Each has his turn once what he asks has come to its
-/// end: a client is served whole in it, and an order is followed whole, in the very office. At most 512 are in at once, with 64 MiB of what they sent and are to take. Past that the
-/// next waits at the doors, and who has waited longest is let go for him, if that is a second at least. One has half a minute
-/// for what he asks, and half a minute more to take his answer. Who is let go gets no answer. Who can't be let in now is
-/// let in later.
+/// end: a client is served whole in it, and an order is followed whole, in the very office. At most 512 are in at once, with
+/// 64 MiB of what they sent and are to take. Past that the next waits at the doors, and who has waited longest is let go for
+/// him, if that is a second at least. One has half a minute for what he asks, and half a minute more to take his answer. Who is
+/// let go gets no answer. Who can't be let in now is let in later.
 ///
 /// At the gate ten wrong codes under a clerk's number within a minute make everyone wait who asks there, for a minute: they
 /// are told so, and nothing else. The moments are those that the clock shows, and `tries` are the wrong codes that came before.
