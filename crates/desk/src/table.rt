@@ -110,16 +110,16 @@ pub(crate) const STAGE: Word =
     word!(Number "STAGE", "The stage of the count that waits for the lot, 2 to 31");
 
 pub(crate) const FILE: Word =
-    word!(Text "FILE", "The path of an import file; docs/FORMATS.md tells its form");
+    word!(Text "FILE", "The path of an import file; docs/IMPORTS.md has its form");
 
 pub(crate) const NEW: Word =
     word!(Text "NEW", "The path of the copy; there must be nothing at it yet");
 
 pub(crate) const SCRIPT: Word =
-    word!(Text "FILE", "The path of a script; docs/FORMATS.md tells its form");
+    word!(Text "FILE", "The path of a script; docs/IMPORTS.md has its form");
 
 pub(crate) const KEEP_GOING: Word =
-    word!(Flag "keep-going", "Goes past refusals, each told with its line, and ends with status 1 then");
+    word!(Flag "keep-going", "Goes past refusals, each printed with its line, and ends with status 1 then");
 
 pub(crate) const ID: Word =
     word!(Id "id", "An id that you choose for this order, 1 to 40 of a-z, 0-9 and -;\nsent again under the same id, it does nothing twice");

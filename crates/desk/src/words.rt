@@ -28,7 +28,7 @@ changes nothing.";
 
 /// The end of the help: the orders of [`Heading::Office`] and of [`Heading::Everyone`], and what comes of orders.
 const END_OF_HELP: &str =
-    "For the office alone. The first seven change nothing, and no clerk is to see what they tell:
+    "For the office alone. The first seven change nothing, and no clerk is to see what they print:
   wards              How each ward stands, and what is left to do
   batches WARD       Who has keyed each batch of a ward, how it stands, and which other
                      batch has the very same papers
@@ -54,7 +54,7 @@ An example stands under each order. Its words, with their ranges, are shown by
 A reply goes to standard output, with status 0. What the office refuses goes to standard
 error, with status 1; words that are not understood with 2, and faults with 3.
 
-docs/ELECTION.md leads through an election, order by order. docs/FORMATS.md tells what each
+docs/ELECTION.md leads through an election, order by order. docs/REFUSALS.md says what each
 refusal and each fault means, and what to do about it.";
 
 /// What is told of words that aren't understood, where nothing else is.
