@@ -16,7 +16,7 @@ const randomWord = (length) =>
 // Of several windows in which one batch is open, the last one keys.
 const WINDOW = randomWord(8);
 
-// Whether the browser kept what it was last told to.
+// Whether the browser kept what it was last asked to keep.
 let keeps = true;
 
 const FRONT = `keying ${CLERK} `;

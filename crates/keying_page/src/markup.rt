@@ -30,7 +30,7 @@ pub(crate) const BODY: &str = r#"</style>
 <section id="start" aria-labelledby="start-title" hidden>
 <h2 id="start-title" tabindex="-1"></h2>
 <ol>
-<li>See that your bundle has the number <b id="start-batch"></b>.</li>
+<li>See that your pile has the number <b id="start-batch"></b>.</li>
 <li>Count its papers. There must be <b id="start-size"></b>. If there are more or fewer, key nothing, and tell the returning officer.</li>
 <li>Leave the papers in their order. The one on top is paper 1.</li>
 <li>Key what stands on a paper. You correct nothing.</li>

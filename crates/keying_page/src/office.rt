@@ -24,7 +24,7 @@ const ask = async (target, body) => {
 // What to do about each refusal, by its number, and about each other answer, by its status.
 const AFTER_REFUSAL = {
   2: 'Press Send once more: the batch goes out under a new id.',
-  7: 'Compare the number on your bundle. If it is right, tell the returning officer.',
+  7: 'Compare the number on your pile. If it is right, tell the returning officer.',
   9: 'The ward isn\u2019t being keyed. Tell the returning officer.',
   14: 'The office hasn\u2019t given this batch to your number. Tell the returning officer.',
   15: 'The batch is in another round. Ask for your batches, and key every paper anew if it stands there.',

@@ -251,7 +251,7 @@ const toBatches = (text = '') => {
 // Whoever leaves his place has the browser forget his code, as far as it can. What he keyed stays for him.
 const goAway = async () => {
   const answer = await ask('leave');
-  const code = answer?.status === 200 ? 'This browser was told to forget your code. If it opens your page again without asking for it, close' : 'Close';
+  const code = answer?.status === 200 ? 'This browser was asked to forget your code. If it opens your page again without asking for it, close' : 'Close';
   const isKept = draftNames().some((name) => keptAt(name)?.rows?.some?.((it) => it.state !== NEW));
   const kept = isKept ? 'What you keyed and didn\u2019t send is kept in this browser for you. ' : '';
   document.body.replaceChildren(made('p', {}, `Clerk ${CLERK} has left. ${kept}${code} all windows of the browser.`));
