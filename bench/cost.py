@@ -37,7 +37,9 @@ def measured(count):
         seconds = serving.keyings(folder, count)[0] / (count // keying.BATCH) if count <= MOST_OVER_HTTP else None
         rows.append(("a keying of 500 papers over HTTP, the office open", seconds, None))
     with tempfile.TemporaryDirectory() as folder:
-        rows.append(("a sheet of 3 stages over HTTP, the office open", serving.sheets(folder, count)[0], None))
+        anew, again, _ = serving.sheets(folder, count)
+        rows.append(("a sheet of 3 stages over HTTP, the office open", anew, None))
+        rows.append(("the same asked again, told from memory", again, None))
     with tempfile.TemporaryDirectory() as folder:
         rows += others.measure(folder, count)[others.COMPARED:]
     return rows
@@ -97,7 +99,7 @@ def main():
         with open(PAGE, encoding="utf-8") as file:
             before, rest = file.read().split(MARKS[0])
         with open(PAGE, "w", encoding="utf-8") as file:
-            file.write(before + "\n".join([MARKS[0], "", *lines, "", MARKS[1]]) + rest.split(MARKS[1])[1])
+            file.write(before + "\n".join([MARKS[0], "", *lines, "", MARKS[1]]) + rest.split(MARKS[1], 1)[1])
 
 
 if __name__ == "__main__":

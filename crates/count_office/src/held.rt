@@ -59,6 +59,12 @@ impl Held {
         }
     }
 
+    /// The numbers of the file's device and its own.
+    pub fn numbers(&self) -> io::Result<(u64, u64)> {
+        let found = self.file.metadata()?;
+        Ok((found.dev(), found.ino()))
+    }
+
     /// Gives the file these rights, whatever the system's mask says.
     pub fn set_mode(&self, mode: u32) -> io::Result<()> {
         self.file.set_permissions(Permissions::from_mode(mode))

@@ -9,7 +9,7 @@
 //! ```
 #![tactic(auto)]
 
-ghost use Rattle.std.specs.Prelude.{◌≡◌, ◌+◌, ◌-◌, ◌^◌, ◌<◌, IfSome, IsSomeAnd, Some};
+ghost use Rattle.std.specs.Prelude.{◌≡◌, ◌+◌, ◌-◌, ◌^◌, ◌<◌, IfSome, IsSomeAnd, None, Some};
 ghost use Rattle.sqlite.specs.Effect.{Database};
 ghost use Rattle.sqlite.specs.Held.{state};
 ghost use Rattle.sqlite.specs.State.{HasCleanDisk};
@@ -17,35 +17,43 @@ ghost use Rattle.register.specs.Offices.{OfficeState};
 ghost use Rattle.tables.specs.Contents.{RestsAt};
 ghost use Rattle.tables.specs.Reading.{OnlyReads};
 ghost use Rattle.store.specs.Openings.{IsLeftAt};
+ghost use Rattle.office.specs.Answers.{IsReadAt, WhenOpenAt};
 ghost use Rattle.desk.specs.Journals.{IsJournalTold, IsToldElsewhere};
 ghost use Rattle.desk.specs.Pages.{Tells, outputs_of};
+ghost use Rattle.hall.specs.Handings.{IsCopyTold};
+ghost use Rattle.count_office.specs.Done.{EndsCopy, IsDone};
 ghost use Rattle.sqlite_wal.specs.Reads.{AreClean};
 ghost use Rattle.sqlite.specs.Closing.{IsCopied};
 
+mod aside;
+mod beside;
 mod fresh;
+mod handing;
 mod held;
+mod serving;
 mod traces;
 
 use desk::perform::perform;
 use desk::{
-    CopyState, Failure, Folder, Order, Progress, Task, WordsFault, copy_office, journal_office,
-    order, serve_on, tell_failure, tell_words,
+    CopyState, Failure, Folder, Order, Progress, Task, WordsFault, copy_office, copy_open,
+    journal_office, order, tell_failure, tell_words,
 };
 use fresh::Fresh;
+use handing::hand_over;
+use held::Held;
 use office::Office;
+use serving::{Serving, serve};
 use sqlite::{Alter, Connection, ErrorCode, FileStore, Files, Wary};
 use sqlite_disk::Disk;
 use std::alloc::Global;
 use std::fs::File;
 use std::io::{ErrorKind, IsTerminal};
-use std::net::{Ipv4Addr, TcpListener};
 use std::process::ExitCode;
 use std::{env, io};
 use store::Fault;
 use store::fault::fault_of;
 use traces::{Found, Site};
 use votes::{Counted, Sink};
-use wire::Origin;
 
 /// The files of this machine.
 #[derive(Clone, Copy)]
@@ -59,6 +67,14 @@ impl Folder for Paths<'_> {
     fn open(&self, path: &str) -> Option<File> {
         File::open(self.rt, path).ok()
     }
+}
+
+/// A database that is held: its path as it was given, what stands there, and its file.
+#[derive(Clone, Copy)]
+pub struct Place<'a> {
+    pub path: &'a str,
+    pub found: &'a Found,
+    pub held: &'a Held,
 }
 
 /// The words from DB on.
@@ -96,6 +112,7 @@ fn perform_watched<S: Alter, O: Sink, E: Sink>(
 ) -> (u8, Connection<S>)
     requires out { O.failed out.old < 2 ^ 64 - 1 }
     requires err { E.failed err.old < 2 ^ 64 - 1 }
+    ensures { IsDone task.now result.0 (state S.Store conn) (state S.Store result.1) }
 {
     let paths = Paths { rt };
     if wants_progress(rt, task) {
@@ -105,10 +122,10 @@ fn perform_watched<S: Alter, O: Sink, E: Sink>(
     perform(rt.alloc(), task, conn, &paths, out, err)
 }
 
-/// Does an order over an opened connection to the office at a path.
+/// Does an order over an opened connection to the office at a place.
 fn perform_on<S: Alter, O: Sink, E: Sink>(
     rt: &HostRuntime,
-    office: &str,
+    place: Place<'_>,
     order: &Order<'_>,
     conn: Connection<S>,
     out: &mut O,
@@ -116,6 +133,10 @@ fn perform_on<S: Alter, O: Sink, E: Sink>(
 ) -> (u8, Connection<S>)
     requires out { O.failed out.old < 2 ^ 64 - 1 }
     requires err { E.failed err.old < 2 ^ 64 - 1 }
+    ensures performs { (task : Task) → order.now ≡ Order.Perform task → IsDone task result.0 (state S.Store conn) (state S.Store result.1) }
+    ensures journals { order.now ≡ Order.Journal → (let outputs = outputs_of O.taken O.failed E.taken E.failed in Tells (outputs out.old err.old) (outputs out.new err.new) result.0
+        (λ _ page. HasCleanDisk (state S.Store result.1) → ((db : Database) → RestsAt db (state S.Store conn) → (s : OfficeState) → IsLeftAt s db → IsJournalTold s page)
+        × IsToldElsewhere page (state S.Store conn) (state S.Store result.1))) }
 {
     match order {
         Order::Perform(task) => perform_watched(rt, task, conn, out, err),
@@ -123,43 +144,17 @@ fn perform_on<S: Alter, O: Sink, E: Sink>(
             port,
             connections,
             origin,
-        } => serve(rt, conn, *port, *connections, *origin, err),
-        Order::Copy { path } => copy(rt, conn, office, path, out, err),
+        } => {
+            let serving = Serving {
+                port: *port,
+                connections: *connections,
+                origin: *origin,
+            };
+            serve(rt, place, serving, conn, err)
+        }
+        Order::Copy { path } => copy(rt, conn, place.path, path, out, err),
         Order::Journal => journal(rt, conn, out, err),
     }
-}
-
-/// Listens on a port of this machine.
-fn listen(rt: &HostRuntime, port: u32) -> Option<TcpListener> {
-    let port = u16::try_from(port).ok()?;
-    TcpListener::bind(rt, (Ipv4Addr::LOCALHOST, port)).ok()
-}
-
-/// Answers so many connections on a port of this machine, over an opened connection to the database, and pages of an
-/// origin through a proxy, if one is given.
-fn serve<S: Alter, E: Sink>(
-    rt: &HostRuntime,
-    conn: Connection<S>,
-    port: u32,
-    connections: u32,
-    origin: Option<Origin<'_>>,
-    err: &mut E,
-) -> (u8, Connection<S>)
-    requires { E.failed err.old < 2 ^ 64 - 1 }
-{
-    let mut office = match Office::open_from(rt.alloc(), conn) {
-        Ok(office) => office,
-        Err((fault, conn)) => return (tell_failure(Failure::Office(fault), err), conn),
-    };
-    let served = match listen(rt, port) {
-        Some(listener) => serve_on(rt.alloc(), rt, &listener, connections, origin, &mut office),
-        None => Err(Failure::Output),
-    };
-    let status = match served {
-        Ok(()) => 0,
-        Err(failure) => tell_failure(failure, err),
-    };
-    (status, office.into_connection())
 }
 
 /// Makes a copy of the office at a path where there is nothing yet. The office is only read.
@@ -234,9 +229,45 @@ fn failure_of(error: sqlite::Error) -> Failure {
     }
 }
 
-/// Copies the office over an opened connection to files that were made for the copy, and closes them. Where no copy is
-/// told they are removed while they are held; and where another program has made an office there before, it is left. With
-/// status 0 the database file alone is the copy.
+/// Why no copy is begun in files that were made for it, if it isn't: another program has made an office there before, which
+/// is left; or they can't be looked at.
+fn why_not_begun(rt: &HostRuntime, fresh: &Fresh) -> Option<Failure> {
+    match fresh.hold_none(rt) {
+        Ok(true) => None,
+        Ok(false) => Some(Failure::CopyTaken),
+        Err(_) => {
+            fresh.clear(rt);
+            Some(Failure::CopyFailed)
+        }
+    }
+}
+
+/// Closes the files that were made for a copy, of which this is told and known. Where no copy is told they are removed while
+/// they are held. With status 0 the database file alone is the copy.
+fn finish<D: Disk + Drop, E: Sink>(
+    rt: &HostRuntime,
+    fresh: &Fresh,
+    made: Connection<FileStore<D>>,
+    status: u8,
+    state: CopyState,
+    err: &mut E,
+) -> u8
+    requires { status ≡ 0 → E.failed err.old < 2 ^ 64 - 1 }
+    ensures other { ¬ (status ≡ 0) → (result ≡ status) × (err.new ≡ err.old) }
+    ensures whole { status ≡ 0 → EndsCopy E.taken E.failed err.old err.new result }
+{
+    match state {
+        CopyState::Whole => {}
+        CopyState::Untouched | CopyState::Unknown => fresh.remove(rt),
+    }
+    if status != 0 {
+        let _ = close(made);
+        return status;
+    }
+    closed_copy(made, err).0
+}
+
+/// Copies the office over an opened connection to files that were made for the copy, and closes them.
 fn fill<S: Alter, D: Disk + Drop, O: Sink, E: Sink>(
     rt: &HostRuntime,
     fresh: &Fresh,
@@ -249,24 +280,67 @@ fn fill<S: Alter, D: Disk + Drop, O: Sink, E: Sink>(
     requires err { E.failed err.old < 2 ^ 64 - 1 }
     ensures { OnlyReads (state S.Store conn.old) (state S.Store conn.new) }
 {
-    match fresh.hold_none(rt) {
-        Ok(true) => {}
-        Ok(false) => return tell_failure(Failure::CopyTaken, err),
-        Err(_) => {
-            fresh.clear(rt);
-            return tell_failure(Failure::CopyFailed, err);
-        }
+    if let Some(failure) = why_not_begun(rt, fresh) {
+        return tell_failure(failure, err);
     }
     let (status, state) = copy_office(rt.alloc(), conn, &mut made, out, err);
-    match state {
-        CopyState::Whole => {}
-        CopyState::Untouched | CopyState::Unknown => fresh.remove(rt),
+    finish(rt, fresh, made, status, state, err)
+}
+
+/// Copies an open office, which goes on, to files that were made for the copy, and closes them.
+fn fill_open<S: Alter, D: Disk + Drop, O: Sink, E: Sink>(
+    rt: &HostRuntime,
+    fresh: &Fresh,
+    office: &mut Office<S>,
+    mut made: Connection<FileStore<D>>,
+    out: &mut O,
+    err: &mut E,
+) -> u8
+    requires out { O.failed out.old < 2 ^ 64 - 1 }
+    requires err { E.failed err.old < 2 ^ 64 - 1 }
+    ensures told { let outputs = outputs_of O.taken O.failed E.taken E.failed in Tells (outputs out.old err.old) (outputs out.new err.new) result
+        (λ _ page. WhenOpenAt (state S.Store) office.old office.new (λ s. IsCopyTold s page)) }
+    ensures stays { WhenOpenAt (state S.Store) office.old office.new (λ s. IsReadAt s office.new.closed (state S.Store office.new.held)) }
+    ensures clean { HasCleanDisk (state S.Store office.new.held) → HasCleanDisk (state S.Store office.old.held) }
+{
+    if let Some(failure) = why_not_begun(rt, fresh) {
+        return tell_failure(failure, err);
     }
-    if status != 0 {
-        let _ = close(made);
-        return status;
+    let (status, state) = copy_open(rt.alloc(), office, &mut made, out, err);
+    finish(rt, fresh, made, status, state, err)
+}
+
+/// Makes a copy of the open office whose database is at a path, at another one where there is nothing yet. It goes on, and is
+/// only read.
+fn copy_served<S: Alter, O: Sink, E: Sink>(
+    rt: &HostRuntime,
+    office: &mut Office<S>,
+    database: &str,
+    path: &str,
+    out: &mut O,
+    err: &mut E,
+) -> u8
+    requires out { O.failed out.old < 2 ^ 64 - 1 }
+    requires err { E.failed err.old < 2 ^ 64 - 1 }
+    ensures told { let outputs = outputs_of O.taken O.failed E.taken E.failed in Tells (outputs out.old err.old) (outputs out.new err.new) result
+        (λ _ page. WhenOpenAt (state S.Store) office.old office.new (λ s. IsCopyTold s page)) }
+    ensures stays { WhenOpenAt (state S.Store) office.old office.new (λ s. IsReadAt s office.new.closed (state S.Store office.new.held)) }
+    ensures clean { HasCleanDisk (state S.Store office.new.held) → HasCleanDisk (state S.Store office.old.held) }
+{
+    let fresh = match Fresh::make(rt, database, path) {
+        Ok(fresh) => fresh,
+        Err(failure) => return tell_failure(failure, err),
+    };
+    match Connection::open_from(rt, path, false, Wary) {
+        Ok(made) => fill_open(rt, &fresh, office, made, out, err),
+        Err((error, left)) => {
+            if !is_busy(&error) {
+                fresh.clear(rt);
+            }
+            drop(left);
+            tell_failure(failure_of(error), err)
+        }
     }
-    closed_copy(made, err).0
 }
 
 /// Closes a copy, so that it stands alone, and gives the status: 0, or 3 where its log can't be copied into it, which is
@@ -276,6 +350,7 @@ fn closed_copy<D: Disk + Drop, E: Sink>(
     err: &mut E,
 ) -> (u8, Option<Files<D>>)
     requires { E.failed err.old < 2 ^ 64 - 1 }
+    ensures ends { EndsCopy E.taken E.failed err.old err.new result.0 }
     ensures alone { result.0 ≡ 0 → IsSomeAnd result.1 (λ files. AreClean D.Disk files.log files.db → IsCopied made files) }
 {
     match close(made) {
@@ -305,8 +380,7 @@ fn close<D: Disk + Drop>(conn: Connection<FileStore<D>>) -> Option<Files<D>>
 /// missing and takes up what it holds, and `close` copies it; `perform` speaks of all between.
 fn perform_in<O: Sink, E: Sink>(
     rt: &HostRuntime,
-    found: &Found,
-    path: &str,
+    place: Place<'_>,
     order: &Order<'_>,
     out: &mut O,
     err: &mut E,
@@ -314,18 +388,18 @@ fn perform_in<O: Sink, E: Sink>(
     requires out { O.failed out.old < 2 ^ 64 - 1 }
     requires err { E.failed err.old < 2 ^ 64 - 1 }
 {
-    match Connection::open_from(rt, path, false, Wary) {
+    match Connection::open_from(rt, place.path, false, Wary) {
         Ok(conn) => {
-            let (status, conn) = perform_on(rt, path, order, conn, out, err);
+            let (status, conn) = perform_on(rt, place, order, conn, out, err);
             if status != 0 {
-                found.leave(rt);
+                place.found.leave(rt);
             }
             let _ = close(conn);
             status
         }
         Err((error, left)) => {
             if !is_busy(&error) {
-                found.leave(rt);
+                place.found.leave(rt);
             }
             drop(left);
             tell_failure(Failure::Office(fault_of(error)), err)
@@ -347,10 +421,53 @@ fn why_unopened(site: Site, order: &Order<'_>) -> Option<Fault>
     }
 }
 
-/// Does an order over the database at a path, and holds it meanwhile.
+/// Hands an order over to whoever serves a database, if anybody does; and gives the status.
+fn hand_over_watched<O: Sink, E: Sink>(
+    rt: &HostRuntime,
+    database: &str,
+    words: &[&str],
+    order: &Order<'_>,
+    out: &mut O,
+    err: &mut E,
+) -> Option<u8>
+    requires out { O.failed out.old < 2 ^ 64 - 1 }
+    requires err { E.failed err.old < 2 ^ 64 - 1 }
+    ensures { result ≡ None → err.new ≡ err.old }
+{
+    match order {
+        Order::Perform(task) if wants_progress(rt, task) => {
+            let mut watched = Progress::new(out, rt.stderr());
+            hand_over(rt, database, words, order, &mut watched, err)
+        }
+        _ => hand_over(rt, database, words, order, out, err),
+    }
+}
+
+/// Hands an order on a database that another program holds over to it, and gives the status. Where that one doesn't serve it,
+/// it is told that it is held.
+fn hand_over_held<O: Sink, E: Sink>(
+    rt: &HostRuntime,
+    database: &str,
+    words: &[&str],
+    order: &Order<'_>,
+    out: &mut O,
+    err: &mut E,
+) -> u8
+    requires out { O.failed out.old < 2 ^ 64 - 1 }
+    requires err { E.failed err.old < 2 ^ 64 - 1 }
+{
+    match hand_over_watched(rt, database, words, order, out, err) {
+        Some(status) => status,
+        None => tell_failure(Failure::Office(Fault::Store), err),
+    }
+}
+
+/// Does an order over the database at a path, and holds it meanwhile. Where another program holds it, that one may serve
+/// it: then the order is handed over.
 fn perform_at<O: Sink, E: Sink>(
     rt: &HostRuntime,
     path: &str,
+    words: &[&str],
     order: &Order<'_>,
     out: &mut O,
     err: &mut E,
@@ -366,9 +483,17 @@ fn perform_at<O: Sink, E: Sink>(
     }
     match found.hold(rt) {
         Ok(held) => {
-            let status = perform_in(rt, &found, path, order, out, err);
+            let place = Place {
+                path,
+                found: &found,
+                held: &held,
+            };
+            let status = perform_in(rt, place, order, out, err);
             drop(held);
             status
+        }
+        Err(error) if error.kind() == ErrorKind::WouldBlock => {
+            hand_over_held(rt, found.database(), words, order, out, err)
         }
         Err(error) if error.kind() == ErrorKind::OutOfMemory => {
             tell_failure(Failure::Office(Fault::Memory), err)
@@ -385,7 +510,7 @@ fn follow<O: Sink, E: Sink>(rt: &HostRuntime, words: &[&str], out: &mut O, err: 
     match order(rt.alloc(), words) {
         Ok(order) => {
             let path = words.first().copied().unwrap_or("");
-            perform_at(rt, path, &order, out, err)
+            perform_at(rt, path, words, &order, out, err)
         }
         Err(fault) => tell_words(&fault, out, err),
     }

@@ -150,6 +150,11 @@ impl Found {
         })
     }
 
+    /// The path of the database, where links lead.
+    pub fn database(&self) -> &str {
+        self.database.as_str()
+    }
+
     /// Holds the database. Where nothing was there, its file is made.
     pub fn hold(&self, rt: &HostRuntime) -> io::Result<Held> {
         let path = self.database.as_str();

@@ -1,5 +1,5 @@
--- The causes of faults, told of an earlier moment.
-use Rattle.std.proofs.Common.{◌≡◌, ◌≤◌, ◌∙◌, inl, inr, Bool, true, false, true≢false, refl, sym, arith}
+-- The causes of faults, told of an earlier moment; and that what is answered is one thing.
+use Rattle.std.proofs.Common.{◌≡◌, ◌≤◌, ◌∙◌, inl, inr, Bool, true, false, true≢false, Result, Ok, Err, refl, sym, ap, arith}
 use Rattle.sqlite.specs.State.{State, HasCleanDisk}
 use Rattle.tables.specs.declared.fault.Fault.{Fault}
 use Rattle.tables.specs.Reading.{FailsBy, HasFailed}
@@ -25,3 +25,18 @@ TellsSince a b c = (fault : Fault) → FailsBy b c fault → FailsBy a c fault
 pub since : (a b c : State) → HasCleanDisk b → Wears a b → Wears b c → TellsSince a b c
 since a b c clean first second fault (inl memory) = inl memory
 since a b c clean first second fault (inr (store, failed)) = inr (store, failed_since a b c clean first second.counts failed)
+
+-- ---- what is answered
+
+module _ {X E : Type 0} where
+  -- it isn't both a value and an error
+  pub told_one : {x : X} {why : E} (r : Result X E) → r ≡ Ok x → r ≡ Err why → ⊥
+  told_one {x} {why} r ok err = let bad : Ok x ≡ Err why = sym ok ∙ err in absurd (cc bad)
+
+  -- nor two errors
+  abbrev fault_in : Result X E → E → E
+  fault_in (Ok x) none = none
+  fault_in (Err why) none = why
+
+  pub told_fault : (why other : E) (r : Result X E) → r ≡ Err why → r ≡ Err other → why ≡ other
+  told_fault why other r first second = ap (λ (x : Result X E). fault_in x other) (sym first ∙ second)

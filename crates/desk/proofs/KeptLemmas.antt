@@ -23,11 +23,12 @@ use Rattle.store.proofs.ReopenLemmas.{left_holds, left_told}
 use Rattle.office.specs.Answers.{IsMemoryOrStore, Told}
 use Rattle.office.proofs.RunLemmas.{beginning}
 use Rattle.desk.specs.Folders.{Folder}
-use Rattle.desk.specs.Headline.{Course, IsAnswered, IsPerformed, IsPlayed, IsSent, IsStopped, IsUnsent, IsUntouched, Performs, answer, ended, told_above}
+use Rattle.desk.specs.Headline.{Course, IsAnswered, IsDone, IsPerformed, IsPlayed, IsSent, IsStopped, IsUnsent, IsUntouched, Performs, answer, ended, told_above}
 use Rattle.desk.specs.Pages.{Cut, uncut, IsShown, Outputs, Page, cut_below, empty_page, fronted, goes_on}
 use Rattle.desk.specs.Scripts.{keeps_going}
 use Rattle.desk.specs.Parts.{ComesTo}
 use Rattle.desk.specs.Told.{IsTold, page_answered}
+use Rattle.desk.specs.declared.orders.Job.{Job}
 use Rattle.desk.specs.declared.orders.Task.{Task}
 use Rattle.desk.specs.declared.orders.Task.TheVariants as task
 use Rattle.desk.specs.declared.scripts.Turn.{Turn}
@@ -202,6 +203,11 @@ kept_played old closed st keep folder s (turn ∷ turns) c (file, found, inl (ow
 kept_played old closed st keep folder s (turn ∷ turns) c (file, found, inr unsent) =
     kept_unsent old closed st keep turn.line (IsTold s turn.errand file) s c (λ e more. kept_played old closed st keep folder s turns e more) unsent
 
+-- a job that was done in an office that was open
+pub kept_done : (old : State) (closed : Bool) (st : State) (folder : Folder) (s : OfficeState) (job : Job) (c : Course) → IsDone old closed st folder s job c → Kept s c st
+kept_done old closed st folder s job c (inl (turns, are, played)) = kept_played old closed st (keeps_going job) folder s turns c played
+kept_done old closed st folder s job c (inr unsent) = kept_unsent old closed st false None _ s c (λ e never. absurd never) unsent
+
 kept_untouched : (Tells : Page → Type 0) (s : OfficeState) (c : Course) (st : State) → IsUntouched Tells s c st → Kept s c st
 kept_untouched Tells s c st (page, cut, is, told, leaves) = subst (λ e. Kept s e st) (sym is) (kept_none s None page cut st leaves)
 
@@ -209,8 +215,7 @@ kept_performed : (folder : Folder) (s : OfficeState) (task : Task) (c : Course) 
 kept_performed folder s task.Init c old new it = kept_untouched _ s c new it
 kept_performed folder s task.Migrate c old new it = kept_untouched _ s c new it
 kept_performed folder s (task.InOffice job) c old new (inr it) = kept_untouched _ s c new it
-kept_performed folder s (task.InOffice job) c old new (inl (closed, inl (turns, are, played))) = kept_played old closed new (keeps_going job) folder s turns c played
-kept_performed folder s (task.InOffice job) c old new (inl (closed, inr unsent)) = kept_unsent old closed new false None _ s c (λ e never. absurd never) unsent
+kept_performed folder s (task.InOffice job) c old new (inl (closed, done)) = kept_done old closed new folder s job c done
 
 -- ---- the promise
 

@@ -8,11 +8,11 @@ pub mod TellingLemmas
 pub mod CourseLemmas
 pub mod StageLemmas
 pub mod KeptLemmas
+pub mod OpenLemmas
 pub mod ScriptLemmas
 pub mod ScriptEnds
 pub mod CopyingLemmas
 pub mod JournalLemmas
-pub mod ServedLemmas
 pub mod WordsRefused
 pub mod FaultsRead
 pub mod PaperLemmas

@@ -22,7 +22,7 @@ use Rattle.desk.specs.declared.copying.CopyState.{CopyState}
 use Rattle.desk.specs.declared.copying.CopyState.TheVariants.{Whole, Untouched, Unknown}
 use Rattle.desk.specs.Pages.{Page, failed, replied}
 use Rattle.desk.specs.declared.lines.Failure.{Failure}
-use Rattle.desk.specs.declared.lines.Failure.TheVariants.{Office, CopyTaken, CopyFailed, Output}
+use Rattle.desk.specs.declared.lines.Failure.TheVariants.{Office, CopyTaken, CopyFailed, Output, BeingServed}
 
 -- the line that tells how much a copy has
 unfoldable pub copied_text : Holdings → Text
@@ -37,6 +37,7 @@ EndsCopying old new (Office fault) = FailsBy old new fault
 EndsCopying old new CopyTaken = ⊥
 EndsCopying old new CopyFailed = ⊤
 EndsCopying old new Output = ⊥
+EndsCopying old new BeingServed = ⊥
 
 -- what the other database holds where no copy is told: what it held before, but where writing it failed
 abbrev pub state_behind : CopyFault → CopyState
@@ -79,3 +80,10 @@ pub record IsCopied (page : Page) (left : CopyState) (old new copy_old copy_new 
   pub taken : old.in_transaction ≡ false → has_some_table copy_old.now.schema ≡ true → (page ≡ failed CopyTaken) × (left ≡ Untouched)
   pub reads : OnlyReads old new
   pub leaves : (db : Database) → RestsAt db old → (earlier : List Request) → IsLeftAt (after empty_office earlier) db → LeavesState new (λ x. x ≡ after empty_office earlier)
+
+-- What comes of the order in an office that is open at a state, and goes on: the copy keeps that very state, and it is told how much it has; or a failure
+-- is told, and a stop leaves of the copy what it could leave before, or the whole of it.
+abbrev pub IsCopiedOpen : OfficeState → Page → CopyState → State → State → Type 0
+IsCopiedOpen s page left copy_old copy_new =
+    ((page ≡ replied (copied_text (holdings_of s))) × (left ≡ Whole) × (HasCleanDisk copy_new → IsBlank copy_old → IsAt s copy_new))
+    ⊎ ((failure : Failure) × (page ≡ failed failure) × (HasCleanDisk copy_new → IsBlank copy_old → LeavesNoneOrAll s copy_old copy_new))

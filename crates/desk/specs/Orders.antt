@@ -164,7 +164,7 @@ pub data Meant : Type 0 where
   replay : Text → Bool → Meant
   copy : Text → Meant
   journal : Meant
-  serve : ℕ → ℕ → Option Text → Meant
+  serve : ℕ → Option ℕ → Option Text → Meant
   no_verdict : Meant
   no_origin : Meant
   no_digest : Meant
@@ -203,7 +203,7 @@ abbrev pub WordValue : Kind → Type 0
 WordValue kind.Number = ℕ
 WordValue kind.NumberOrNone = Option ℕ
 WordValue kind.Port = ℕ
-WordValue kind.Connections = ℕ
+WordValue kind.Connections = Option ℕ
 WordValue kind.Text = Text
 WordValue kind.Verdict = Judgement
 WordValue kind.Id = Text

@@ -25,7 +25,7 @@ use Rattle.desk.specs.Words.{bad_digest, bad_origin}
 use Rattle.desk.specs.declared.scripts.ScriptFault.{ScriptFault}
 use Rattle.desk.specs.declared.scripts.ScriptFault.TheVariants as script
 use Rattle.desk.specs.declared.lines.Failure.{Failure}
-use Rattle.desk.specs.declared.lines.Failure.TheVariants.{Office, Output, CopyTaken, CopyFailed}
+use Rattle.desk.specs.declared.lines.Failure.TheVariants.{Office, Output, CopyTaken, CopyFailed, BeingServed}
 use Rattle.desk.specs.declared.words.WordsFault.{WordsFault}
 use Rattle.desk.specs.declared.words.WordsFault.TheVariants as words
 use Rattle.desk.specs.declared.lines.Outcome.{Outcome}
@@ -57,6 +57,7 @@ failure_number (Office fault) = fault_number fault
 failure_number Output = 107
 failure_number CopyTaken = 109
 failure_number CopyFailed = 110
+failure_number BeingServed = 111
 
 -- and its text
 abbrev pub failure_text : Failure → Text
@@ -64,6 +65,7 @@ failure_text (Office fault) = fault_text fault
 failure_text Output = codes "socket or output"
 failure_text CopyTaken = codes "copy is there already"
 failure_text CopyFailed = codes "copy not written"
+failure_text BeingServed = codes "office is being served"
 
 -- why no copy was made; want of memory is told as ever
 abbrev pub failure_of : CopyFault → Failure
@@ -105,6 +107,10 @@ unread fault = record {
 -- why the program gives up
 abbrev pub failed : Failure → Page
 failed failure = record { out = []; err = numbered_line (codes "fault ") (failure_number failure) (failure_text failure); status = 3 }
+
+-- what a closed office tells
+abbrev pub closed_page : Page
+closed_page = failed (Office fault.Closed)
 
 -- that there is no journal of the office: the orders that were written from its tables don't make it
 abbrev pub unjournalled : Page

@@ -1,14 +1,15 @@
 //! A copy of the office.
 
-ghost use Rattle.std.specs.Prelude.{◌≡◌, ◌-◌, ◌^◌, ◌<◌, IfOk, string_bytes};
+ghost use Rattle.std.specs.Prelude.{◌≡◌, ◌-◌, ◌^◌, ◌<◌, true, IfOk, string_bytes};
 ghost use Rattle.sqlite.specs.State.{HasCleanDisk};
 ghost use Rattle.sqlite.specs.Held.{state};
 ghost use Rattle.tables.specs.Reading.{OnlyReads};
 ghost use Rattle.register.specs.Offices.{OfficeState};
 ghost use Rattle.store.specs.Offices.{IsAt, Wears};
 ghost use Rattle.store.specs.Openings.{IsBlank};
-ghost use Rattle.desk.specs.Copying.{HoldsCopy, IsCopied, copied_text, state_behind};
-ghost use Rattle.desk.specs.Pages.{Tells, outputs_of, page_of};
+ghost use Rattle.office.specs.Answers.{IsReadAt, WhenOpenAt};
+ghost use Rattle.desk.specs.Copying.{HoldsCopy, IsCopied, IsCopiedOpen, copied_text, state_behind};
+ghost use Rattle.desk.specs.Pages.{Tells, closed_page, outputs_of, page_of};
 
 use crate::lines::{Outcome, tell};
 use office::{Holdings, Office};
@@ -71,6 +72,61 @@ fn copied<S: Alter, T: Alter>(
         },
         Err(fault) => (Outcome::Uncopied(fault), state_behind(fault)),
     }
+}
+
+/// Copies an open office, which goes on, and says what came of it, and what the other database holds.
+fn copied_open<S: Alter, T: Alter>(
+    alloc: Global,
+    office: &mut Office<S>,
+    copy: &mut Connection<T>,
+) -> (Outcome, CopyState)
+    ensures holds { HoldsCopy result.1 (page_of result.0) (state T.Store copy.old) (state T.Store copy.new) }
+    ensures copied { WhenOpenAt (state S.Store) office.old office.new
+        (λ s. IsCopiedOpen s (page_of result.0) result.1 (state T.Store copy.old) (state T.Store copy.new) × IsReadAt s office.new.closed (state S.Store office.new.held)) }
+    ensures untouched { result.1 ≡ CopyState.Untouched → copy.new ≡ copy.old }
+    ensures reads { OnlyReads (state S.Store office.old.held) (state S.Store office.new.held) }
+    ensures closed { office.old.closed ≡ true → (page_of result.0 ≡ closed_page) × (office.new ≡ office.old) }
+    ensures wears { Wears (state T.Store copy.old) (state T.Store copy.new) }
+    ensures clean { HasCleanDisk (state T.Store copy.new) → HasCleanDisk (state T.Store copy.old) }
+{
+    match office.copy_open(copy) {
+        Ok(holdings) => match copied_text(alloc, holdings) {
+            Ok(text) => (Outcome::Replied(text), CopyState::Whole),
+            Err(_) => (Outcome::Failed(Fault::Memory), CopyState::Unknown),
+        },
+        Err(fault) => (Outcome::Uncopied(fault), state_behind(fault)),
+    }
+}
+
+/// Copies an open office, which goes on, into the database of another connection, which has nothing in it. Tells how much
+/// the copy has, and gives the status and what the other database holds. The connection isn't closed.
+///
+/// It is made as by `copy_office`, but the office is open already: no other is opened for it. It is only read. A closed office
+/// tells that it is closed.
+pub fn copy_open<S: Alter, T: Alter, O: Sink, E: Sink>(
+    alloc: Global,
+    office: &mut Office<S>,
+    copy: &mut Connection<T>,
+    out: &mut O,
+    err: &mut E,
+) -> (u8, CopyState)
+    requires out { O.failed out.old < 2 ^ 64 - 1 }
+    requires err { E.failed err.old < 2 ^ 64 - 1 }
+    ensures copied { let outputs = outputs_of O.taken O.failed E.taken E.failed in Tells (outputs out.old err.old) (outputs out.new err.new) result.0
+        (λ _ page. HoldsCopy result.1 page (state T.Store copy.old) (state T.Store copy.new)
+        × WhenOpenAt (state S.Store) office.old office.new (λ s. IsCopiedOpen s page result.1 (state T.Store copy.old) (state T.Store copy.new))
+        × (office.old.closed ≡ true → page ≡ closed_page)) }
+    ensures stays { WhenOpenAt (state S.Store) office.old office.new (λ s. IsReadAt s office.new.closed (state S.Store office.new.held)) }
+    ensures made { result.0 ≡ 0 → (result.1 ≡ CopyState.Whole)
+        × (HasCleanDisk (state T.Store copy.new) → IsBlank (state T.Store copy.old) → (s : OfficeState) × IsAt s (state T.Store copy.new)) }
+    ensures untouched { result.1 ≡ CopyState.Untouched → copy.new ≡ copy.old }
+    ensures reads { OnlyReads (state S.Store office.old.held) (state S.Store office.new.held) }
+    ensures closed { office.old.closed ≡ true → office.new ≡ office.old }
+    ensures wears { Wears (state T.Store copy.old) (state T.Store copy.new) }
+    ensures clean { HasCleanDisk (state T.Store copy.new) → HasCleanDisk (state T.Store copy.old) }
+{
+    let (outcome, state) = copied_open(alloc, office, copy);
+    (tell(None, &outcome, out, err), state)
 }
 
 /// Copies the office that an opened connection has into the database of another one, which has nothing in it. Tells how

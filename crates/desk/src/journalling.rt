@@ -1,15 +1,16 @@
 //! The journal of the office: its accepted orders as a script. It is printed once it was read back and played over an
 //! empty office, and made the same one.
 
-ghost use Rattle.std.specs.Prelude.{◌≡◌, ◌-◌, ◌^◌, ◌<◌, string_bytes, IfOk, IfSome};
+ghost use Rattle.std.specs.Prelude.{◌≡◌, ◌-◌, ◌^◌, ◌<◌, true, string_bytes, IfOk, IfSome};
 ghost use Rattle.sqlite.specs.State.{HasCleanDisk};
 ghost use Rattle.sqlite.specs.Held.{state};
 ghost use Rattle.tables.specs.Reading.{OnlyReads};
 ghost use Rattle.register.specs.Offices.{MapsRise};
 ghost use Rattle.rowcheck.specs.States.{state_of};
 ghost use Rattle.store.specs.Openings.{IsBlank};
+ghost use Rattle.office.specs.Answers.{IsReadAt, WhenOpenAt};
 ghost use Rattle.desk.specs.Journals.{AreSent, IsJournalTold, IsJournalled, IsScriptOf};
-ghost use Rattle.desk.specs.Pages.{Tells, outputs_of, page_of};
+ghost use Rattle.desk.specs.Pages.{Tells, closed_page, outputs_of, page_of};
 
 use crate::journal::journal_text;
 use crate::lines::{Outcome, tell};
@@ -109,6 +110,47 @@ fn journalled<S: Alter, T: Alter>(
         Ok(rows) => journal_of(alloc, &rows, blank),
         Err(fault) => (Outcome::Failed(fault), blank),
     }
+}
+
+/// The journal of an open office, which goes on, or why it isn't told.
+fn journalled_open<S: Alter, T: Alter>(
+    alloc: Global,
+    office: &mut Office<S>,
+    blank: Connection<T>,
+) -> (Outcome, Connection<T>)
+    ensures told { WhenOpenAt (state S.Store) office.old office.new
+        (λ s. (HasCleanDisk (state T.Store result.1) → IsBlank (state T.Store blank) → IsJournalTold s (page_of result.0)) × IsReadAt s office.new.closed (state S.Store office.new.held)) }
+    ensures reads { OnlyReads (state S.Store office.old.held) (state S.Store office.new.held) }
+    ensures closed { office.old.closed ≡ true → (page_of result.0 ≡ closed_page) × (office.new ≡ office.old) }
+{
+    match office.rows_open() {
+        Ok(rows) => journal_of(alloc, &rows, blank),
+        Err(fault) => (Outcome::Failed(fault), blank),
+    }
+}
+
+/// Prints the journal of an open office, which goes on, and gives the status. The other connection isn't closed.
+///
+/// It is tried and printed as by `journal_office`, but the office is open already: no other is opened for it. It is only read.
+/// A closed office tells that it is closed.
+pub fn journal_open<S: Alter, T: Alter, O: Sink, E: Sink>(
+    alloc: Global,
+    office: &mut Office<S>,
+    blank: Connection<T>,
+    out: &mut O,
+    err: &mut E,
+) -> (u8, Connection<T>)
+    requires out { O.failed out.old < 2 ^ 64 - 1 }
+    requires err { E.failed err.old < 2 ^ 64 - 1 }
+    ensures journalled { let outputs = outputs_of O.taken O.failed E.taken E.failed in Tells (outputs out.old err.old) (outputs out.new err.new) result.0
+        (λ _ page. WhenOpenAt (state S.Store) office.old office.new (λ s. HasCleanDisk (state T.Store result.1) → IsBlank (state T.Store blank) → IsJournalTold s page)
+        × (office.old.closed ≡ true → page ≡ closed_page)) }
+    ensures stays { WhenOpenAt (state S.Store) office.old office.new (λ s. IsReadAt s office.new.closed (state S.Store office.new.held)) }
+    ensures reads { OnlyReads (state S.Store office.old.held) (state S.Store office.new.held) }
+    ensures closed { office.old.closed ≡ true → office.new ≡ office.old }
+{
+    let (outcome, blank) = journalled_open(alloc, office, blank);
+    (tell(None, &outcome, out, err), blank)
 }
 
 /// Prints the journal of the office that an opened connection has, and gives the status. Neither connection is closed.

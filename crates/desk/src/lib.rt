@@ -3,9 +3,11 @@
 //! [`order`](words) reads the words to an [`Order`](orders), and [`perform`](perform) does its task over an
 //! opened connection, to any store of `sqlite`, and prints its lines. A file that it names, or that a script
 //! names, is opened by a [`Folder`](folders). Words that are no order, and other failures, are told by
-//! [`lines`](lines). An order to serve is followed by [`serve_on`](serving), over an opened office; one to copy by
-//! [`copy_office`](copying), and one for the journal by [`journal_office`](journalling), over two connections.
-//! Which files, outputs and sockets these are, the program says.
+//! [`lines`](lines). An order to copy is followed by [`copy_office`](copying), and one for the journal by
+//! [`journal_office`](journalling), over two connections; one to serve by the crate `hall`. In an office that is open
+//! already, as one that is served, [`follow`](replaying) does a job, and `copy_open` and `journal_open` copy it and print its
+//! journal. [`files_named_in`](bringing) says which files a script names, for who hands it over. Which files, outputs and sockets
+//! these are, the program says.
 //!
 //! ```text
 //! match order(alloc, words) {
@@ -24,6 +26,7 @@ mod verdicts;
 pub mod version;
 pub mod words;
 // A script to orders.
+pub mod bringing;
 mod cutting;
 pub mod folders;
 mod scripts;
@@ -39,21 +42,20 @@ pub mod lines;
 mod names;
 mod overviews;
 mod papers;
-pub mod patience;
 pub mod perform;
 mod printing;
 pub mod progress;
-mod replaying;
+pub mod replaying;
 mod sending;
-pub mod serving;
 mod standing;
 mod steps;
 
-pub use copying::{CopyState, copy_office};
+pub use bringing::files_named_in;
+pub use copying::{CopyState, copy_office, copy_open};
 pub use folders::Folder;
-pub use journalling::journal_office;
+pub use journalling::{journal_office, journal_open};
 pub use lines::{Failure, tell_failure, tell_words};
 pub use orders::{Errand, Job, KeyingFile, Order, Question, Task};
 pub use progress::Progress;
-pub use serving::serve_on;
+pub use replaying::follow;
 pub use words::{WordsFault, order};

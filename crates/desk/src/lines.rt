@@ -47,7 +47,8 @@ pub(crate) enum Outcome {
 }
 
 /// Why the program gives up: a fault of the office, told by its number 101 to 106 or 108; an output that
-/// fails, 107; or a copy that is there already, 109, or can't be written, 110.
+/// fails, 107; a copy that is there already, 109, or can't be written, 110; or an order that isn't for an office that is
+/// being served, 111.
 #[derive(Clone, Copy, Debug, PartialEq, Eq, Drop, Error)]
 #[error("{}", self.text())]
 pub enum Failure {
@@ -55,6 +56,7 @@ pub enum Failure {
     Output,
     CopyTaken,
     CopyFailed,
+    BeingServed,
 }
 
 impl Failure {
@@ -66,6 +68,7 @@ impl Failure {
             Failure::Output => 107,
             Failure::CopyTaken => 109,
             Failure::CopyFailed => 110,
+            Failure::BeingServed => 111,
         }
     }
 
@@ -77,6 +80,7 @@ impl Failure {
             Failure::Output => "socket or output",
             Failure::CopyTaken => "copy is there already",
             Failure::CopyFailed => "copy not written",
+            Failure::BeingServed => "office is being served",
         }
     }
 }

@@ -11,7 +11,7 @@ ghost use Rattle.desk.specs.Orders.{ask, no_digest, no_origin, no_verdict, order
 ghost use Rattle.keyfile.specs.Digests.{digest_bytes};
 ghost use Rattle.wire.specs.Origins.{origin_text};
 ghost use Rattle.desk.specs.Words.{digest_at, is_command_name, is_order_name, meaning, meaning_of, names_order, number_at, number_found, origin_at, sent, text_at};
-ghost use Rattle.desk.specs.Words.{flag_at, texts_at};
+ghost use Rattle.desk.specs.Words.{flag_at, limit_of, texts_at};
 
 use crate::orders::{Errand, Job, KeyingFile, Order, Question, Task};
 use crate::requests::{by_clerk, by_office};
@@ -200,6 +200,13 @@ fn flag_in(matches: &ArgMatches<'_>, word: Word) -> bool
     text_in(matches, word) == "true"
 }
 
+/// After how many connections serving ends, by the number of them; 0 stands for no limit.
+fn limit_of(number: u32) -> Option<u32>
+    ensures { result ≡ limit_of number }
+{
+    if number == 0 { None } else { Some(number) }
+}
+
 /// The origin that was matched, if one was.
 fn origin_in<'a>(matches: &ArgMatches<'a>) -> Result<Option<Origin<'a>>, NoOrder>
     ensures ok { IfOk result (λ found. origin_at (codes "origin") (rows_of (found_of matches.now)) ≡ option_map (λ o. Some (origin_text o)) found) }
@@ -385,7 +392,7 @@ fn serve<'a>(matches: &ArgMatches<'a>) -> Result<Order<'a>, NoOrder>
 {
     Ok(Order::Serve {
         port: number_in(matches, PORT),
-        connections: number_in(matches, CONNECTIONS),
+        connections: limit_of(number_in(matches, CONNECTIONS)),
         origin: origin_in(matches)?,
     })
 }

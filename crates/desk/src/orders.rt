@@ -149,10 +149,11 @@ pub enum Order<'a> {
     },
     /// Print the journal of the office.
     Journal,
-    /// Answer so many connections on a port of this machine, and pages of an origin through a proxy, if one is given.
+    /// Answer connections on a port of this machine, and pages of an origin through a proxy, if one is given. It ends
+    /// after so many connections, or with no number never.
     Serve {
         port: u32,
-        connections: u32,
+        connections: Option<u32>,
         origin: Option<Origin<'a>>,
     },
 }

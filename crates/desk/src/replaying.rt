@@ -219,7 +219,10 @@ fn replay<S: Alter, F: Folder, O: Sink, E: Sink>(
 }
 
 /// Does a job in an opened office, tells what comes of it, and gives the status.
-pub(crate) fn follow<S: Alter, F: Folder, O: Sink, E: Sink>(
+///
+/// So `perform` does, which opens the office for it. An office that is served is open already: an order that is handed over
+/// to it is followed here.
+pub fn follow<S: Alter, F: Folder, O: Sink, E: Sink>(
     alloc: Global,
     office: &mut Office<S>,
     job: &Job<'_>,

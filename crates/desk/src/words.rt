@@ -97,7 +97,7 @@ fn arg_of<'a>(alloc: Global, word: Word) -> Arg<'a>
             arg.value_parser(port).required(true)
         }
         Kind::Connections => {
-            let connections = value_parser!(u32).range(1..=MAX_CONNECTIONS);
+            let connections = value_parser!(u32).range(0..=MAX_CONNECTIONS);
             arg.value_parser(connections).required(true)
         }
         Kind::Text | Kind::Verdict => arg.required(true),

@@ -4,7 +4,6 @@ use Rattle.keyfile.specs.Records.{Record}
 use Rattle.paper.specs.Digits.{plain_number_in}
 use Rattle.keyfile.specs.Files.{Format}
 use Rattle.keyfile.specs.declared.candidates.CandidateRow.{CandidateRow}
-use Rattle.keyfile.specs.declared.candidates.TheConstants.{MOST_CANDIDATE_ROWS}
 use Rattle.keyfile.specs.declared.fault.Flaw.{Flaw}
 use Rattle.keyfile.specs.declared.fault.Flaw.TheVariants.{Header, RecordLength, Number}
 
@@ -36,6 +35,10 @@ abbrev pub candidate_in : Record → Result CandidateEntry Flaw
 candidate_in (ward ∷ candidate ∷ name ∷ []) = numbered (plain_number_in ward) (plain_number_in candidate) name
 candidate_in other = Err RecordLength
 
--- the file of candidates: 30 of each of 99 wards at most
+-- so many candidates stand at most: 30 in each of 99 wards
+abbrev pub most_candidates : ℕ
+most_candidates = 2970
+
+-- the file of candidates, which has all of them at most
 abbrev pub candidates : Format CandidateEntry
-candidates = record { header_flaw = candidate_header_flaw; most = MOST_CANDIDATE_ROWS; read = λ k fields. candidate_in fields }
+candidates = record { header_flaw = candidate_header_flaw; most = most_candidates; read = λ k fields. candidate_in fields }

@@ -8,7 +8,6 @@ use Rattle.keyfile.specs.Records.{Record}
 use Rattle.paper.specs.Digits.{plain_number_in}
 use Rattle.keyfile.specs.Files.{Format}
 use Rattle.keyfile.specs.declared.fault.Flaw.{Flaw}
-use Rattle.keyfile.specs.declared.keying.TheConstants.{MOST_PAPERS}
 use Rattle.keyfile.specs.declared.fault.Flaw.TheVariants.{Header, RecordLength, Number, PaperOrder, Marks}
 
 -- whether a number was read and is this one
@@ -69,9 +68,13 @@ abbrev pub paper_in : ℕ → Record → Result (List ℕ) Flaw
 paper_in k [] = Err RecordLength
 paper_in k (paper ∷ marks) = of_number k (plain_number_in paper) marks
 
+-- a batch has so many papers at most
+abbrev pub most_papers : ℕ
+most_papers = 500
+
 -- the file of a clerk's keying of a batch, whose papers have some columns: the papers of one batch at most
 abbrev pub keying : List ℕ → ℕ → ℕ → Format (List ℕ)
-keying columns batch clerk = record { header_flaw = keying_header_flaw columns batch clerk; most = MOST_PAPERS; read = paper_in }
+keying columns batch clerk = record { header_flaw = keying_header_flaw columns batch clerk; most = most_papers; read = paper_in }
 
 -- the marks text of a paper with some columns is read as its mark fields say: as doubtful, or as the mark of each field
 -- beside its column

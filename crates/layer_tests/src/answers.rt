@@ -1,12 +1,15 @@
 //! What the checker tells over files that can't be read, memory that is wanting, and outputs that fail. (What else it tells is
 //! played in examples/checking.sh and examples/transcripts/checks.txt.)
 
+ghost use Rattle.std.specs.Prelude.{◌-◌, ◌^◌, ◌<◌};
+
+use crate::printed::is_told;
 use crate::recounts::{BALLOTS, SHEET};
 use recount::{Folder, Unread, WordsFault, run};
-use std::alloc::Global;
+use std::alloc::{AllocError, Global};
 use std::process::Abort;
 use std::test::Fail;
-use votes::Counted;
+use votes::{Counted, Sink};
 
 /// What is told of the sheet.
 const IS_SHEET: &str =
@@ -43,98 +46,113 @@ impl Folder for Shelf<'_> {
     }
 }
 
-/// Asks the checker by some words, and compares what it tells on the output and the error output, and its status.
-fn asks(
-    rt: &(impl Abort + AllocGlobal),
-    words: Result<&str, WordsFault>,
-    told: (&str, &str, u8),
-) -> Result<(), Fail> {
-    let alloc = rt.alloc();
-    let words = match words {
-        Ok(words) => {
-            let mut all = Vec::new(alloc);
-            for word in words.split_whitespace() {
-                all.push(String::from_str(alloc, word)?)?;
-            }
-            Ok(all)
-        }
-        Err(fault) => Err(fault),
-    };
-    let folder = Shelf {
-        alloc,
-        ballots: BALLOTS,
-        text: SHEET,
-    };
-    let (mut out, mut err) = (Vec::new(alloc), Vec::new(alloc));
-    let status = run(
-        alloc,
-        &words,
-        &folder,
-        &mut Counted::new(&mut out),
-        &mut Counted::new(&mut err),
-    );
-    assert_eq!(rt; String::from_utf8(out)?.as_str(), told.0);
-    assert_eq!(rt; String::from_utf8(err)?.as_str(), told.1);
-    assert_eq!(rt; status, told.2);
-    Ok(())
-}
-
-/// The checker is asked, and what it can't read is told.
-fn asks_all(rt: &(impl Abort + AllocGlobal)) -> Result<(), Fail> {
-    let not_text = ("", "error: a word is not UTF-8\n", 2);
-    asks(rt, Err(WordsFault::NotUtf8), not_text)?;
-    let memory = ("", "error: memory is wanting\n", 3);
-    asks(rt, Err(WordsFault::Memory), memory)?;
-    asks(rt, Ok("large text"), memory)?;
-    asks(rt, Ok("ballots large"), memory)?;
-    for words in ["no\u{1b}ne nothing", "ballots no\u{1b}ne"] {
-        let unread = ("", "error: no?ne can't be read: there is none\n", 3);
-        asks(rt, Ok(words), unread)?;
+/// Some words, parted by spaces.
+fn words_of(alloc: Global, words: &str) -> Result<Vec<String>, AllocError> {
+    let mut all = Vec::new(alloc);
+    for word in words.split_whitespace() {
+        all.push(String::from_str(alloc, word)?)?;
     }
-    asks(rt, Ok("ballots text"), (IS_SHEET, "", 0))
+    Ok(all)
 }
 
-/// The status, and what was taken, where the outputs take so many bytes.
-fn breaks(
-    rt: &(impl Abort + AllocGlobal),
+/// Asks the checker, of which a text lies on the shelf beside the ballots, by some words, and gives its status.
+fn asked<O: Sink, E: Sink>(
+    alloc: Global,
+    words: &Result<Vec<String>, WordsFault>,
     text: &str,
-    (room, error_room): (usize, usize),
-    told: (&str, &str),
-) -> Result<(), Fail> {
-    let alloc = rt.alloc();
-    let (mut out, mut err) = (vec![in alloc; 0; room]?, vec![in alloc; 0; error_room]?);
+    out: &mut O,
+    err: &mut E,
+) -> u8
+    requires out { O.failed out.old < 2 ^ 64 - 1 }
+    requires err { E.failed err.old < 2 ^ 64 - 1 }
+{
     let folder = Shelf {
         alloc,
         ballots: BALLOTS,
         text,
     };
-    let mut words = Vec::new(alloc);
-    for word in ["ballots", "text"] {
-        words.push(String::from_str(alloc, word)?)?;
-    }
-    let status = run(
-        alloc,
-        &Ok(words),
-        &folder,
-        &mut Counted::new(out.as_mut_slice()),
-        &mut Counted::new(err.as_mut_slice()),
-    );
-    assert_eq!(rt; status, 3);
-    assert_eq!(rt; String::from_utf8(out)?.as_str(), told.0);
-    assert_eq!(rt; String::from_utf8(err)?.as_str(), told.1);
+    run(alloc, words, &folder, out, err)
+}
+
+/// Asks the checker by some words, and compares what it tells on the output and the error output, and its status.
+fn tells(
+    rt: &(impl Abort + AllocGlobal),
+    words: &Result<Vec<String>, WordsFault>,
+    told: &(&str, &str, u8),
+) {
+    let (mut out, mut err) = (Vec::new(rt.alloc()), Vec::new(rt.alloc()));
+    let (mut to_out, mut to_err) = (Counted::new(&mut out), Counted::new(&mut err));
+    let status = asked(rt.alloc(), words, SHEET, &mut to_out, &mut to_err);
+    is_told(rt, &out, told.0);
+    is_told(rt, &err, told.1);
+    assert!(rt; status == told.2);
+}
+
+/// The same by words that can be read.
+fn asks(rt: &(impl Abort + AllocGlobal), words: &str, told: &(&str, &str, u8)) -> Result<(), Fail> {
+    let words = Ok(words_of(rt.alloc(), words)?);
+    tells(rt, &words, told);
     Ok(())
+}
+
+/// What is told where memory is wanting.
+const MEMORY: (&str, &str, u8) = ("", "error: memory is wanting\n", 3);
+
+/// What is told of a file that can't be read.
+const UNREAD: (&str, &str, u8) = ("", "error: no?ne can't be read: there is none\n", 3);
+
+/// The words that the checker is asked by, and what it tells.
+const ASKED: [(&str, (&str, &str, u8)); 5] = [
+    ("large text", MEMORY),
+    ("ballots large", MEMORY),
+    ("no\u{1b}ne nothing", UNREAD),
+    ("ballots no\u{1b}ne", UNREAD),
+    ("ballots text", (IS_SHEET, "", 0)),
+];
+
+/// Asks the checker over outputs that take no more bytes than they have room for, and gives its status.
+fn asked_over(alloc: Global, text: &str, out: &mut [u8], err: &mut [u8]) -> Result<u8, Fail> {
+    let words = Ok(words_of(alloc, "ballots text")?);
+    let (mut to_out, mut to_err) = (Counted::new(out), Counted::new(err));
+    Ok(asked(alloc, &words, text, &mut to_out, &mut to_err))
+}
+
+/// What is told of a text over outputs that have room for just this.
+fn breaks(
+    rt: &(impl Abort + AllocGlobal),
+    (text, out_told, err_told): &(&str, &str, &str),
+) -> Result<(), Fail> {
+    let mut out = vec![in rt.alloc(); 0; out_told.len()]?;
+    let mut err = vec![in rt.alloc(); 0; err_told.len()]?;
+    let status = asked_over(rt.alloc(), *text, &mut out, &mut err)?;
+    assert!(rt; status == 3);
+    is_told(rt, &out, *out_told);
+    is_told(rt, &err, *err_told);
+    Ok(())
+}
+
+/// A text, and what an output and an error output take that have no room for more.
+const BROKEN: [(&str, &str, &str); 3] = [
+    (SHEET, "the text", "error: the output failed\n"),
+    (SHEET, "", "error"),
+    ("", "", "line 1"),
+];
+
+/// The checker's words can't be read.
+fn tells_no_words(rt: &(impl Abort + AllocGlobal)) {
+    let not_text = ("", "error: a word is not UTF-8\n", 2);
+    tells(rt, &Err(WordsFault::NotUtf8), &not_text);
+    tells(rt, &Err(WordsFault::Memory), &MEMORY);
 }
 
 #[test]
 fn what_fails_is_told(rt: HostRuntime) -> Result<(), Fail> {
-    asks_all(&rt)?;
-    breaks(
-        &rt,
-        SHEET,
-        (8, 25),
-        ("the text", "error: the output failed\n"),
-    )?;
-    breaks(&rt, SHEET, (0, 5), ("", "error"))?;
-    breaks(&rt, "", (0, 6), ("", "line 1"))?;
+    tells_no_words(&rt);
+    for (words, told) in &ASKED {
+        asks(&rt, *words, told)?;
+    }
+    for case in &BROKEN {
+        breaks(&rt, case)?;
+    }
     Ok(())
 }

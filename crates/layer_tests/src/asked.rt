@@ -2,14 +2,15 @@
 
 ghost use Rattle.std.specs.Prelude.{◌-◌, ◌^◌, ◌<◌};
 
+use crate::printed::is_text;
 use std::alloc::{AllocError, Global};
 use std::fmt::Write;
+use std::io;
 use std::io::{ErrorKind, Read};
 use std::process::Abort;
 use std::test::Fail;
-use std::{fmt, io};
 use votes::{Counted, Source};
-use wire::{Asked, Denial, Origin, Unread, read_asked};
+use wire::{Asked, Denial, Keying, Origin, Unread, read_asked};
 
 /// How long a head may be, in bytes, how many headers it may have, and how long a body may be.
 const MAX_HEAD_BYTES: usize = 8192;
@@ -39,33 +40,59 @@ impl<'a> Read for Slow<'a> {
     }
 }
 
+/// A keying that is asked for, in short.
+fn keying_words(alloc: Global, keying: &Keying) -> Result<String, AllocError> {
+    let (clerk, batch, round) = (keying.clerk, keying.batch, keying.round);
+    let id = keying.id.as_str();
+    let mut text = format!(in alloc; "{clerk} keys {batch} round {round} as {id}:")?;
+    for paper in &keying.papers {
+        write!(text, " [{}]", paper.as_str())?;
+    }
+    Ok(text)
+}
+
+/// Why a request is denied, in short.
+fn denial_words(alloc: Global, why: &Denial) -> Result<String, AllocError> {
+    match why {
+        Denial::MethodNotAllowed { allowed } => format!(in alloc; "only {allowed:?}"),
+        _ => format!(in alloc; "{why:?}"),
+    }
+}
+
+/// What a request asks, or why it wasn't read, in short.
+fn words_of(alloc: Global, came: &Result<Asked, Unread>) -> Result<String, AllocError> {
+    match came {
+        Ok(Asked::Keying(keying)) => keying_words(alloc, keying),
+        Ok(Asked::Reading(what)) => format!(in alloc; "{what:?}"),
+        Ok(Asked::Denied(why)) => denial_words(alloc, why),
+        Err(Unread::Broken) => String::from_str(alloc, "broken"),
+        Err(Unread::Memory) => String::from_str(alloc, "memory"),
+    }
+}
+
 /// What is asked, in short, of an office that was given the origin of a proxy or none.
 fn asked_text<R: Source>(
     alloc: Global,
     origin: Option<Origin<'_>>,
     reader: &mut R,
-) -> Result<String, fmt::Error>
+) -> Result<String, AllocError>
     requires { R.failed reader.old < 2 ^ 64 - 1 }
 {
-    let mut text = String::new(alloc);
-    match read_asked(alloc, origin, reader) {
-        Ok(Asked::Keying(keying)) => {
-            let (id, papers) = (keying.id.as_str(), &keying.papers);
-            let (clerk, batch, round) = (keying.clerk, keying.batch, keying.round);
-            write!(text, "{clerk} keys {batch} round {round} as {id}:")?;
-            for paper in papers {
-                write!(text, " [{}]", paper.as_str())?;
-            }
-        }
-        Ok(Asked::Reading(what)) => write!(text, "{what:?}")?,
-        Ok(Asked::Denied(Denial::MethodNotAllowed { allowed })) => {
-            write!(text, "only {allowed:?}")?;
-        }
-        Ok(Asked::Denied(why)) => write!(text, "{why:?}")?,
-        Err(Unread::Broken) => write!(text, "broken")?,
-        Err(Unread::Memory) => write!(text, "memory")?,
-    }
-    Ok(text)
+    words_of(alloc, &read_asked(alloc, origin, reader))
+}
+
+/// Reads a request.
+fn asks_in<R: Source>(
+    rt: &(impl Abort + AllocGlobal),
+    origin: Option<Origin<'_>>,
+    reader: &mut R,
+    asked: &str,
+) -> Result<(), Fail>
+    requires { R.failed reader.old < 2 ^ 64 - 1 }
+{
+    let text = asked_text(rt.alloc(), origin, reader)?;
+    is_text(rt, text.as_str(), asked);
+    Ok(())
 }
 
 /// Reads a request given at once, and one byte at a time.
@@ -75,20 +102,12 @@ pub fn asks_of(
     request: &[u8],
     asked: &str,
 ) -> Result<(), Fail> {
-    let mut reader = Counted::new(request);
-    assert_eq!(rt;
-        asked_text(rt.alloc(), origin, &mut reader)?.as_str(),
-        asked
-    );
-    let mut reader = Counted::new(Slow {
+    asks_in(rt, origin, &mut Counted::new(request), asked)?;
+    let slow = Slow {
         left: request,
         fails: false,
-    });
-    assert_eq!(rt;
-        asked_text(rt.alloc(), origin, &mut reader)?.as_str(),
-        asked
-    );
-    Ok(())
+    };
+    asks_in(rt, origin, &mut Counted::new(slow), asked)
 }
 
 /// The same of an office that was given no origin.
@@ -184,90 +203,136 @@ const BODIES: [(&str, &str); 13] = [
     ("", "BadRequest"),
 ];
 
+fn asks_target(rt: &(impl Abort + AllocGlobal), (line, asked): &(&str, &str)) -> Result<(), Fail> {
+    let request = format!(in rt.alloc(); "{line}\r\nContent-Length: x\r\n\r\n")?;
+    asks(rt, request.as_bytes(), *asked)
+}
+
+fn asks_keying(
+    rt: &(impl Abort + AllocGlobal),
+    headers: &str,
+    body: &str,
+    asked: &str,
+) -> Result<(), Fail> {
+    let request = keying(rt.alloc(), headers, body)?;
+    asks(rt, request.as_bytes(), asked)
+}
+
+fn asks_body(rt: &(impl Abort + AllocGlobal), (body, asked): &(&str, &str)) -> Result<(), Fail> {
+    let headers = format!(in rt.alloc(); "Content-Length: {}\r\n", body.len())?;
+    asks_keying(rt, headers.as_str(), *body, *asked)
+}
+
 #[test]
 fn targets_lengths_and_bodies(rt: HostRuntime) -> Result<(), Fail> {
-    for (line, asked) in TARGETS {
-        let request = format!(in rt.alloc(); "{line}\r\nContent-Length: x\r\n\r\n")?;
-        asks(&rt, request.as_bytes(), asked)?;
+    for case in &TARGETS {
+        asks_target(&rt, case)?;
     }
-    for (headers, asked) in LENGTHS {
-        asks(&rt, keying(rt.alloc(), headers, BODY)?.as_bytes(), asked)?;
+    for (headers, asked) in &LENGTHS {
+        asks_keying(&rt, *headers, BODY, *asked)?;
     }
-    for (body, asked) in BODIES {
-        let headers = format!(in rt.alloc(); "Content-Length: {}\r\n", body.len())?;
-        let request = keying(rt.alloc(), headers.as_str(), body)?;
-        asks(&rt, request.as_bytes(), asked)?;
+    for case in &BODIES {
+        asks_body(&rt, case)?;
     }
     Ok(())
 }
 
+/// A text with another behind it so many times.
+fn repeated(alloc: Global, text: &str, more: &str, times: usize) -> Result<String, AllocError> {
+    let mut long = String::from_str(alloc, text)?;
+    for _ in 0..times {
+        long.push_str(more)?;
+    }
+    Ok(long)
+}
+
+/// A text with another, of which there are so many, and its end behind it.
+fn asks_long(
+    rt: &(impl Abort + AllocGlobal),
+    text: &str,
+    (more, times): (&str, usize),
+    end: &str,
+    asked: &str,
+) -> Result<(), Fail> {
+    let mut request = repeated(rt.alloc(), text, more, times)?;
+    request.push_str(end)?;
+    asks(rt, request.as_bytes(), asked)
+}
+
+/// A head that is one header of so many bytes, with such an end.
+fn asks_long_head(
+    rt: &(impl Abort + AllocGlobal),
+    (length, end, asked): &(usize, &str, &str),
+) -> Result<(), Fail> {
+    let begun = "GET /wards/7/sheet HTTP/1.1\r\nA: ";
+    let times = length.saturating_sub(begun.len()).saturating_sub(end.len());
+    asks_long(rt, begun, ("x", times), *end, *asked)
+}
+
+/// How long a head is, its end, and what it asks.
+const LONG_HEADS: [(usize, &str, &str); 3] = [
+    (MAX_HEAD_BYTES, "\r\n\r\n", "Sheet { ward: 7 }"),
+    (MAX_HEAD_BYTES + 1, "\r\n\r\n", "BadRequest"),
+    (MAX_HEAD_BYTES + 1, "xxxx", "BadRequest"),
+];
+
+/// How many headers there are, and what is asked with them.
+const MANY_HEADERS: [(usize, &str); 2] = [
+    (MAX_HEADERS, "Sheet { ward: 7 }"),
+    (MAX_HEADERS + 1, "BadRequest"),
+];
+
+/// A body that is nothing but brackets.
+fn asks_nested(rt: &(impl Abort + AllocGlobal)) -> Result<(), Fail> {
+    let nested = repeated(rt.alloc(), "", "[", 200)?;
+    asks_keying(rt, "Content-Length: 200\r\n", nested.as_str(), "BadRequest")
+}
+
+/// A keying whose body is the longest that may be, of spaces alone.
+fn spaces(alloc: Global) -> Result<String, AllocError> {
+    let headers = format!(in alloc; "Content-Length: {MAX_BODY_BYTES}\r\n")?;
+    let head = keying(alloc, headers.as_str(), "")?;
+    repeated(alloc, head.as_str(), " ", MAX_BODY_BYTES as usize)
+}
+
+/// It is read at once: one byte at a time it would take long.
+fn asks_spaces(rt: &(impl Abort + AllocGlobal)) -> Result<(), Fail> {
+    let request = spaces(rt.alloc())?;
+    let mut reader = Counted::new(request.as_bytes());
+    asks_in(rt, None, &mut reader, "BadRequest")
+}
+
 #[test]
 fn long_heads_and_bodies(rt: HostRuntime) -> Result<(), Fail> {
-    for (length, end, asked) in [
-        (MAX_HEAD_BYTES, "\r\n\r\n", "Sheet { ward: 7 }"),
-        (MAX_HEAD_BYTES + 1, "\r\n\r\n", "BadRequest"),
-        (MAX_HEAD_BYTES + 1, "xxxx", "BadRequest"),
-    ] {
-        let mut request = String::from_str(rt.alloc(), "GET /wards/7/sheet HTTP/1.1\r\nA: ")?;
-        for _ in request.len()..length.saturating_sub(end.len()) {
-            request.push('x')?;
-        }
-        request.push_str(end)?;
-        asks(&rt, request.as_bytes(), asked)?;
+    for case in &LONG_HEADS {
+        asks_long_head(&rt, case)?;
     }
-    for (count, asked) in [
-        (MAX_HEADERS, "Sheet { ward: 7 }"),
-        (MAX_HEADERS + 1, "BadRequest"),
-    ] {
-        let mut request = String::from_str(rt.alloc(), "GET /wards/7/sheet HTTP/1.1\r\n")?;
-        for _ in 0..count {
-            request.push_str("A: b\r\n")?;
-        }
-        request.push_str("\r\n")?;
-        asks(&rt, request.as_bytes(), asked)?;
+    let line = "GET /wards/7/sheet HTTP/1.1\r\n";
+    for (count, asked) in &MANY_HEADERS {
+        asks_long(&rt, line, ("A: b\r\n", *count), "\r\n", *asked)?;
     }
-    let mut nested = String::new(rt.alloc());
-    for _ in 0..200u32 {
-        nested.push('[')?;
-    }
-    let headers = "Content-Length: 200\r\n";
-    asks(
-        &rt,
-        keying(rt.alloc(), headers, nested.as_str())?.as_bytes(),
-        "BadRequest",
-    )?;
-    let headers = format!(in rt.alloc(); "Content-Length: {MAX_BODY_BYTES}\r\n")?;
-    let mut spaces = keying(rt.alloc(), headers.as_str(), "")?;
-    for _ in 0..MAX_BODY_BYTES {
-        spaces.push(' ')?;
-    }
-    let mut reader = Counted::new(spaces.as_bytes());
-    assert_eq!(&rt;
-        asked_text(rt.alloc(), None, &mut reader)?.as_str(),
-        "BadRequest"
-    );
+    asks_nested(&rt)?;
+    asks_spaces(&rt)
+}
+
+/// Reads a request of which no more than this comes before the reader fails: nothing is asked, and one failure is counted,
+/// unless it is whole.
+fn breaks_off(rt: &(impl Abort + AllocGlobal), left: &[u8], is_whole: bool) -> Result<(), Fail> {
+    let mut reader = Counted::new(Slow { left, fails: true });
+    let wanted = if is_whole { KEYED } else { "broken" };
+    asks_in(rt, None, &mut reader, wanted)?;
+    assert_eq!(rt; reader.failures(), u64::from(!is_whole));
     Ok(())
 }
 
 #[test]
 fn a_reader_that_fails(rt: HostRuntime) -> Result<(), Fail> {
     let request = keying(rt.alloc(), "Content-Length: 43\r\n", BODY)?;
-    for length in 0..request.len() + 1 {
-        let left = &request.as_bytes()[..length];
-        let wanted = if length < request.len() {
-            "broken"
-        } else {
-            KEYED
-        };
-        let mut reader = Counted::new(Slow { left, fails: true });
-        assert_eq!(&rt; asked_text(rt.alloc(), None, &mut reader)?.as_str(), wanted);
-        assert_eq!(&rt; reader.failures(), u64::from(length < request.len()));
-        let wanted = if length < request.len() {
-            "BadRequest"
-        } else {
-            KEYED
-        };
-        asks(&rt, left, wanted)?;
+    let bytes = request.as_bytes();
+    for length in 0..bytes.len() + 1 {
+        let (left, is_whole) = (&bytes[..length], length == bytes.len());
+        breaks_off(&rt, left, is_whole)?;
+        asks(&rt, left, if is_whole { KEYED } else { "BadRequest" })?;
     }
     Ok(())
 }

@@ -1,12 +1,15 @@
 //! The ballots of a ward, byte for byte.
 
+ghost use Rattle.std.specs.Prelude.{◌-◌, ◌^◌, ◌<◌};
+
+use crate::counts::bundles_of;
+use crate::printed::{Printed, candidates_of, prints};
 use count::Bundles;
-use paper::Prefs;
 use sheet::{Poll, Ward, ballots_text, can_be_printed, write_ballots};
-use std::alloc::{AllocError, Global};
+use std::alloc::Global;
 use std::process::Abort;
 use std::test::Fail;
-use votes::{Counted, MAX_PAPERS, Sink};
+use votes::{Broken, Sink};
 
 /// Nobody stands at the numbers 2, 4 and 5, and names have what stands in quotation marks with a backslash.
 const GAPS: &str = r#"6 2
@@ -29,72 +32,84 @@ const GAPS: &str = r#"6 2
 # Lot at stage 4: 6
 "#;
 
-/// The bundles of some papers.
-fn bundles_of(alloc: Global, papers: &[(u32, &[u8])]) -> Result<Bundles, Fail> {
-    let mut bundles = Bundles::new(alloc);
-    for (count, list) in papers {
-        let prefs = Prefs::from_slice(list).ok_or("no ranking")?;
-        for _ in 0..*count {
-            if bundles.papers() == MAX_PAPERS {
-                return Err(Fail::from("too many papers"));
-            }
-            bundles.add(prefs)?;
+/// The ballots of a ward.
+#[derive(Drop)]
+struct WardBallots<'a> {
+    ward: &'a Ward<'a>,
+    bundles: &'a Bundles,
+    lots: &'a [(u8, u8)],
+}
+
+impl<'a> Printed for WardBallots<'a> {
+    fn text(&self, alloc: Global) -> Result<String, Fail> {
+        if !can_be_printed(self.ward) {
+            return Err(Fail::from("no ward that can be printed"));
         }
+        Ok(ballots_text(alloc, self.ward, self.bundles, self.lots)?)
     }
-    Ok(bundles)
+
+    fn write<W: Sink>(&self, sink: &mut W) -> Result<(), Broken> {
+        if !can_be_printed(self.ward) {
+            return Err(Broken);
+        }
+        write_ballots(sink, self.ward, self.bundles, self.lots)
+    }
 }
 
-/// Prints the ballots of a ward: as a text, to a sink, and to one of 20 bytes.
-fn prints(
+/// The candidates of the ward.
+const NAMED: [(u8, &str); 3] = [(1, "Ann"), (3, "B. \"Bob\" \\ Brün"), (6, "Cy")];
+
+/// Its papers.
+const PAPERS: [(u32, &[u8]); 4] = [(1, &[6]), (2, &[1, 6]), (3, &[1, 3, 6]), (2, &[1])];
+
+fn prints_poll_of(
     rt: &(impl Abort + AllocGlobal),
-    ward: &Ward,
+    candidates: &[(u8, String)],
     bundles: &Bundles,
-    lots: &[(u8, u8)],
-    ballots: &str,
 ) -> Result<(), Fail> {
-    assert!(rt; can_be_printed(ward));
-    let text = ballots_text(rt.alloc(), ward, bundles, lots)?;
-    assert_eq!(rt; text.as_str(), ballots);
-    let mut page = Vec::new(rt.alloc());
-    write_ballots(&mut Counted::new(&mut page), ward, bundles, lots)?;
-    assert!(rt; page.as_slice() == ballots.as_bytes());
-    let mut room = [0; 20];
-    let mut sink = Counted::new(room.as_mut_slice());
-    assert!(rt; write_ballots(&mut sink, ward, bundles, lots).is_err());
-    assert_eq!(rt; sink.failures(), 1);
-    assert!(rt; ballots.as_bytes().starts_with(&room));
-    Ok(())
-}
-
-#[test]
-fn ballots(rt: HostRuntime) -> Result<(), Fail> {
-    let mut candidates = Vec::new(rt.alloc());
-    for (c, name) in [(1, "Ann"), (3, "B. \"Bob\" \\ Brün"), (6, "Cy")] {
-        candidates.push((c, String::from_str(rt.alloc(), name)?))?;
-    }
-    let mut ward = Ward {
+    let ward = Ward {
         number: 7,
         name: "Harbour # 7",
         seats: 2,
-        candidates: &candidates,
+        candidates,
         poll: Some(Poll {
             valid: 8,
             rejected: [1, 20, 300, 4000, 50000],
         }),
     };
-    let papers: [(u32, &[u8]); 4] = [(1, &[6]), (2, &[1, 6]), (3, &[1, 3, 6]), (2, &[1])];
-    let bundles = bundles_of(rt.alloc(), &papers)?;
-    prints(&rt, &ward, &bundles, &[(2, 3), (4, 6)], GAPS)?;
-    ward.candidates = &[];
-    ward.seats = 15;
-    ward.poll = None;
-    let none = Bundles::new(rt.alloc());
-    prints(
-        &rt,
-        &ward,
-        &none,
-        &[],
-        "0 15\n0\n\"Harbour # 7\"\n# Ward 7\n",
-    )?;
-    Ok(())
+    let printed = WardBallots {
+        ward: &ward,
+        bundles,
+        lots: &[(2, 3), (4, 6)],
+    };
+    prints(rt, &printed, GAPS)
+}
+
+fn prints_poll(rt: &(impl Abort + AllocGlobal)) -> Result<(), Fail> {
+    let candidates = candidates_of(rt.alloc(), &NAMED)?;
+    let bundles = bundles_of(rt.alloc(), &PAPERS)?;
+    prints_poll_of(rt, &candidates, &bundles)
+}
+
+fn prints_uncontested(rt: &(impl Abort + AllocGlobal)) -> Result<(), Fail> {
+    let ward = Ward {
+        number: 7,
+        name: "Harbour # 7",
+        seats: 15,
+        candidates: &[],
+        poll: None,
+    };
+    let bundles = Bundles::new(rt.alloc());
+    let printed = WardBallots {
+        ward: &ward,
+        bundles: &bundles,
+        lots: &[],
+    };
+    prints(rt, &printed, "0 15\n0\n\"Harbour # 7\"\n# Ward 7\n")
+}
+
+#[test]
+fn ballots(rt: HostRuntime) -> Result<(), Fail> {
+    prints_poll(&rt)?;
+    prints_uncontested(&rt)
 }

@@ -1,6 +1,7 @@
 //! Requests that a browser sends for pages from elsewhere, and for those that come through a proxy.
 
 use super::asked::{BODY, KEYED, asks, asks_of};
+use std::alloc::{AllocError, Global};
 use std::process::Abort;
 use std::test::Fail;
 use wire::Origin;
@@ -68,6 +69,51 @@ const OWN: [&str; 20] = [
     "Host: 127.0.0.1:8080\r\nOrigin: http://127.0.0.1:8080\r\nSec-Fetch-Site: same-origin",
 ];
 
+/// The first line of a request, the header of its length, and what it asks.
+const CASES: [(&str, &str, &str); 6] = [
+    (
+        "POST /clerks/4/batches/12/keying",
+        "Content-Length: 43",
+        KEYED,
+    ),
+    (
+        "POST /clerks/4/batches/12/keying",
+        "Content-Length: 42",
+        "BadRequest",
+    ),
+    (
+        "POST /clerks/4/batches/12/keying",
+        "Content-Length: 1048577",
+        "TooLarge",
+    ),
+    (
+        "GET /clerks/4/work",
+        "Content-Length: 43",
+        "Work { clerk: 4 }",
+    ),
+    ("PUT /clerks/4/work", "Content-Length: 43", "only Get"),
+    ("GET /nothing", "Transfer-Encoding: chunked", "NotFound"),
+];
+
+/// A request with this first line and these headers.
+fn request_of(alloc: Global, line: &str, first: &str, second: &str) -> Result<String, AllocError> {
+    format!(in alloc; "{line} HTTP/1.1\r\n{first}\r\n{second}\r\n\r\n{BODY}")
+}
+
+/// Reads a request with these headers, in this order and in the other.
+fn asks_both(
+    rt: &(impl Abort + AllocGlobal),
+    origin: Option<Origin<'_>>,
+    line: &str,
+    headers: (&str, &str),
+    asked: &str,
+) -> Result<(), Fail> {
+    let request = request_of(rt.alloc(), line, headers.0, headers.1)?;
+    asks_of(rt, origin, request.as_bytes(), asked)?;
+    let request = request_of(rt.alloc(), line, headers.1, headers.0)?;
+    asks_of(rt, origin, request.as_bytes(), asked)
+}
+
 /// Reads a request with these headers more: it asks this, or is denied as foreign, a keying and a reading alike, and
 /// whatever else it would be denied for.
 fn asks_with(
@@ -76,38 +122,9 @@ fn asks_with(
     headers: &str,
     is_foreign: bool,
 ) -> Result<(), Fail> {
-    let cases = [
-        (
-            "POST /clerks/4/batches/12/keying",
-            "Content-Length: 43",
-            KEYED,
-        ),
-        (
-            "POST /clerks/4/batches/12/keying",
-            "Content-Length: 42",
-            "BadRequest",
-        ),
-        (
-            "POST /clerks/4/batches/12/keying",
-            "Content-Length: 1048577",
-            "TooLarge",
-        ),
-        (
-            "GET /clerks/4/work",
-            "Content-Length: 43",
-            "Work { clerk: 4 }",
-        ),
-        ("PUT /clerks/4/work", "Content-Length: 43", "only Get"),
-        ("GET /nothing", "Transfer-Encoding: chunked", "NotFound"),
-    ];
-    for (line, length, asked) in cases {
-        for (first, second) in [(length, headers), (headers, length)] {
-            let request = format!(in rt.alloc();
-                "{line} HTTP/1.1\r\n{first}\r\n{second}\r\n\r\n{BODY}"
-            )?;
-            let asked = if is_foreign { "Forbidden" } else { asked };
-            asks_of(rt, origin, request.as_bytes(), asked)?;
-        }
+    for (line, length, asked) in &CASES {
+        let asked = if is_foreign { "Forbidden" } else { *asked };
+        asks_both(rt, origin, *line, (*length, headers), asked)?;
     }
     Ok(())
 }
@@ -137,24 +154,44 @@ const PROXIED: [(&str, bool, bool); 17] = [
     ("Host: https://count.example.org", false, false),
 ];
 
+/// Which of some headers are foreign to an office that was given no origin, and to one that was given this.
+fn asks_each(
+    rt: &(impl Abort + AllocGlobal),
+    origin: Option<Origin<'_>>,
+    all: &[&str],
+    is_foreign: bool,
+) -> Result<(), Fail> {
+    for headers in all {
+        asks_with(rt, None, *headers, is_foreign)?;
+        asks_with(rt, origin, *headers, is_foreign)?;
+    }
+    Ok(())
+}
+
+/// Which of some headers are foreign to an office that was given an origin with a port, and to one that was given
+/// another without.
+fn asks_proxied(
+    rt: &(impl Abort + AllocGlobal),
+    with_port: Option<Origin<'_>>,
+    without: Option<Origin<'_>>,
+    all: &[(&str, bool, bool)],
+) -> Result<(), Fail> {
+    for (headers, by_port, by_none) in all {
+        asks_with(rt, None, *headers, true)?;
+        asks_with(rt, with_port, *headers, !*by_port)?;
+        asks_with(rt, without, *headers, !*by_none)?;
+    }
+    Ok(())
+}
+
 #[test]
 fn pages_from_elsewhere_and_through_a_proxy(rt: HostRuntime) -> Result<(), Fail> {
     let with_port = Origin::parse("https://count.example.org:8443");
     let without = Origin::parse("http://count.example.org");
     assert!(rt; with_port.is_some() && without.is_some());
-    for headers in FOREIGN {
-        asks_with(&rt, None, headers, true)?;
-        asks_with(&rt, with_port, headers, true)?;
-    }
-    for headers in OWN {
-        asks_with(&rt, None, headers, false)?;
-        asks_with(&rt, with_port, headers, false)?;
-    }
-    for (headers, by_port, by_none) in PROXIED {
-        asks_with(&rt, None, headers, true)?;
-        asks_with(&rt, with_port, headers, !by_port)?;
-        asks_with(&rt, without, headers, !by_none)?;
-    }
+    asks_each(&rt, with_port, &FOREIGN, true)?;
+    asks_each(&rt, with_port, &OWN, false)?;
+    asks_proxied(&rt, with_port, without, &PROXIED)?;
     asks(
         &rt,
         b"GET /nothing\r\nOrigin: http://evil.example\r\n\r\n",

@@ -1,11 +1,13 @@
 //! Import files, read whole or refused, and the texts of their faults.
 
-use keyfile::{FileDigest, FileFault, Flaw, read_candidates, read_keying};
+use crate::printed::is_text;
+use keyfile::{CandidateRow, FileDigest, FileFault, Flaw, read_candidates, read_keying};
 use paper::Columns;
 use std::alloc::{AllocError, Global};
 use std::fmt::Write;
 use std::io;
 use std::io::{ErrorKind, Read};
+use std::process::Abort;
 use std::test::Fail;
 
 /// Gives some bytes, one at a time, and fails at the read behind them.
@@ -35,41 +37,42 @@ fn three() -> Columns {
     Columns::empty().with(1).with(2).with(3)
 }
 
-/// The papers of clerk 4's keying of batch 12, each behind a bar, or the fault. Want of memory is the error.
+/// Some papers, each behind a bar.
+fn papers_text(alloc: Global, papers: &[String]) -> Result<String, AllocError> {
+    let mut text = String::new(alloc);
+    for paper in papers {
+        text.push('|')?;
+        text.push_str(paper.as_str())?;
+    }
+    Ok(text)
+}
+
+/// The papers of clerk 4's keying of batch 12, or the fault. Want of memory is the error.
 fn keying_text<R: Read + Drop>(
     alloc: Global,
     file: R,
     digest: Option<FileDigest>,
 ) -> Result<String, AllocError> {
     match read_keying(alloc, file, three(), 12, 4, digest) {
-        Ok(papers) => {
-            let mut text = String::new(alloc);
-            for paper in &papers {
-                text.push('|')?;
-                text.push_str(paper.as_str())?;
-            }
-            Ok(text)
-        }
+        Ok(papers) => papers_text(alloc, &papers),
         Err(fault) => fault_text(alloc, fault),
     }
 }
 
-/// The candidates of a file, each behind a bar, or the fault.
+/// Some candidates, each behind a bar.
+fn rows_text(alloc: Global, rows: &[CandidateRow]) -> Result<String, AllocError> {
+    let mut text = String::new(alloc);
+    for row in rows {
+        let name = row.name.as_str();
+        write!(text, "|{} {} {name}", row.ward, row.candidate)?;
+    }
+    Ok(text)
+}
+
+/// The candidates of a file, or the fault. Want of memory is the error.
 fn candidates_text<R: Read + Drop>(alloc: Global, file: R) -> Result<String, AllocError> {
     match read_candidates(alloc, file, None) {
-        Ok(rows) => {
-            let mut text = String::new(alloc);
-            for row in &rows {
-                write!(
-                    text,
-                    "|{} {} {}",
-                    row.ward,
-                    row.candidate,
-                    row.name.as_str()
-                )?;
-            }
-            Ok(text)
-        }
+        Ok(rows) => rows_text(alloc, &rows),
         Err(fault) => fault_text(alloc, fault),
     }
 }
@@ -174,38 +177,76 @@ fn bytes_of(alloc: Global, text: &str) -> Result<Vec<u8>, AllocError> {
     Ok(bytes)
 }
 
-#[test]
-fn files_are_read_whole_or_refused(rt: HostRuntime) -> Result<(), Fail> {
-    for (file, wanted) in KEYINGS {
-        let bytes = bytes_of(rt.alloc(), file)?;
-        let text = keying_text(rt.alloc(), bytes.as_slice(), None)?;
-        assert_eq!(&rt; text.as_str(), wanted);
+/// A file gives these papers, or this fault.
+fn gives<R: Read + Drop>(
+    rt: &(impl Abort + AllocGlobal),
+    file: R,
+    digest: Option<FileDigest>,
+    wanted: &str,
+) -> Result<(), Fail> {
+    let text = keying_text(rt.alloc(), file, digest)?;
+    is_text(rt, text.as_str(), wanted);
+    Ok(())
+}
+
+/// Each file gives what stands beside it.
+fn all_give(
+    rt: &(impl Abort + AllocGlobal),
+    files: &[(&str, &str)],
+    digest: Option<FileDigest>,
+) -> Result<(), Fail> {
+    for (file, wanted) in files {
+        let bytes = bytes_of(rt.alloc(), *file)?;
+        gives(rt, bytes.as_slice(), digest, *wanted)?;
     }
-    let digest = FileDigest::parse(DIGEST);
-    assert!(&rt; digest.is_some() && FileDigest::parse("a07a0df7").is_none());
-    for (file, wanted) in DIGESTED {
-        let text = keying_text(rt.alloc(), file.as_bytes(), digest)?;
-        assert_eq!(&rt; text.as_str(), wanted);
-    }
-    let candidates = "ward,candidate,name\n7,1,Ann\n7,2,\"Bob, jr\"\n";
-    let text = candidates_text(rt.alloc(), candidates.as_bytes())?;
-    assert_eq!(&rt; text.as_str(), "|7 1 Ann|7 2 Bob, jr");
-    // a keying has at most 500 papers
-    let mut file = String::from_str(rt.alloc(), "paper,1,2,3\n")?;
+    Ok(())
+}
+
+/// A file of candidates gives them.
+fn gives_candidates(rt: &(impl Abort + AllocGlobal), file: &str, wanted: &str) -> Result<(), Fail> {
+    let text = candidates_text(rt.alloc(), file.as_bytes())?;
+    is_text(rt, text.as_str(), wanted);
+    Ok(())
+}
+
+/// The file of a keying of 501 papers, one more than there may be.
+fn long_file(alloc: Global) -> Result<String, AllocError> {
+    let mut file = String::from_str(alloc, "paper,1,2,3\n")?;
     for number in 1..502 {
         write!(file, "{number},1,2,\n")?;
     }
-    let text = keying_text(rt.alloc(), file.as_bytes(), None)?;
-    assert_eq!(&rt;
-        text.as_str(),
-        "file fault 7 at record 501: too many records"
-    );
-    // a read that fails is told at its record
-    let left = "paper,1,2,3\n1,,,\n2,,".as_bytes();
-    let text = keying_text(rt.alloc(), Torn { left }, None)?;
-    assert_eq!(&rt; text.as_str(), "file fault 8 at record 2: read failed");
-    let text = keying_text(rt.alloc(), Torn { left }, digest)?;
-    assert_eq!(&rt; text.as_str(), "file fault 8 at record 0: read failed");
+    Ok(file)
+}
+
+/// What a read that fails gives is told at its record.
+fn break_off(rt: &(impl Abort + AllocGlobal), digest: Option<FileDigest>) -> Result<(), Fail> {
+    let left = b"paper,1,2,3\n1,,,\n2,,".as_slice();
+    gives(
+        rt,
+        Torn { left },
+        None,
+        "file fault 8 at record 2: read failed",
+    )?;
+    gives(
+        rt,
+        Torn { left },
+        digest,
+        "file fault 8 at record 0: read failed",
+    )
+}
+
+#[test]
+fn files_are_read_whole_or_refused(rt: HostRuntime) -> Result<(), Fail> {
+    all_give(&rt, &KEYINGS, None)?;
+    let digest = FileDigest::parse(DIGEST);
+    assert!(&rt; digest.is_some() && FileDigest::parse("a07a0df7").is_none());
+    all_give(&rt, &DIGESTED, digest)?;
+    let candidates = "ward,candidate,name\n7,1,Ann\n7,2,\"Bob, jr\"\n";
+    gives_candidates(&rt, candidates, "|7 1 Ann|7 2 Bob, jr")?;
+    let file = long_file(rt.alloc())?;
+    let wanted = "file fault 7 at record 501: too many records";
+    gives(&rt, file.as_bytes(), None, wanted)?;
+    break_off(&rt, digest)?;
     let fault = FileFault {
         flaw: Flaw::ReadFailed,
         record_number: 2,

@@ -22,6 +22,8 @@ mod pages;
 #[cfg(test)]
 mod papers;
 #[cfg(test)]
+mod printed;
+#[cfg(test)]
 mod recounts;
 #[cfg(test)]
 mod sheets;

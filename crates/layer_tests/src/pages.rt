@@ -1,15 +1,18 @@
 //! Pages, and the page of all wards, byte for byte but for their style, which its definition has.
 
+ghost use Rattle.std.specs.Prelude.{◌-◌, ◌^◌, ◌<◌};
+
+use crate::printed::{Printed, candidates_of, is_text, print, stage_of, three_stages};
 use count::{Action, Stage};
 use paper::Columns;
 use sheet::{
     ListedWard, Poll, Standing, Ward, can_be_printed, index_text, page_text, write_index,
     write_page,
 };
-use std::alloc::Global;
+use std::alloc::{AllocError, Global};
 use std::process::Abort;
 use std::test::Fail;
-use votes::{Counted, Sink, Votes};
+use votes::{Broken, Sink};
 
 /// What stands above the style.
 const HEAD: &str = r##"<!DOCTYPE html>
@@ -266,107 +269,128 @@ const TITLE: &str = "Vote & <Council>";
 /// What brings something in from elsewhere.
 const FOREIGN: [&str; 5] = ["//", "@import", "<script", "<link", "<img"];
 
-/// A stage at which candidates 1, 2 and 3 have so many units.
-fn stage_of(action: Action, units: [u64; 3], elected: Columns, lost: u64) -> Stage {
-    let mut votes = [Votes::from_units(0); 30];
-    votes[0] = Votes::from_units(units[0]);
-    votes[1] = Votes::from_units(units[1]);
-    votes[2] = Votes::from_units(units[2]);
-    Stage {
-        action,
-        votes,
-        elected,
-        non_transferable: Votes::from_units(0),
-        lost: Votes::from_units(lost),
+/// The page of a ward.
+#[derive(Drop)]
+struct WardPage<'a> {
+    ward: &'a Ward<'a>,
+    title: &'a str,
+    is_declared: bool,
+    stages: &'a [Stage],
+    lots: &'a [(u8, u8)],
+}
+
+impl<'a> Printed for WardPage<'a> {
+    fn text(&self, alloc: Global) -> Result<String, Fail> {
+        if !can_be_printed(self.ward) {
+            return Err(Fail::from("no ward that can be printed"));
+        }
+        let (stages, lots) = (self.stages, self.lots);
+        Ok(page_text(alloc, self.ward, self.title, self.is_declared, stages, lots)?)
     }
+
+    fn write<W: Sink>(&self, sink: &mut W) -> Result<(), Broken> {
+        if !can_be_printed(self.ward) {
+            return Err(Broken);
+        }
+        let (stages, lots) = (self.stages, self.lots);
+        write_page(sink, self.ward, self.title, self.is_declared, stages, lots)
+    }
+}
+
+/// The page of all wards.
+#[derive(Drop)]
+struct WardsPage<'a> {
+    title: &'a str,
+    wards: &'a [ListedWard],
+}
+
+impl<'a> Printed for WardsPage<'a> {
+    fn text(&self, alloc: Global) -> Result<String, Fail> {
+        Ok(index_text(alloc, self.title, self.wards)?)
+    }
+
+    fn write<W: Sink>(&self, sink: &mut W) -> Result<(), Broken> {
+        write_index(sink, self.title, self.wards)
+    }
+}
+
+/// What stands above the style of a page, and what stands below it.
+fn around_style(text: &str) -> Option<(&str, &str)> {
+    let (above, behind) = text.split_once("<style>")?;
+    let (_, below) = behind.split_once("</style>")?;
+    Some((above, below))
+}
+
+/// Whether anything is brought in from elsewhere.
+fn is_foreign(text: &str) -> bool {
+    for word in &FOREIGN {
+        if text.contains(*word) {
+            return true;
+        }
+    }
+    false
 }
 
 /// Compares a page with what stands above and below its style, and sees that nothing comes from elsewhere.
 fn compare(rt: &impl Abort, text: &str, above: &str, body: &str) -> Result<(), Fail> {
-    let (head, behind) = text.split_once("<style>").ok_or("no style")?;
-    assert_eq!(rt; head, above);
-    let (_, below) = behind.split_once("</style>").ok_or("no end of the style")?;
-    assert_eq!(rt; below, body);
-    for word in &FOREIGN {
-        assert!(rt; text.find(*word).is_none());
+    match around_style(text) {
+        Some((head, below)) => {
+            is_text(rt, head, above);
+            is_text(rt, below, body);
+            assert!(rt; !is_foreign(text));
+            Ok(())
+        }
+        None => Err(Fail::from("no style")),
     }
-    Ok(())
 }
 
-/// Prints the page of a ward: as a text, to a sink, and to one of 20 bytes.
-fn prints(
+/// Prints a page, and compares it.
+fn prints_page<P: Printed>(
     rt: &(impl Abort + AllocGlobal),
-    ward: &Ward,
-    title: &str,
-    is_declared: bool,
-    stages: &[Stage],
-    lots: &[(u8, u8)],
+    printed: &P,
+    above: &str,
     body: &str,
 ) -> Result<(), Fail> {
-    assert!(rt; can_be_printed(ward));
-    let text = page_text(rt.alloc(), ward, title, is_declared, stages, lots)?;
-    compare(rt, text.as_str(), HEAD, body)?;
-    let mut page = Vec::new(rt.alloc());
-    write_page(
-        &mut Counted::new(&mut page),
-        ward,
-        title,
-        is_declared,
-        stages,
-        lots,
-    )?;
-    assert!(rt; page.as_slice() == text.as_bytes());
-    let mut room = [0; 20];
-    let mut sink = Counted::new(room.as_mut_slice());
-    assert!(rt; write_page(&mut sink, ward, title, is_declared, stages, lots).is_err());
-    assert_eq!(rt; sink.failures(), 1);
-    assert!(rt; text.as_bytes().starts_with(&room));
-    Ok(())
+    let text = print(rt, printed)?;
+    compare(rt, text.as_str(), above, body)
 }
 
-/// Sees that words stand on the page of a ward that isn't declared.
-fn has_words(
+/// Sees that words stand on a page.
+fn has_words<P: Printed>(
     rt: &(impl Abort + AllocGlobal),
-    ward: &Ward,
-    stages: &[Stage],
-    lots: &[(u8, u8)],
+    printed: &P,
     words: &[&str],
 ) -> Result<(), Fail> {
-    assert!(rt; can_be_printed(ward));
-    let text = page_text(rt.alloc(), ward, "", false, stages, lots)?;
+    let text = printed.text(rt.alloc())?;
     for some in words {
-        assert!(rt; text.as_str().find(*some).is_some());
+        assert!(rt; text.as_str().contains(*some));
     }
     Ok(())
 }
 
-/// Nine stages stand in two tables, of eight and of one. A lot among three, and one whose stage isn't done yet.
-fn prints_tables_and_lots(rt: &(impl Abort + AllocGlobal), ward: &Ward) -> Result<(), Fail> {
-    let nobody = Columns::empty();
-    let equal = stage_of(Action::First, [300000; 3], nobody, 0);
-    let excluded = stage_of(Action::Exclude(3), [300000, 300000, 0], nobody, 0);
-    has_words(
-        rt,
+/// The words of two tables, of eight stages and of one.
+const TABLES: [&str; 4] = [
+    " aria-label=\"Stages 1 to 8\">",
+    "<caption>Stages 1 to 8</caption>",
+    " aria-label=\"Stage 9\">",
+    "<caption>Stage 9</caption>",
+];
+
+/// Those of a lot among three, and of one whose stage isn't done yet.
+const LOTS: [&str; 2] = [
+    "<li>Lot at stage 2 between 1 <bdi>Ann &lt;b&gt;</bdi>, 2 <bdi>&quot;Bob&quot; &amp; &#39;Co&#39;</bdi> and 3 <bdi>רות</bdi>: excluded 3 <bdi>רות</bdi></li>",
+    "<li>Lot at stage 3 between 1 <bdi>Ann &lt;b&gt;</bdi> and 2 <bdi>&quot;Bob&quot; &amp; &#39;Co&#39;</bdi>: drawn 1 <bdi>Ann &lt;b&gt;</bdi></li>",
+];
+
+/// The page of a ward without a title, which isn't declared.
+fn undeclared<'a>(ward: &'a Ward<'a>, stages: &'a [Stage], lots: &'a [(u8, u8)]) -> WardPage<'a> {
+    WardPage {
         ward,
-        &[excluded; 9],
-        &[],
-        &[
-            " aria-label=\"Stages 1 to 8\">",
-            "<caption>Stages 1 to 8</caption>",
-            " aria-label=\"Stage 9\">",
-            "<caption>Stage 9</caption>",
-        ],
-    )?;
-    has_words(
-        rt,
-        ward,
-        &[equal, excluded],
-        &[(2, 3), (3, 1)],
-        &[
-            "<li>Lot at stage 2 between 1 <bdi>Ann &lt;b&gt;</bdi>, 2 <bdi>&quot;Bob&quot; &amp; &#39;Co&#39;</bdi> and 3 <bdi>רות</bdi>: excluded 3 <bdi>רות</bdi></li>",
-            "<li>Lot at stage 3 between 1 <bdi>Ann &lt;b&gt;</bdi> and 2 <bdi>&quot;Bob&quot; &amp; &#39;Co&#39;</bdi>: drawn 1 <bdi>Ann &lt;b&gt;</bdi></li>",
-        ],
-    )
+        title: "",
+        is_declared: false,
+        stages,
+        lots,
+    }
 }
 
 /// A ward of the page of all wards.
@@ -376,7 +400,7 @@ fn listed(
     name: &str,
     seats: u32,
     standing: Standing,
-) -> Result<ListedWard, Fail> {
+) -> Result<ListedWard, AllocError> {
     Ok(ListedWard {
         number,
         name: String::from_str(alloc, name)?,
@@ -386,73 +410,122 @@ fn listed(
     })
 }
 
-/// Prints the page of all wards: as a text, and to a sink of 20 bytes.
-fn prints_index(rt: &(impl Abort + AllocGlobal)) -> Result<(), Fail> {
-    let alloc = rt.alloc();
-    let mut declared = listed(alloc, 7, "<Harbour>", 2, Standing::Declared)?;
-    declared
-        .elected
-        .push((1, String::from_str(alloc, "Ann <b>")?))?;
-    declared.elected.push((3, String::from_str(alloc, "רות")?))?;
-    let mut wards = Vec::new(alloc);
-    wards.push(declared)?;
-    wards.push(listed(alloc, 8, "Quay", 4, Standing::Sealed)?)?;
-    wards.push(listed(alloc, 9, "Mill", 1, Standing::Keying)?)?;
-    wards.push(listed(alloc, 10, "Hill", 1, Standing::Nominations)?)?;
-    let text = index_text(alloc, TITLE, &wards)?;
-    compare(rt, text.as_str(), INDEX_HEAD, INDEX)?;
-    let mut room = [0; 20];
-    let mut sink = Counted::new(room.as_mut_slice());
-    assert!(rt; write_index(&mut sink, TITLE, &wards).is_err());
-    assert_eq!(rt; sink.failures(), 1);
-    assert!(rt; text.as_bytes().starts_with(&room));
-    Ok(())
+/// A declared ward, with who is elected.
+fn declared(alloc: Global) -> Result<ListedWard, AllocError> {
+    let mut ward = listed(alloc, 7, "<Harbour>", 2, Standing::Declared)?;
+    for (c, name) in &[(1, "Ann <b>"), (3, "רות")] {
+        ward.elected.push((*c, String::from_str(alloc, *name)?))?;
+    }
+    Ok(ward)
 }
 
-/// The candidates 1, 2 and 3, whose names look like markup or are written from right to left.
-fn candidates_of(alloc: Global) -> Result<Vec<(u8, String)>, Fail> {
-    let mut candidates = Vec::new(alloc);
-    for (c, name) in [(1, "Ann <b>"), (2, "\"Bob\" & 'Co'"), (3, "רות")] {
-        candidates.push((c, String::from_str(alloc, name)?))?;
+/// The wards that aren't declared.
+const OTHERS: [(u32, &str, u32, Standing); 3] = [
+    (8, "Quay", 4, Standing::Sealed),
+    (9, "Mill", 1, Standing::Keying),
+    (10, "Hill", 1, Standing::Nominations),
+];
+
+/// All wards.
+fn wards_of(alloc: Global) -> Result<Vec<ListedWard>, AllocError> {
+    let mut wards = Vec::new(alloc);
+    wards.push(declared(alloc)?)?;
+    for (number, name, seats, standing) in &OTHERS {
+        wards.push(listed(alloc, *number, *name, *seats, *standing)?)?;
     }
-    Ok(candidates)
+    Ok(wards)
 }
+
+fn prints_index(rt: &(impl Abort + AllocGlobal)) -> Result<(), Fail> {
+    let wards = wards_of(rt.alloc())?;
+    let printed = WardsPage {
+        title: TITLE,
+        wards: &wards,
+    };
+    prints_page(rt, &printed, INDEX_HEAD, INDEX)
+}
+
+/// The ward of these candidates.
+fn harbour<'a>(candidates: &'a [(u8, String)], seats: u8, poll: Option<Poll>) -> Ward<'a> {
+    Ward {
+        number: 7,
+        name: "<Harbour>",
+        seats,
+        candidates,
+        poll,
+    }
+}
+
+/// The papers of a poll, of which so many are rejected.
+fn poll_of(rejected: [u32; 5]) -> Option<Poll> {
+    Some(Poll { valid: 9, rejected })
+}
+
+/// The ward of a poll with rejected papers of each code.
+fn with_rejected<'a>(candidates: &'a [(u8, String)]) -> Ward<'a> {
+    harbour(candidates, 2, poll_of([1, 20, 300, 4000, 50000]))
+}
+
+/// Nine stages stand in two tables; and lots.
+fn prints_tables_and_lots(
+    rt: &(impl Abort + AllocGlobal),
+    candidates: &[(u8, String)],
+) -> Result<(), Fail> {
+    let ward = with_rejected(candidates);
+    let nobody = Columns::empty();
+    let equal = stage_of(Action::First, [300000; 3], nobody, 0);
+    let excluded = stage_of(Action::Exclude(3), [300000, 300000, 0], nobody, 0);
+    let nine = [excluded; 9];
+    has_words(rt, &undeclared(&ward, &nine, &[]), &TABLES)?;
+    let stages = [equal, excluded];
+    has_words(rt, &undeclared(&ward, &stages, &[(2, 3), (3, 1)]), &LOTS)
+}
+
+/// Prints the page of a declared ward, and those before its first stage and at more of them.
+fn prints_contested(
+    rt: &(impl Abort + AllocGlobal),
+    candidates: &[(u8, String)],
+) -> Result<(), Fail> {
+    let ward = with_rejected(candidates);
+    let stages = three_stages();
+    let printed = WardPage {
+        ward: &ward,
+        title: TITLE,
+        is_declared: true,
+        stages: &stages,
+        lots: &[(3, 2)],
+    };
+    prints_page(rt, &printed, HEAD, DECLARED)?;
+    prints_tables_and_lots(rt, candidates)?;
+    let ward = harbour(candidates, 2, poll_of([0; 5]));
+    prints_page(rt, &undeclared(&ward, &[], &[]), HEAD, NO_STAGE)
+}
+
+/// Prints the pages of an uncontested ward.
+fn prints_uncontested(
+    rt: &(impl Abort + AllocGlobal),
+    candidates: &[(u8, String)],
+) -> Result<(), Fail> {
+    let ward = harbour(candidates, 4, None);
+    let stages = three_stages();
+    let printed = WardPage {
+        ward: &ward,
+        title: "",
+        is_declared: true,
+        stages: &stages,
+        lots: &[],
+    };
+    prints_page(rt, &printed, HEAD, UNCONTESTED)?;
+    prints_page(rt, &undeclared(&ward, &[], &[]), HEAD, NOT_DECLARED)
+}
+
+/// Candidates whose names look like markup or are written from right to left.
+const NAMED: [(u8, &str); 3] = [(1, "Ann <b>"), (2, "\"Bob\" & 'Co'"), (3, "רות")];
 
 #[test]
 fn pages(rt: HostRuntime) -> Result<(), Fail> {
-    let nobody = Columns::empty();
-    let stages = [
-        stage_of(Action::First, [600000, 100000, 200000], nobody.with(1), 0),
-        stage_of(Action::Surplus(1), [400000, 233332, 266666], nobody, 2),
-        stage_of(
-            Action::ExcludeLast(2),
-            [400000, 233332, 266666],
-            nobody.with(3),
-            2,
-        ),
-    ];
-    let candidates = candidates_of(rt.alloc())?;
-    let mut ward = Ward {
-        number: 7,
-        name: "<Harbour>",
-        seats: 2,
-        candidates: &candidates,
-        poll: Some(Poll {
-            valid: 9,
-            rejected: [1, 20, 300, 4000, 50000],
-        }),
-    };
-    prints(&rt, &ward, TITLE, true, &stages, &[(3, 2)], DECLARED)?;
-    prints_tables_and_lots(&rt, &ward)?;
-    prints_index(&rt)?;
-    ward.poll = Some(Poll {
-        valid: 9,
-        rejected: [0; 5],
-    });
-    prints(&rt, &ward, "", false, &[], &[], NO_STAGE)?;
-    ward.seats = 4;
-    ward.poll = None;
-    prints(&rt, &ward, "", true, &stages, &[], UNCONTESTED)?;
-    prints(&rt, &ward, "", false, &[], &[], NOT_DECLARED)?;
-    Ok(())
+    let candidates = candidates_of(rt.alloc(), &NAMED)?;
+    prints_contested(&rt, &candidates)?;
+    prints_uncontested(&rt, &candidates)?;
+    prints_index(&rt)
 }

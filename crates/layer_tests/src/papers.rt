@@ -1,5 +1,6 @@
 //! Marks as they are read, and papers as they are judged.
 
+use crate::printed::is_text;
 use paper::{
     CandidateStatus, Columns, Keyed, MarkFault, Marked, Marks, Prefs, Standing, available_from,
     judge, next_available,
@@ -14,7 +15,8 @@ fn three() -> Columns {
 /// What is keyed by a text of a paper with columns 1, 2, 3, which is its text again.
 fn keyed(rt: &(impl Abort + AllocGlobal), text: &str) -> Result<Keyed, Fail> {
     let keyed = Marks::read(text.as_bytes(), three())?;
-    assert_eq!(rt; keyed.text(rt.alloc())?.as_str(), text);
+    let again = keyed.text(rt.alloc())?;
+    is_text(rt, again.as_str(), text);
     Ok(keyed)
 }
 
@@ -35,48 +37,70 @@ const JUDGED: [(&str, &[u8], u32); 6] = [
     (",2,", &[], 1),
 ];
 
-#[test]
-fn papers_are_judged(rt: HostRuntime) -> Result<(), Fail> {
-    for (text, wanted, code) in JUDGED {
-        match judge(&marked(&rt, text)?) {
-            Ok(prefs) => assert_eq!(&rt; prefs.as_slice(), wanted, "{text}"),
-            Err(why) => assert_eq!(&rt; why.number(), code, "{text}"),
-        }
+/// Judges a paper: the preferences or the code are those that are wanted.
+fn is_judged(rt: &impl Abort, paper: &Marked, (text, wanted, code): &(&str, &[u8], u32)) {
+    match judge(paper) {
+        Ok(prefs) => assert!(rt; prefs.as_slice() == *wanted, "{text}"),
+        Err(why) => assert!(rt; why.number() == *code, "{text}"),
     }
-    assert_eq!(&rt; keyed(&rt, "D")?, Keyed::Doubtful);
-    // Millions are held.
-    assert_eq!(&rt; std::mem::size_of::<Prefs>(), 30);
+}
+
+/// A text is that of a doubtful paper.
+fn is_doubtful(rt: &(impl Abort + AllocGlobal), text: &str) -> Result<(), Fail> {
+    let keyed = keyed(rt, text)?;
+    assert!(rt; matches!(keyed, Keyed::Doubtful));
     Ok(())
 }
 
 #[test]
-fn texts_with_faults(rt: HostRuntime) {
-    for (text, fault, number) in [
-        ("1,2", MarkFault::FieldCount, 1),
-        ("", MarkFault::FieldCount, 1),
-        ("x,,", MarkFault::NotANumber, 2),
-        ("01,,", MarkFault::NotANumber, 2),
-        ("D,,", MarkFault::NotANumber, 2),
-        ("1000x,,", MarkFault::NotANumber, 2),
-        ("100,,", MarkFault::TooLarge, 3),
-        ("0,100,", MarkFault::NotANumber, 2),
-        ("100,0,", MarkFault::TooLarge, 3),
-    ] {
-        assert_eq!(&rt;
-            Marks::read(text.as_bytes(), three()),
-            Err(fault),
-            "at {text}"
-        );
-        assert_eq!(&rt; fault.number(), number, "at {text}");
+fn papers_are_judged(rt: HostRuntime) -> Result<(), Fail> {
+    for case in &JUDGED {
+        let paper = marked(&rt, case.0)?;
+        is_judged(&rt, &paper, case);
     }
-    assert_eq!(&rt;
-        Marks::read(b"".as_slice(), Columns::empty()),
-        Err(MarkFault::FieldCount)
-    );
-    assert_eq!(&rt;
-        Marks::read(b"D".as_slice(), Columns::empty()),
-        Ok(Keyed::Doubtful)
-    );
+    // Millions are held.
+    assert!(&rt; std::mem::size_of::<Prefs>() == 30);
+    is_doubtful(&rt, "D")
+}
+
+/// The fault of a text.
+fn fault_of(text: &[u8], columns: Columns) -> Option<MarkFault> {
+    Marks::read(text, columns).err()
+}
+
+/// Texts of a paper with columns 1, 2, 3, the fault of each, and its number.
+const FAULTS: [(&str, MarkFault, u32); 9] = [
+    ("1,2", MarkFault::FieldCount, 1),
+    ("", MarkFault::FieldCount, 1),
+    ("x,,", MarkFault::NotANumber, 2),
+    ("01,,", MarkFault::NotANumber, 2),
+    ("D,,", MarkFault::NotANumber, 2),
+    ("1000x,,", MarkFault::NotANumber, 2),
+    ("100,,", MarkFault::TooLarge, 3),
+    ("0,100,", MarkFault::NotANumber, 2),
+    ("100,0,", MarkFault::TooLarge, 3),
+];
+
+/// A text has its fault.
+fn has_fault(rt: &impl Abort, (text, fault, number): &(&str, MarkFault, u32)) {
+    let found = fault_of(text.as_bytes(), three());
+    assert!(rt; found == Some(*fault), "at {text}");
+    assert!(rt; fault.number() == *number, "at {text}");
+}
+
+/// What is keyed of a paper with no columns.
+fn has_no_columns(rt: &impl Abort) {
+    let none = Columns::empty();
+    assert!(rt; fault_of(b"", none) == Some(MarkFault::FieldCount));
+    assert!(rt; matches!(Marks::read(b"D", none), Ok(Keyed::Doubtful)));
+}
+
+#[test]
+fn texts_with_faults(rt: HostRuntime) {
+    for case in &FAULTS {
+        has_fault(&rt, case);
+    }
+    has_no_columns(&rt);
 }
 
 /// 2 and 4 continue, 1 is elected, 3 is excluded.
@@ -88,7 +112,10 @@ fn standing() -> Standing {
     )
 }
 
-/// Where the walk over the preferences 1, 3, 4, 5, 2 starts, and the next that is available; 0 for none.
+/// The preferences that are walked over.
+const PREFS: &[u8] = &[1, 3, 4, 5, 2];
+
+/// Where the walk over those preferences starts, and the next that is available; 0 for none.
 const NEXT: [(usize, u8); 5] = [(0, 4), (2, 4), (3, 2), (5, 0), (9, 0)];
 
 /// How some candidates stand.
@@ -100,21 +127,27 @@ const STANDING: [(u8, CandidateStatus); 5] = [
     (200, CandidateStatus::Absent),
 ];
 
+/// This one is the next that is available.
+fn is_next(rt: &impl Abort, standing: &Standing, (from, wanted): &(usize, u8)) {
+    let next = next_available(PREFS, *from, standing).unwrap_or(0);
+    assert!(rt; next == *wanted, "from {from}: {next}");
+}
+
+/// A candidate stands so.
+fn stands(rt: &impl Abort, standing: &Standing, (c, status): &(u8, CandidateStatus)) {
+    assert!(rt; standing.status(*c) == *status, "at {c}");
+    let is_continuing = *status == CandidateStatus::Continuing;
+    assert!(rt; standing.continues(*c) == is_continuing, "at {c}");
+}
+
 #[test]
 fn next_available_preferences(rt: HostRuntime) {
     let standing = standing();
-    let prefs: &[u8] = &[1, 3, 4, 5, 2];
-    for (from, wanted) in NEXT {
-        let next = next_available(prefs, from, &standing).unwrap_or(0);
-        assert_eq!(&rt; next, wanted, "from {from}");
+    for case in &NEXT {
+        is_next(&rt, &standing, case);
     }
-    assert_eq!(&rt; available_from(prefs, 1, &standing).len(), 3);
-    for (c, status) in STANDING {
-        assert!(&rt; standing.status(c) == status, "at {c}");
-        assert_eq!(&rt;
-            standing.continues(c),
-            status == CandidateStatus::Continuing,
-            "at {c}"
-        );
+    assert_eq!(&rt; available_from(PREFS, 1, &standing).len(), 3);
+    for case in &STANDING {
+        stands(&rt, &standing, case);
     }
 }

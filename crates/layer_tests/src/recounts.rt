@@ -1,11 +1,11 @@
 //! Texts checked against ballots, by the call itself: what is told of each, and the texts of an uncontested ward. (What else is
 //! told of ballots and texts is played in examples/transcripts/checks.txt.)
 
+use crate::printed::{candidates_of, is_text};
 use count::Bundles;
-use recount::{Checked, check};
-use sheet::{Ward, ballots_text, can_be_printed, declaration_text, sheet_text};
-use std::alloc::Global;
-use std::fmt::Write;
+use recount::{Checked, Problem, check};
+use sheet::{Ward, ballots_text, can_be_printed, sheet_text};
+use std::alloc::{AllocError, Global};
 use std::process::Abort;
 use std::test::Fail;
 
@@ -53,17 +53,32 @@ Elected
 ";
 
 /// What came of a check, in words.
-fn told(alloc: Global, ballots: &[u8], text: &[u8]) -> Result<String, Fail> {
-    let mut told = String::new(alloc);
-    match check(alloc, ballots, text) {
-        Ok(Checked::Sheet) => told.push_str("the sheet")?,
-        Ok(Checked::Declaration) => told.push_str("the declaration")?,
+fn words_of(alloc: Global, came: &Result<Checked, Problem>) -> Result<String, AllocError> {
+    match came {
+        Ok(Checked::Sheet) => String::from_str(alloc, "the sheet"),
+        Ok(Checked::Declaration) => String::from_str(alloc, "the declaration"),
         Ok(Checked::Differs { line, should_be }) => {
-            write!(told, "line {line}: {should_be}")?;
+            format!(in alloc; "line {line}: {}", should_be.as_str())
         }
-        Err(problem) => write!(told, "{problem}")?,
+        Err(problem) => format!(in alloc; "{problem}"),
     }
-    Ok(told)
+}
+
+/// What is told of a text beside ballots, in words.
+fn told(alloc: Global, ballots: &[u8], text: &[u8]) -> Result<String, AllocError> {
+    words_of(alloc, &check(alloc, ballots, text))
+}
+
+/// This is told of a text beside ballots.
+fn tells(
+    rt: &(impl Abort + AllocGlobal),
+    ballots: &str,
+    text: &str,
+    wanted: &str,
+) -> Result<(), Fail> {
+    let told = told(rt.alloc(), ballots.as_bytes(), text.as_bytes())?;
+    is_text(rt, told.as_str(), wanted);
+    Ok(())
 }
 
 /// What is told of texts beside the ballots.
@@ -77,42 +92,48 @@ const CHECKS: [(&str, &str); 4] = [
     ("", "line 1: Ward 7 Harbour\n"),
 ];
 
-/// Checks the sheet and the declaration of an uncontested ward against its ballots.
-fn prints_and_checks(
-    rt: &(impl Abort + AllocGlobal),
-    ward: &Ward,
-    bundles: &Bundles,
-) -> Result<(), Fail> {
-    assert!(rt; can_be_printed(ward));
-    let ballots = ballots_text(rt.alloc(), ward, bundles, &[])?;
-    let sheet = sheet_text(rt.alloc(), ward, &[])?;
-    let same = told(rt.alloc(), ballots.as_bytes(), sheet.as_bytes())?;
-    assert_eq!(rt; same.as_str(), "the sheet");
-    Ok(())
+/// The ballots of an uncontested ward, which has no papers.
+fn ballots_of(alloc: Global, ward: &Ward) -> Result<String, Fail> {
+    if !can_be_printed(ward) {
+        return Err(Fail::from("no ward that can be printed"));
+    }
+    Ok(ballots_text(alloc, ward, &Bundles::new(alloc), &[])?)
 }
 
-#[test]
-fn texts_are_checked(rt: HostRuntime) -> Result<(), Fail> {
-    for (text, words) in CHECKS {
-        let told = told(rt.alloc(), BALLOTS.as_bytes(), text.as_bytes())?;
-        assert_eq!(rt; told.as_str(), words);
+/// Its sheet.
+fn sheet_of(alloc: Global, ward: &Ward) -> Result<String, Fail> {
+    if !can_be_printed(ward) {
+        return Err(Fail::from("no ward that can be printed"));
     }
-    let told = told(rt.alloc(), b"3 0\n", b"")?;
-    assert_eq!(rt; told.as_str(), "line 1 of the ballots: no seats");
-    let mut candidates = Vec::new(rt.alloc());
-    for (c, name) in [(1, "Ann"), (3, "B. \"Bob\" \\ Brün # 3"), (6, "Cy")] {
-        candidates.push((c, String::from_str(rt.alloc(), name)?))?;
-    }
-    let mut ward = Ward {
+    Ok(sheet_text(alloc, ward, &[])?)
+}
+
+/// Checks the sheet of an uncontested ward against its ballots.
+fn prints_and_checks(
+    rt: &(impl Abort + AllocGlobal),
+    candidates: &[(u8, String)],
+) -> Result<(), Fail> {
+    let ward = Ward {
         number: 99,
         name: "Harbour # 7",
         seats: 3,
-        candidates: &candidates,
+        candidates,
         poll: None,
     };
-    let none = Bundles::new(rt.alloc());
-    prints_and_checks(&rt, &ward, &none)?;
-    ward.candidates = &[];
-    prints_and_checks(&rt, &ward, &none)?;
-    Ok(())
+    let ballots = ballots_of(rt.alloc(), &ward)?;
+    let sheet = sheet_of(rt.alloc(), &ward)?;
+    tells(rt, ballots.as_str(), sheet.as_str(), "the sheet")
+}
+
+/// The candidates of an uncontested ward.
+const NAMED: [(u8, &str); 3] = [(1, "Ann"), (3, "B. \"Bob\" \\ Brün # 3"), (6, "Cy")];
+
+#[test]
+fn texts_are_checked(rt: HostRuntime) -> Result<(), Fail> {
+    for (text, words) in &CHECKS {
+        tells(&rt, BALLOTS, *text, *words)?;
+    }
+    tells(&rt, "3 0\n", "", "line 1 of the ballots: no seats")?;
+    prints_and_checks(&rt, &candidates_of(rt.alloc(), &NAMED)?)?;
+    prints_and_checks(&rt, &[])
 }

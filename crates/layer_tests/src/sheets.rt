@@ -1,14 +1,17 @@
 //! Sheets and declarations, byte for byte.
 
-use count::{Action, Stage};
+ghost use Rattle.std.specs.Prelude.{◌-◌, ◌^◌, ◌<◌};
+
+use crate::printed::{Printed, candidates_of, prints, three_stages};
+use count::Stage;
 use paper::Columns;
 use sheet::{
     Poll, Ward, can_be_printed, declaration_text, sheet_text, write_declaration, write_sheet,
 };
-use std::alloc::{AllocError, Global};
+use std::alloc::Global;
 use std::process::Abort;
 use std::test::Fail;
-use votes::{Counted, MAX_PAPERS, Sink, Votes};
+use votes::{Broken, MAX_PAPERS, Sink};
 
 const HARBOUR: &str = "Ward 7 Harbour
 Seats 2, valid 9, quota 4.00000
@@ -38,107 +41,96 @@ Seats 2, valid 4999500, quota 1666501.00000
 Rejected 1: 1, 2: 20, 3: 300, 4: 4000, 5: 50000
 ";
 
-/// The candidates 1, 2, .. of these names.
-pub(crate) fn candidates_of(
-    alloc: Global,
-    names: &[&str],
-) -> Result<Vec<(u8, String)>, AllocError> {
-    let mut candidates = Vec::new(alloc);
-    for (c, name) in (1u8..).zip(names) {
-        candidates.push((c, String::from_str(alloc, name)?))?;
+const DECLARATION: &str = "Ward 7 Harbour
+Elected
+ 1 Ann
+ 3 Cy
+";
+
+/// The sheet of a ward.
+#[derive(Drop)]
+struct WardSheet<'a> {
+    ward: &'a Ward<'a>,
+    stages: &'a [Stage],
+}
+
+impl<'a> Printed for WardSheet<'a> {
+    fn text(&self, alloc: Global) -> Result<String, Fail> {
+        if !can_be_printed(self.ward) {
+            return Err(Fail::from("no ward that can be printed"));
+        }
+        Ok(sheet_text(alloc, self.ward, self.stages)?)
     }
-    Ok(candidates)
-}
 
-/// A stage at which candidates 1, 2 and 3 have so many units.
-pub(crate) fn stage_of(action: Action, units: [u64; 3], elected: Columns, lost: u64) -> Stage {
-    let mut votes = [Votes::from_units(0); 30];
-    votes[0] = Votes::from_units(units[0]);
-    votes[1] = Votes::from_units(units[1]);
-    votes[2] = Votes::from_units(units[2]);
-    Stage {
-        action,
-        votes,
-        elected,
-        non_transferable: Votes::from_units(0),
-        lost: Votes::from_units(lost),
+    fn write<W: Sink>(&self, sink: &mut W) -> Result<(), Broken> {
+        if !can_be_printed(self.ward) {
+            return Err(Broken);
+        }
+        write_sheet(sink, self.ward, self.stages)
     }
 }
 
-/// Prints the sheet of a ward to a sink of 20 bytes.
-fn breaks_sheet(rt: &(impl Abort + AllocGlobal), ward: &Ward, stages: &[Stage], sheet: &str) {
-    assert!(rt; can_be_printed(ward));
-    let mut room = [0; 20];
-    let mut sink = Counted::new(room.as_mut_slice());
-    assert!(rt; write_sheet(&mut sink, ward, stages).is_err());
-    assert_eq!(rt; sink.failures(), 1);
-    assert!(rt; sheet.as_bytes().starts_with(&room));
-}
-
-/// Prints the sheet of a ward: as a text, and to a sink.
-fn prints_sheet(
-    rt: &(impl Abort + AllocGlobal),
-    ward: &Ward,
-    stages: &[Stage],
-    sheet: &str,
-) -> Result<(), Fail> {
-    assert!(rt; can_be_printed(ward));
-    let text = sheet_text(rt.alloc(), ward, stages)?;
-    assert_eq!(rt; text.as_str(), sheet);
-    let mut page = Vec::new(rt.alloc());
-    write_sheet(&mut Counted::new(&mut page), ward, stages)?;
-    assert!(rt; page.as_slice() == sheet.as_bytes());
-    Ok(())
-}
-
-/// Prints the declaration of a ward: as a text, and to a sink.
-fn prints_declaration(
-    rt: &(impl Abort + AllocGlobal),
-    ward: &Ward,
+/// The declaration of a ward.
+#[derive(Drop)]
+struct WardDeclaration<'a> {
+    ward: &'a Ward<'a>,
     elected: Columns,
-    declaration: &str,
+}
+
+impl<'a> Printed for WardDeclaration<'a> {
+    fn text(&self, alloc: Global) -> Result<String, Fail> {
+        if !can_be_printed(self.ward) {
+            return Err(Fail::from("no ward that can be printed"));
+        }
+        Ok(declaration_text(alloc, self.ward, self.elected)?)
+    }
+
+    fn write<W: Sink>(&self, sink: &mut W) -> Result<(), Broken> {
+        if !can_be_printed(self.ward) {
+            return Err(Broken);
+        }
+        write_declaration(sink, self.ward, self.elected)
+    }
+}
+
+/// The ward of these candidates and papers.
+fn harbour<'a>(candidates: &'a [(u8, String)], valid: u32, rejected: [u32; 5]) -> Ward<'a> {
+    Ward {
+        number: 7,
+        name: "Harbour",
+        seats: 2,
+        candidates,
+        poll: Some(Poll { valid, rejected }),
+    }
+}
+
+/// Prints what there is of a ward once it is counted.
+fn prints_counted(
+    rt: &(impl Abort + AllocGlobal),
+    candidates: &[(u8, String)],
 ) -> Result<(), Fail> {
-    assert!(rt; can_be_printed(ward));
-    let text = declaration_text(rt.alloc(), ward, elected)?;
-    assert_eq!(rt; text.as_str(), declaration);
-    let mut page = Vec::new(rt.alloc());
-    write_declaration(&mut Counted::new(&mut page), ward, elected)?;
-    assert!(rt; page.as_slice() == declaration.as_bytes());
-    Ok(())
+    let ward = harbour(candidates, 9, [0; 5]);
+    let stages = three_stages();
+    let sheet = WardSheet {
+        ward: &ward,
+        stages: &stages,
+    };
+    prints(rt, &sheet, HARBOUR)?;
+    let declaration = WardDeclaration {
+        ward: &ward,
+        elected: Columns::empty().with(3).with(1),
+    };
+    prints(rt, &declaration, DECLARATION)
 }
 
 #[test]
 fn sheets_and_declarations(rt: HostRuntime) -> Result<(), Fail> {
-    let nobody = Columns::empty();
-    let stages = [
-        stage_of(Action::First, [600000, 100000, 200000], nobody.with(1), 0),
-        stage_of(Action::Surplus(1), [400000, 233332, 266666], nobody, 2),
-        stage_of(
-            Action::ExcludeLast(2),
-            [400000, 233332, 266666],
-            nobody.with(3),
-            2,
-        ),
-    ];
-    let candidates = candidates_of(rt.alloc(), &["Ann", "Bob", "Cy"])?;
-    let mut ward = Ward {
-        number: 7,
-        name: "Harbour",
-        seats: 2,
-        candidates: &candidates,
-        poll: Some(Poll {
-            valid: 9,
-            rejected: [0; 5],
-        }),
+    let candidates = candidates_of(rt.alloc(), &[(1, "Ann"), (2, "Bob"), (3, "Cy")])?;
+    prints_counted(&rt, &candidates)?;
+    let ward = harbour(&candidates, MAX_PAPERS, [1, 20, 300, 4000, 50000]);
+    let sheet = WardSheet {
+        ward: &ward,
+        stages: &[],
     };
-    prints_sheet(&rt, &ward, &stages, HARBOUR)?;
-    breaks_sheet(&rt, &ward, &stages, HARBOUR);
-    let declaration = "Ward 7 Harbour\nElected\n 1 Ann\n 3 Cy\n";
-    prints_declaration(&rt, &ward, nobody.with(3).with(1), declaration)?;
-    ward.poll = Some(Poll {
-        valid: MAX_PAPERS,
-        rejected: [1, 20, 300, 4000, 50000],
-    });
-    prints_sheet(&rt, &ward, &[], SEALED)?;
-    Ok(())
+    prints(&rt, &sheet, SEALED)
 }

@@ -1,9 +1,9 @@
 //! The stages of a ward as a table for a spreadsheet, byte for byte.
 
-use crate::sheets::{candidates_of, stage_of};
-use count::Action;
-use paper::Columns;
+use crate::printed::{candidates_of, is_text, three_stages};
+use count::Stage;
 use sheet::{Ward, can_be_printed, spreadsheet_text};
+use std::process::Abort;
 use std::test::Fail;
 
 /// A name may have a quotation mark and a comma, and begin as a formula does.
@@ -27,34 +27,49 @@ const NAMES: &str = r#""candidate","name"
 "","lost by fractions"
 "#;
 
-#[test]
-fn spreadsheets(rt: HostRuntime) -> Result<(), Fail> {
-    let nobody = Columns::empty();
-    let stages = [
-        stage_of(Action::First, [600000, 100000, 200000], nobody.with(1), 0),
-        stage_of(Action::Surplus(1), [400000, 233332, 266666], nobody, 2),
-        stage_of(
-            Action::ExcludeLast(2),
-            [400000, 233332, 266666],
-            nobody.with(3),
-            2,
-        ),
-    ];
-    let candidates = candidates_of(rt.alloc(), &["Ann", "Bob \"the\" =, jr.", "=Cy"])?;
-    let mut ward = Ward {
+/// Makes the table of a ward with these candidates, and compares it.
+fn tabulates(
+    rt: &(impl Abort + AllocGlobal),
+    candidates: &[(u8, String)],
+    stages: &[Stage],
+    table: &str,
+) -> Result<(), Fail> {
+    let ward = Ward {
         number: 7,
         name: "Harbour",
         seats: 2,
-        candidates: &candidates,
+        candidates,
         poll: None,
     };
     assert!(rt; can_be_printed(&ward));
-    let text = spreadsheet_text(rt.alloc(), &ward, &stages)?;
-    assert_eq!(rt; text.as_str(), HARBOUR);
-    let named = candidates_of(rt.alloc(), &["+1", "-1", "@a", "＝1", "'Ann"])?;
-    ward.candidates = &named;
-    assert!(rt; can_be_printed(&ward));
-    let text = spreadsheet_text(rt.alloc(), &ward, &[])?;
-    assert_eq!(rt; text.as_str(), NAMES);
+    let text = spreadsheet_text(rt.alloc(), &ward, stages)?;
+    is_text(rt, text.as_str(), table);
     Ok(())
+}
+
+/// The same of candidates by their numbers and names.
+fn tabulates_named(
+    rt: &(impl Abort + AllocGlobal),
+    named: &[(u8, &str)],
+    stages: &[Stage],
+    table: &str,
+) -> Result<(), Fail> {
+    let candidates = candidates_of(rt.alloc(), named)?;
+    tabulates(rt, &candidates, stages, table)
+}
+
+#[test]
+fn spreadsheets(rt: HostRuntime) -> Result<(), Fail> {
+    tabulates_named(
+        &rt,
+        &[(1, "Ann"), (2, "Bob \"the\" =, jr."), (3, "=Cy")],
+        &three_stages(),
+        HARBOUR,
+    )?;
+    tabulates_named(
+        &rt,
+        &[(1, "+1"), (2, "-1"), (3, "@a"), (4, "＝1"), (5, "'Ann")],
+        &[],
+        NAMES,
+    )
 }

@@ -1,6 +1,11 @@
--- A read that is refused, or stopped by want of memory.
-use Rattle.std.proofs.Common.{inl, Result, Ok, Err, IfErr}
-use Rattle.sqlite.specs.State.{State}
+-- A read that is refused, or stopped by want of memory; and what an order leaves that only reads.
+use Rattle.std.proofs.Common.{inl, inr, Bool, true, false, Result, Ok, Err, IfErr, refl}
+use Rattle.sqlite.specs.State.{State, HasCleanDisk}
+use Rattle.register.specs.Offices.{OfficeState}
+use Rattle.tables.specs.Reading.{OnlyReads}
+use Rattle.store.specs.Offices.{IsAt}
+use Rattle.store.proofs.KeepLemmas.{is_at_read}
+use Rattle.office.specs.Answers.{IsReadAt}
 use Rattle.office.specs.declared.answers.Stop.{Stop}
 use Rattle.office.specs.declared.answers.Stop.TheVariants.{Refused, Fault as Failed}
 use Rattle.office.specs.Reads.{StopsBy}
@@ -13,3 +18,8 @@ stops_of_memory old new (Failed f) h = inl h
 pub if_of_memory : {X : Type 0} (old new : State) (r : Result X Stop) → IfErr r IsOfMemory → IfErr r (StopsBy old new)
 if_of_memory old new (Ok x) h = tt
 if_of_memory old new (Err stop) h = stops_of_memory old new stop h
+
+-- it leaves the office at its state, open or closed
+pub left_reading : (s : OfficeState) (closed : Bool) (old new : State) → OnlyReads old new → HasCleanDisk new → IsAt s old → IsReadAt s closed new
+left_reading s false old new reads clean at = inl (record { is_open = refl; at = is_at_read s old new reads clean at })
+left_reading s true old new reads clean at = let it = is_at_read s old new reads clean at in inr (refl, it.leaves)

@@ -7,6 +7,8 @@ use Rattle.register.specs.Offices.{OfficeState}
 use Rattle.register.specs.Machine.{Outcome, accepted, kept, refused, state_after, is_accepted}
 use Rattle.tables.specs.declared.fault.Fault.{Fault}
 use Rattle.tables.specs.declared.fault.Fault.TheVariants.{Memory, Store}
+use Rattle.store.specs.declared.copying.CopyFault.{CopyFault}
+use Rattle.store.specs.declared.copying.CopyFault.TheVariants.{Office, Taken, Copy}
 use Rattle.store.specs.Offices.{IsAt, LeavesState}
 use Rattle.office.specs.declared.answers.Answer.{Answer}
 use Rattle.office.specs.declared.answers.Answer.TheVariants.{Done, Kept, Refused}
@@ -67,6 +69,21 @@ pub record IsClosedIn (s : OfficeState) (outcome : Outcome) (f : Fault) (closed 
 pub record IsKeptOpen (s : OfficeState) (f : Fault) (closed : Bool) (st : State) : Type 0 where
   pub memory : f ≡ Memory
   pub open_at : IsOpenAt s closed st
+
+-- What an order leaves that only read, whether or not it could be ended: the office is open at its state, or its store failed, which closed it; a stop
+-- leaves the state as it was.
+abbrev pub IsReadAt : OfficeState → Bool → State → Type 0
+IsReadAt s closed st = IsOpenAt s closed st ⊎ ((closed ≡ true) × LeavesState st (λ x. x ≡ s))
+
+-- any fault but want of memory closed the office; want of memory left it open
+abbrev pub ClosedBy : Bool → Fault → Type 0
+ClosedBy closed f = (f ≡ Memory → closed ≡ false) × ((f ≡ Memory) ⊎ (closed ≡ true))
+
+-- the same where it was copied: a fault of the copy left it open
+abbrev pub ClosedInCopying : Bool → CopyFault → Type 0
+ClosedInCopying closed (Office f) = ClosedBy closed f
+ClosedInCopying closed Taken = closed ≡ false
+ClosedInCopying closed (Copy f) = closed ≡ false
 
 -- What each exit of a request leaves. Answered: the state that the machine's step makes of the one before, which is the
 -- same unless the request was accepted. A fault: the state before, or, where it closed the office, that or the one after.

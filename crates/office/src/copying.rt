@@ -1,6 +1,15 @@
 //! A copy of the office.
 
-ghost use Rattle.store.specs.Copies.{CopiesTo};
+ghost use Rattle.std.specs.Prelude.{◌≡◌, ◌⊎◌, true, false, Err, IfErr, IfOk, OnOk};
+ghost use Rattle.sqlite.specs.Held.{state};
+ghost use Rattle.sqlite.specs.State.{HasCleanDisk};
+ghost use Rattle.sqlite.specs.Tree.{Trees};
+ghost use Rattle.register.specs.Offices.{OfficeState};
+ghost use Rattle.tables.specs.Reading.{OnlyReads};
+ghost use Rattle.store.specs.Copies.{CopiesAt, CopiesTo, IsUnbegun, holdings_of};
+ghost use Rattle.store.specs.Offices.{IsAt, StoresState, Wears};
+ghost use Rattle.store.specs.Openings.{IsBlank};
+ghost use Rattle.office.specs.Answers.{ClosedInCopying, IsReadAt, WhenOpenAt};
 
 use crate::offices::Office;
 use sqlite::{Alter, Connection};
@@ -23,5 +32,38 @@ impl<S: Alter> Office<S> {
         ensures { CopiesTo S.Store T.Store conn.old conn.new copy.old copy.new result }
     {
         store::copy(alloc, conn, copy)
+    }
+
+    /// Copies this office, which goes on, into the database of another connection, which has nothing in it, in one
+    /// transaction. Tells how much the copy has: it opens at the very state of the office, with every receipt.
+    ///
+    /// `Office` tells why the office couldn't be read, and nothing is copied. Any such fault but want of memory closes it.
+    /// `Taken` and `Copy` are those of `copy`. A closed office tells `Closed`.
+    pub fn copy_open<T: Alter>(&mut self, copy: &mut Connection<T>) -> Result<Holdings, CopyFault>
+        ensures copies { WhenOpenAt (state S.Store) self.old self.new
+            (λ s. CopiesAt s (state T.Store copy.old) (state T.Store copy.new) result × IsReadAt s self.new.closed (state S.Store self.new.held)) }
+        ensures made { HasCleanDisk (state T.Store copy.new) → IsBlank (state T.Store copy.old) → IfOk result (λ h. (x : OfficeState) × (h ≡ holdings_of x) × IsAt x (state T.Store copy.new)) }
+        ensures whole { HasCleanDisk (state T.Store copy.new) → IsBlank (state T.Store copy.old)
+            → (trees : Trees) → (state T.Store copy.new).may_leave trees → (state T.Store copy.old).may_leave trees ⊎ ((x : OfficeState) × StoresState x trees) }
+        ensures untouched { IfErr result (λ e. IsUnbegun e → copy.new ≡ copy.old) }
+        ensures reads { OnlyReads (state S.Store self.old.held) (state S.Store self.new.held) }
+        ensures wears { Wears (state T.Store copy.old) (state T.Store copy.new) }
+        ensures clean { HasCleanDisk (state T.Store copy.new) → HasCleanDisk (state T.Store copy.old) }
+        ensures opens { OnOk result (self.new.closed ≡ false) }
+        ensures closes { IfErr result (ClosedInCopying self.new.closed) }
+        ensures closed { self.old.closed ≡ true → (result ≡ Err (CopyFault.Office Fault.Closed)) × (self.new ≡ self.old) × (copy.new ≡ copy.old) }
+    {
+        if self.closed {
+            return Err(CopyFault::Office(Fault::Closed));
+        }
+        match self.store.copy_to(copy) {
+            Ok(holdings) => Ok(holdings),
+            Err(CopyFault::Office(fault)) => {
+                self.closed = fault != Fault::Memory;
+                Err(CopyFault::Office(fault))
+            }
+            Err(CopyFault::Taken) => Err(CopyFault::Taken),
+            Err(CopyFault::Copy(fault)) => Err(CopyFault::Copy(fault)),
+        }
     }
 }

@@ -2,7 +2,8 @@
 //!
 //! `Office` stands over any store of `sqlite`. `create` makes an empty office, and `open_from` opens one. `migrate`
 //! brings an office of an earlier program over to this one, and `copy` makes the same office in another database.
-//! `rows` reads all entries of one, and `leads_to` says whether requests lead from an empty office to such entries.
+//! `rows` reads all entries of one. `copy_open` and `rows_open` do so of an office that is open, and goes on. `leads_to`
+//! says whether requests lead from an empty office to such entries.
 //! `handle` answers one request and `run` a list of them; `status`, `next_step`, `columns`, `work`, `sheet`, `result`,
 //! `text` and `index` tell of the state, and change nothing, as `wards`, `batches`, `doubtful`, `differences`,
 //! `papers` and `receipts` tell the office alone. A fault inside a transaction closes the office: it answers 104 until

@@ -109,6 +109,13 @@ impl<S: Alter> Office<S> {
         }
     }
 
+    /// Whether it is closed.
+    pub fn is_closed(&self) -> bool
+        ensures { result ≡ self.now.closed }
+    {
+        self.closed
+    }
+
     /// Gives the connection back as it is, from a closed office too.
     pub fn into_connection(self) -> Connection<S>
         ensures { result ≡ self.held }

@@ -1,16 +1,17 @@
 //! An office read whole, and requests played over an empty office, to see whether they lead to it.
 
-ghost use Rattle.std.specs.Prelude.{◌≡◌, true, false, IfOk, IfErr};
+ghost use Rattle.std.specs.Prelude.{◌≡◌, true, false, Err, IfOk, IfErr, OnOk};
 ghost use Rattle.std.specs.List.{list_all};
 ghost use Rattle.sqlite.specs.Held.{state};
 ghost use Rattle.sqlite.specs.State.{HasCleanDisk};
-ghost use Rattle.register.specs.Offices.{OfficeState};
+ghost use Rattle.register.specs.Offices.{MapsRise, OfficeState};
 ghost use Rattle.register.specs.Machine.{after};
 ghost use Rattle.rowcheck.specs.States.{state_of};
+ghost use Rattle.tables.specs.Reading.{OnlyReads};
 ghost use Rattle.store.specs.Offices.{IsAt};
 ghost use Rattle.store.specs.Openings.{IsBlank};
 ghost use Rattle.store.specs.Whole.{ReadsOffice};
-ghost use Rattle.office.specs.Answers.{IsMemoryOrStore, IsOpenAt, WhenOpenAt, is_done, told};
+ghost use Rattle.office.specs.Answers.{ClosedBy, IsMemoryOrStore, IsOpenAt, IsReadAt, WhenOpenAt, is_done, told};
 ghost use Rattle.office.specs.Runs.{LeadTo, are_accepted};
 
 use crate::answers::Answer;
@@ -69,6 +70,32 @@ impl<S: Alter> Office<S> {
         ensures { ReadsOffice (state S.Store conn.old) (state S.Store conn.new) result }
     {
         read_office(alloc, conn)
+    }
+
+    /// All entries of this office, which goes on, each table's in the order of its keys. Nothing is changed, whatever is
+    /// told.
+    ///
+    /// `Memory` leaves the office open. Any other fault closes it. A closed office tells `Closed`.
+    pub fn rows_open(&mut self) -> Result<Rows, Fault>
+        ensures kept { WhenOpenAt (state S.Store) self.old self.new
+            (λ s. IfOk result (λ rows. state_of rows ≡ s) × IfErr result IsMemoryOrStore × IsReadAt s self.new.closed (state S.Store self.new.held)) }
+        ensures rise { IfOk result (λ rows. MapsRise (state_of rows)) }
+        ensures reads { OnlyReads (state S.Store self.old.held) (state S.Store self.new.held) }
+        ensures opens { OnOk result (self.new.closed ≡ false) }
+        ensures closes { IfErr result (ClosedBy self.new.closed) }
+        ensures closed { self.old.closed ≡ true → (result ≡ Err Fault.Closed) × (self.new ≡ self.old) }
+    {
+        if self.closed {
+            return Err(Fault::Closed);
+        }
+        match self.store.rows() {
+            Ok(rows) => Ok(rows),
+            Err(Fault::Memory) => Err(Fault::Memory),
+            Err(_) => {
+                self.closed = true;
+                Err(Fault::Store)
+            }
+        }
     }
 
     /// Answers requests in order, and says whether each was accepted. A fault is told as `Memory` or `Store`; what it

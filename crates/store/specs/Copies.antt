@@ -52,6 +52,12 @@ IsUnbegun (Office fault) = ⊤
 IsUnbegun Taken = ⊤
 IsUnbegun (Copy fault) = ⊥
 
+-- What comes of a copy of an office that keeps a state: the copy keeps that very state, or a fault is told, and a stop leaves of the copy what it could
+-- leave before, or the whole of it.
+pub record CopiesAt (s : OfficeState) (blank full : State) (result : Result Holdings CopyFault) : Type 0 where
+  pub same : IfOk result (λ h. (h ≡ holdings_of s) × (HasCleanDisk full → IsBlank blank → IsAt s full))
+  pub stops : HasCleanDisk full → IsBlank blank → LeavesNoneOrAll s blank full
+
 -- ---- a copy
 
 module _ {S T : Type 0} (store : Ghosts S) (other : Ghosts T) (conn conn_after : Held S) (copy copy_after : Held T) (result : Result Holdings CopyFault) where
@@ -69,13 +75,14 @@ module _ {S T : Type 0} (store : Ghosts S) (other : Ghosts T) (conn conn_after :
   abbrev full : State
   full = state other copy_after
 
-  -- What comes of a copy of an office that is found by its rows alone (`copied`, `told`), or at a state (`same`, `stops`, `cause`); what the copy holds
-  -- whatever it was made of (`made`, `whole`); and where nothing is written.
+  -- What comes of a copy of an office that is found by its rows alone (`copied`, `told`), at a state (`same`, `stops`, `cause`), or kept by an office that
+  -- was open (`kept`); what the copy holds whatever it was made of (`made`, `whole`); and where nothing is written.
   pub record CopiesTo : Type 0 where
     pub copied : HasCleanDisk new → (db : Database) → IsOurs db.schema → RestsAt db old
         → IfOk result (λ h. (s : OfficeState) × HoldsState db s × (h ≡ holdings_of s) × (HasCleanDisk full → IsBlank blank → IsAt s full))
     pub same : HasCleanDisk new → (db : Database) → RestsAt db old → (s : OfficeState) → IsLeftAt s db → IfOk result (λ h. (h ≡ holdings_of s) × (HasCleanDisk full → IsBlank blank → IsAt s full))
     pub stops : HasCleanDisk new → HasCleanDisk full → (db : Database) → RestsAt db old → (s : OfficeState) → IsLeftAt s db → IsBlank blank → LeavesNoneOrAll s blank full
+    pub kept : HasCleanDisk new → (s : OfficeState) → IsAt s old → CopiesAt s blank full result
     pub made : HasCleanDisk full → IsBlank blank → IfOk result (λ h. (x : OfficeState) × (h ≡ holdings_of x) × IsAt x full)
     pub whole : HasCleanDisk full → IsBlank blank → (trees : Trees) → full.may_leave trees → blank.may_leave trees ⊎ ((x : OfficeState) × StoresState x trees)
     pub told : HasCleanDisk new → (db : Database) → IsOurs db.schema → RestsAt db old → IsBlank blank → IfErr result (IsToldInCopying db old new)

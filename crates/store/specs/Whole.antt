@@ -1,5 +1,5 @@
 -- All entries of an office, read from a database.
-use Rattle.std.specs.Prelude.{◌≡◌, true, Result, Err, IfOk, IfErr}
+use Rattle.std.specs.Prelude.{◌≡◌, true, false, Result, Err, IfOk, IfErr}
 use Rattle.sqlite.specs.Effect.{Database}
 use Rattle.sqlite.specs.State.{State, HasCleanDisk}
 use Rattle.register.specs.Offices.{OfficeState}
@@ -17,7 +17,7 @@ use Rattle.store.specs.Openings.{IsLeftAt, IsToldBy}
 
 -- The rows that are read are those of a state (`is`), with what its counts tabulate (`tabulates`), whatever made them. They are those of the state
 -- that the database holds: found by its rows alone (`found`), left there by a stop (`left`), or kept by an office that was open (`kept`). Else an
--- opening's fault is told, with its cause.
+-- opening's fault is told, with its cause. No transaction is begun.
 pub record ReadsOffice (old new : State) (result : Result Rows Fault) : Type 0 where
   pub is : IfOk result (λ rows. IsState (state_of rows))
   pub tabulates : IfOk result (λ rows. IsTabulationOf (tabulated rows) (state_of rows))
@@ -29,3 +29,4 @@ pub record ReadsOffice (old new : State) (result : Result Rows Fault) : Type 0 w
   pub cause : HasCleanDisk new → (db : Database) → RestsAt db old → (s : OfficeState) → IsLeftAt s db → IfErr result (FailsBy old new)
   pub reads : OnlyReads old new
   pub inside : old.in_transaction ≡ true → result ≡ Err StoreFailed
+  pub outside : old.in_transaction ≡ false → new.in_transaction ≡ false

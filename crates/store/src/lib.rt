@@ -7,7 +7,8 @@
 //! the texts of a ward are written from, `load_book` its count as it was kept, `load_wards`, `load_batches`,
 //! `load_doubtful`, `load_batch_papers`, `load_differences` and `load_receipts` how all stands, and `commit` keeps a
 //! change in one transaction, whole or not at all. `migrate` makes of an office that an earlier program made one that opens, and `copy`
-//! makes the same office in another database. `read_office` reads all of one. `Fault` says why a call gave up.
+//! makes the same office in another database. `read_office` reads all of one. `Store::copy_to` and `Store::rows` do so of
+//! an office that is open. `Fault` says why a call gave up.
 //!
 //! ```text
 //! let mut store = Store::open_from(alloc, conn)?;

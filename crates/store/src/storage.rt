@@ -12,12 +12,17 @@ ghost use Rattle.sqlite.specs.Effect.{Database};
 ghost use Rattle.tables.specs.Contents.{Contents, SameContents, Rests, RestsAt, Stores};
 ghost use Rattle.tables.specs.Presence.{has_some_table, has_every_table, IsOurs};
 ghost use Rattle.tables.specs.Reading.{OnlyReads, FailsToList, FailsBy};
+ghost use Rattle.store.specs.Copies.{CopiesTo};
 ghost use Rattle.store.specs.Offices.{tables_of, ChangesTo, HoldsState, IsAt, LeavesState, Wears};
 ghost use Rattle.store.specs.Openings.{IsBlank, IsToldBy, IsLeftAt};
+ghost use Rattle.store.specs.Whole.{ReadsOffice};
 
+use crate::copying::{CopyFault, Holdings, copy as copy_between};
 use crate::opening::check;
+use crate::whole::read_office;
 use crate::writing::{write_change, write_new_office};
 use register::Change;
+use rowcheck::Rows;
 use sqlite::{Alter, Connection};
 use std::alloc::Global;
 use std::marker::Model;
@@ -170,6 +175,21 @@ impl<S: Alter> Store<S> {
         ensures cause { IfErr result (λ f. (f ≡ Fault.Memory) ⊎ (f ≡ Fault.Store)) }
     {
         commit_change(self.alloc, &mut self.conn, change)
+    }
+
+    /// Copies the office into another database, which has nothing in it, in one transaction; and tells how much the copy
+    /// has. The office itself is only read.
+    pub fn copy_to<T: Alter>(&mut self, copy: &mut Connection<T>) -> Result<Holdings, CopyFault>
+        ensures { CopiesTo S.Store T.Store self.old self.new copy.old copy.new result }
+    {
+        copy_between(self.alloc, &mut self.conn, copy)
+    }
+
+    /// All entries of the office, each table's in the order of its keys. It is only read.
+    pub fn rows(&mut self) -> Result<Rows, Fault>
+        ensures { ReadsOffice (state S.Store self.old) (state S.Store self.new) result }
+    {
+        read_office(self.alloc, &mut self.conn)
     }
 
     /// What allocates what is read.

@@ -1,12 +1,14 @@
-//! Clients whose connections break, or who aren't let in; and the work of clerks for whom no client can ask.
+//! Clients who come at once: their requests come in parts, their lines break, they say nothing, or they are too many; and the
+//! work of clerks for whom no client can ask.
 
-use super::begun::{BEGUN, KEYED, KEYING};
-use super::clients::Client;
+use super::begun::{BAD_REQUEST, BEGUN, KEYED, KEYING};
+use super::clients::{Client, Comers, Evening};
 use super::disks::Disks;
 use super::machine::{Machine, hear, hear_unchanged, play_acts};
 use super::steps::Step;
 use office::texts_are_there;
 use register::elections::elections_are_fair;
+use std::alloc::Global;
 use std::process::Abort;
 use std::test::Fail;
 
@@ -16,78 +18,316 @@ const FOUR_KEYED: &str = "batch 12 ward 7 [1, 2, 3] size 2 round 1: keyed\n";
 /// What is told of clerks whose number is none.
 const NO_CLERK: &str = "refused 3: number out of range\n";
 
-/// Connections break at each byte of the request, of which nothing is kept; and at each byte of the answer, which
-/// the first of those clients is told of his keying, and the others again.
-fn breaks_at_each_byte<M: Machine + Drop>(
+/// The work of clerk 4 and of clerk 9 is asked for, and a sheet that isn't there yet.
+const FOUR: &[u8] = b"GET /clerks/4/work HTTP/1.1\r\n\r\n";
+
+const NINE: &[u8] = b"GET /clerks/9/work HTTP/1.1\r\n\r\n";
+
+const SHEET: &[u8] = b"GET /wards/7/sheet HTTP/1.1\r\n\r\n";
+
+/// What is told of them.
+const FOUR_TO_KEY: &str =
+    "HTTP/1.1 200 OK\r\nContent-Type: application/json\r\nContent-Length: 93\r\nConnection: close\r\n\r\n{\"clerk\":4,\"work\":[{\"batch\":12,\"columns\":[1,2,3],\"keyed\":false,\"round\":1,\"size\":2,\"ward\":7}]}";
+
+const FOUR_HAS_KEYED: &str =
+    "HTTP/1.1 200 OK\r\nContent-Type: application/json\r\nContent-Length: 92\r\nConnection: close\r\n\r\n{\"clerk\":4,\"work\":[{\"batch\":12,\"columns\":[1,2,3],\"keyed\":true,\"round\":1,\"size\":2,\"ward\":7}]}";
+
+const NINE_TO_KEY: &str =
+    "HTTP/1.1 200 OK\r\nContent-Type: application/json\r\nContent-Length: 93\r\nConnection: close\r\n\r\n{\"clerk\":9,\"work\":[{\"batch\":12,\"columns\":[1,2,3],\"keyed\":false,\"round\":1,\"size\":2,\"ward\":7}]}";
+
+const WRONG_PHASE: &str =
+    "HTTP/1.1 409 Conflict\r\nContent-Type: application/json\r\nContent-Length: 34\r\nConnection: close\r\n\r\n{\"refusal\":9,\"text\":\"wrong phase\"}";
+
+/// Who comes, what each of them must take, and how serving must end.
+#[derive(Clone, Copy)]
+struct Case<'a> {
+    evening: Evening<'a>,
+    texts: &'a [&'a str],
+    end: &'a str,
+}
+
+/// What clients take, a line feed between each two.
+fn taken(alloc: Global, texts: &[&str]) -> Result<String, Fail> {
+    let mut all = String::new(alloc);
+    for (place, text) in texts.iter().enumerate() {
+        if place > 0 {
+            all.push('\n')?;
+        }
+        all.push_str(text)?;
+    }
+    Ok(all)
+}
+
+/// Serves clients, and hears what they take.
+fn serve<M: Machine + Drop>(
+    rt: &(impl Abort + AllocGlobal),
+    machine: M,
+    case: Case<'_>,
+) -> Result<M, Fail> {
+    let out = taken(rt.alloc(), case.texts)?;
+    let told = (0, out.as_str(), case.end);
+    hear(rt, machine, &[(Step::Serve(case.evening), told)])
+}
+
+/// All clients of an evening come in, and leave.
+fn serve_all<M: Machine + Drop>(
+    rt: &(impl Abort + AllocGlobal),
+    machine: M,
+    evening: Evening<'_>,
+    texts: &[&str],
+) -> Result<M, Fail> {
+    let end = "Ok(())";
+    serve(
+        rt,
+        machine,
+        Case {
+            evening,
+            texts,
+            end,
+        },
+    )
+}
+
+/// Clients who come at once send their requests in parts of their own. Each has his turn once his request is whole, and
+/// takes the answer to it: a clerk's work is told before his keying is whole, and behind it.
+fn have_their_turns<M: Machine + Drop>(
+    rt: &(impl Abort + AllocGlobal),
+    machine: M,
+) -> Result<M, Fail> {
+    let comers = [
+        Some(Client::slow(FOUR, 7)),
+        Some(Client::slow(KEYING.as_bytes(), 40)),
+        Some(Client::slow(b"X\r\n\r\n", 1)),
+        Some(Client::whole(FOUR)),
+        Some(Client::slow(NINE, 1)),
+        Some(Client::slow(SHEET, 5)),
+        Some(Client {
+            sips: 3,
+            ends: false,
+            ..Client::whole(NINE)
+        }),
+    ];
+    let texts = [
+        FOUR_HAS_KEYED,
+        KEYED,
+        BAD_REQUEST,
+        FOUR_TO_KEY,
+        NINE_TO_KEY,
+        WRONG_PHASE,
+        NINE_TO_KEY,
+    ];
+    serve_all(rt, machine, Evening::of(&comers), &texts)
+}
+
+/// Lines break at each byte of the request, of which nothing is kept; and at each byte of the answer, which the first of
+/// those clients is told of his keying, and the others again.
+fn break_at_each_byte<M: Machine + Drop>(
     rt: &(impl Abort + AllocGlobal),
     machine: M,
 ) -> Result<M, Fail> {
     let keying = Client::whole(KEYING.as_bytes());
     let mut unheard = Vec::new(rt.alloc());
+    let mut nothing = String::new(rt.alloc());
     for heard in 0..KEYING.len() {
         unheard.push(Some(Client { heard, ..keying }))?;
+        if heard > 0 {
+            nothing.push('\n')?;
+        }
     }
     let mut untold = Vec::new(rt.alloc());
-    let mut page = String::new(rt.alloc());
+    let mut fronts = Vec::new(rt.alloc());
     for takes in 0..KEYED.len() {
         untold.push(Some(Client { takes, ..keying }))?;
-        page.push_str(KEYED.get(..takes).unwrap_or(""))?;
+        fronts.push(KEYED.get(..takes).unwrap_or(""))?;
     }
-    let requests = u32::try_from(unheard.len())?;
-    let answers = u32::try_from(untold.len())?;
-    let unheard = (Step::Serve(&unheard, requests), (0, "", "Ok(())"));
-    let untold = (Step::Serve(&untold, answers), (0, page.as_str(), "Ok(())"));
-    let machine = hear_unchanged(rt, machine, &[unheard])?;
-    hear(rt, machine, &[untold])
+    let unheard = Step::Serve(Evening::of(&unheard));
+    let machine = hear_unchanged(rt, machine, &[(unheard, (0, nothing.as_str(), "Ok(())"))])?;
+    serve_all(rt, machine, Evening::of(&untold), &fronts)
 }
 
-/// Clients aren't let in, behind others and before them.
-fn some_are_not_let_in<M: Machine + Drop>(
+/// One who says nothing, one who sends a byte now and then, and one who takes nothing of his answer are let go by a clock
+/// that jumps by ten seconds. The others are answered all the while.
+fn are_let_go<M: Machine + Drop>(rt: &(impl Abort + AllocGlobal), machine: M) -> Result<M, Fail> {
+    let comers = [
+        Some(Client::silent()),
+        Some(Client::slow(FOUR, 1)),
+        Some(Client {
+            sips: 0,
+            ..Client::whole(FOUR)
+        }),
+        Some(Client::whole(NINE)),
+    ];
+    let evening = Evening {
+        seconds: 10,
+        ..Evening::of(&comers)
+    };
+    serve_all(rt, machine, evening, &["", "", "", NINE_TO_KEY])
+}
+
+/// Those who come, of whom so many are wanted; and how that must end.
+fn wanted<'a>(
+    comers: Comers<'a>,
+    connections: Option<u64>,
+    texts: &'a [&'a str],
+    end: &'a str,
+) -> Case<'a> {
+    let evening = Evening {
+        connections,
+        waits: 9,
+        ..Evening::of(comers)
+    };
+    Case {
+        evening,
+        texts,
+        end,
+    }
+}
+
+/// Some can't be let in, and don't count. Doors that fail end it, and what was answered before stands.
+fn are_not_let_in<M: Machine + Drop>(
     rt: &(impl Abort + AllocGlobal),
     machine: M,
-) -> Result<(), Fail> {
-    let keying = Some(Client::whole(KEYING.as_bytes()));
-    let (nobody, one) = ([], [keying]);
-    let (late, between) = ([None, keying], [keying, None, keying]);
-    let machine = hear_unchanged(
+) -> Result<M, Fail> {
+    let work = Some(Client::whole(FOUR));
+    let (one, late, between) = ([work], [None, work], [work, None, work]);
+    let mut machine = machine;
+    for case in [
+        wanted(&one, Some(0), &[""], "Ok(())"),
+        wanted(&one, Some(2), &[FOUR_TO_KEY], "Err(Broken)"),
+        wanted(&one, None, &[FOUR_TO_KEY], "Err(Broken)"),
+        wanted(&late, Some(1), &["", FOUR_TO_KEY], "Ok(())"),
+        wanted(&between, Some(1), &[FOUR_TO_KEY, "", ""], "Ok(())"),
+        wanted(&between, Some(2), &[FOUR_TO_KEY, "", FOUR_TO_KEY], "Ok(())"),
+    ] {
+        machine = serve(rt, machine, case)?;
+    }
+    Ok(machine)
+}
+
+/// How many come at once, and how many may be in.
+const CROWD: usize = 600;
+
+const MOST: usize = 512;
+
+/// Of the crowd these ask for a clerk's work, three bytes at a time; the doors tell of them alone.
+const ASKING: &[usize] = &[0, CROWD - MOST - 1, CROWD - MOST, MOST, CROWD - 1];
+
+/// A crowd of clients of whom the others are silent.
+fn crowd<'a>(alloc: Global) -> Result<Vec<Option<Client<'a>>>, Fail> {
+    let mut comers = Vec::new(alloc);
+    for place in 0..CROWD {
+        comers.push(Some(if ASKING.contains(&place) {
+            Client {
+                at_once: 3,
+                ..Client::whole(FOUR)
+            }
+        } else {
+            Client::silent()
+        }))?;
+    }
+    Ok(comers)
+}
+
+/// What a crowd takes of which these places are answered.
+fn crowds_texts(alloc: Global, answered: &[usize]) -> Result<Vec<&'static str>, Fail> {
+    let mut texts = Vec::new(alloc);
+    for place in 0..CROWD {
+        let text = if answered.contains(&place) {
+            FOUR_TO_KEY
+        } else {
+            ""
+        };
+        texts.push(text)?;
+    }
+    Ok(texts)
+}
+
+/// Where more come than may be in, those who have waited longest are let go for them, of a crowd of 600 the first 88. Nobody
+/// is let go so before he has waited a second: where no time passes, whoever comes waits until somebody leaves.
+fn are_too_many<M: Machine + Drop>(rt: &(impl Abort + AllocGlobal), machine: M) -> Result<M, Fail> {
+    let alloc = rt.alloc();
+    let comers = crowd(alloc)?;
+    let texts = crowds_texts(alloc, &[CROWD - MOST, MOST, CROWD - 1])?;
+    let evening = Evening {
+        told: Some(ASKING),
+        seconds: 1,
+        ..Evening::of(&comers)
+    };
+    let machine = serve_all(rt, machine, evening, &texts)?;
+    let texts = crowds_texts(alloc, &[0, CROWD - MOST - 1, CROWD - MOST, MOST])?;
+    let evening = Evening {
+        told: Some(ASKING),
+        waits: 40,
+        ..Evening::of(&comers)
+    };
+    let end = "Err(Broken)";
+    serve(
+        rt,
+        machine,
+        Case {
+            evening,
+            texts: &texts,
+            end,
+        },
+    )
+}
+
+/// Of bodies of a megabyte each, 63 may be held at once. Where one more comes, who has waited longest is let go, and nobody else.
+fn hold_too_much<M: Machine + Drop>(
+    rt: &(impl Abort + AllocGlobal),
+    machine: M,
+) -> Result<M, Fail> {
+    let alloc = rt.alloc();
+    let head = b"POST /clerks/4/batches/12/keying HTTP/1.1\r\nContent-Length: 1048576\r\n\r\n";
+    let mut body = Vec::from_slice(alloc, head)?;
+    body.resize(body.len() + (1 << 20), 0xff)?;
+    let all_but_one = body.len().saturating_sub(1);
+    let comer = Client::slow(body.as_slice(), all_but_one);
+    // Most never send their last byte.
+    let waits = Client {
+        sends: body.get(..all_but_one).unwrap_or(&[]),
+        ends: false,
+        ..comer
+    };
+    let mut comers = [Some(waits); 64];
+    let mut texts = [""; 64];
+    comers[0] = Some(comer);
+    comers[1] = Some(comer);
+    comers[63] = Some(comer);
+    texts[1] = BAD_REQUEST;
+    texts[63] = BAD_REQUEST;
+    serve(rt, machine, wanted(&comers, None, &texts, "Err(Broken)"))
+}
+
+/// What a client can't ask.
+fn works<M: Machine + Drop>(rt: &(impl Abort + AllocGlobal), machine: M) -> Result<M, Fail> {
+    hear(
         rt,
         machine,
         &[
-            // A client fewer, one who can't be let in, and none that is wanted.
-            (Step::Serve(&nobody, 1), (0, "", "Err(Output)")),
-            (Step::Serve(&late, 2), (0, "", "Err(Output)")),
-            (Step::Serve(&one, 0), (0, "", "Ok(())")),
-        ],
-    )?;
-    // What was answered before such a one stands.
-    let machine = hear(
-        rt,
-        machine,
-        &[
-            (Step::Serve(&between, 3), (0, KEYED, "Err(Output)")),
             (Step::Work(4), (0, FOUR_KEYED, "")),
             (Step::Work(0), (0, NO_CLERK, "")),
             (Step::Work(u32::MAX), (0, NO_CLERK, "")),
         ],
-    )?;
-    hear_unchanged(
-        rt,
-        machine,
-        &[(Step::Serve(&one, 2), (0, KEYED, "Err(Output)"))],
-    )?;
+    )
+}
+
+fn come_at_once<M: Machine + Drop>(rt: &(impl Abort + AllocGlobal)) -> Result<(), Fail> {
+    let machine: M = play_acts(rt, BEGUN)?;
+    let machine = are_let_go(rt, machine)?;
+    let machine = are_not_let_in(rt, machine)?;
+    let machine = are_too_many(rt, machine)?;
+    let machine = hold_too_much(rt, machine)?;
+    have_their_turns(rt, machine)?;
+    let machine: M = play_acts(rt, BEGUN)?;
+    let machine = break_at_each_byte(rt, machine)?;
+    works(rt, machine)?;
     Ok(())
 }
 
-fn break_or_are_not_let_in<M: Machine + Drop>(rt: &(impl Abort + AllocGlobal)) -> Result<(), Fail> {
-    let machine: M = play_acts(rt, BEGUN)?;
-    breaks_at_each_byte(rt, machine)?;
-    let machine: M = play_acts(rt, BEGUN)?;
-    some_are_not_let_in(rt, machine)
-}
-
 #[test]
-fn clients_break_or_are_not_let_in(rt: HostRuntime) -> Result<(), Fail> {
+fn clients_come_at_once(rt: HostRuntime) -> Result<(), Fail> {
     texts_are_there();
     elections_are_fair();
-    break_or_are_not_let_in::<Disks>(&rt)
+    come_at_once::<Disks>(&rt)
 }

@@ -38,12 +38,14 @@ mod noise;
 #[cfg(test)]
 mod older;
 #[cfg(test)]
+mod orders;
+#[cfg(test)]
 mod outputs;
+#[cfg(test)]
+mod ports;
 #[cfg(test)]
 mod progress;
 #[cfg(test)]
 mod replays;
-#[cfg(test)]
-mod sockets;
 #[cfg(test)]
 mod stops;

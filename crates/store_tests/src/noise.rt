@@ -2,10 +2,10 @@
 //! one run into the end of another.
 
 use super::begun::{BEGUN, KEYED, KEYING};
-use super::clients::Client;
+use super::clients::{Client, Evening};
 use super::disks::Disks;
 use super::machine::{Machine, hear, play_acts, rows};
-use super::steps::Step;
+use super::steps::{Said, Step};
 use rand_core::utils::NextWord;
 use rand_pcg::Pcg32;
 use std::alloc::{AllocError, Global};
@@ -14,7 +14,7 @@ use std::test::Fail;
 use votes::Counted;
 use wire::{Asked, Denial, read_asked};
 
-const CLIENTS: u32 = 10_000;
+const CLIENTS: usize = 10_000;
 
 /// What is asked, before it is spoilt.
 const REQUESTS: [&str; 5] = [
@@ -37,7 +37,7 @@ fn keyed_by_both<M: Machine + Drop>(rt: &(impl Abort + AllocGlobal)) -> Result<M
         machine = hear(
             rt,
             machine,
-            &[(Step::Serve(&client, 1), (0, KEYED, "Ok(())"))],
+            &[(Step::Serve(Evening::of(&client)), (0, KEYED, "Ok(())"))],
         )?;
     }
     Ok(machine)
@@ -116,13 +116,24 @@ fn may_be_told(alloc: Global, bytes: &[u8], status: &str) -> bool {
     }
 }
 
-/// The status of the first answer on a page, and what stands behind the answer.
+/// The status of the first answer, and what stands behind the answer and the line feed that ends it, if one does.
 fn first_answer(page: &str) -> Option<(&str, &str)> {
     let (head, behind) = page.split_once("\r\n\r\n")?;
     let status = head.strip_prefix("HTTP/1.1 ")?.get(..3)?;
     let (_, lengths) = head.split_once("Content-Length: ")?;
     let (length, _) = lengths.split_once("\r\n")?;
-    Some((status, behind.get(length.parse().ok()?..)?))
+    let behind = behind.get(length.parse().ok()?..)?;
+    Some((status, behind.strip_prefix('\n').unwrap_or(behind)))
+}
+
+/// Serves clients who come at once, and says what they took.
+fn served<'a, M: Machine + Drop>(
+    alloc: Global,
+    machine: M,
+    clients: &'a [Option<Client<'a>>],
+) -> Result<(Vec<Said>, M), Fail> {
+    let evening = Evening::of(clients);
+    machine.play(alloc, &[Step::Serve(evening)])
 }
 
 fn clients_are_answered_as_they_ask<M: Machine + Drop>(
@@ -139,7 +150,7 @@ fn clients_are_answered_as_they_ask<M: Machine + Drop>(
         .map(|bytes| Some(Client::whole(bytes)))
         .collect(alloc)?;
     let (before, machine): (String, M) = rows(alloc, keyed_by_both(rt)?)?;
-    let (said, machine) = machine.play(alloc, &[Step::Serve(&clients, CLIENTS)])?;
+    let (said, machine) = served(alloc, machine, &clients)?;
     let mut page = said.first().ok_or("nothing was said")?.told().1;
     for bytes in &all {
         let (status, behind) = first_answer(page).ok_or("an answer is missing")?;

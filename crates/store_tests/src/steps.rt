@@ -2,19 +2,18 @@
 
 ghost use Rattle.std.specs.Prelude.{◌≡◌, ◌+◌, ◌-◌, ◌^◌, ◌<◌};
 
-use super::clients::{Client, Coming, Jumping, Taking};
+use super::clients::{Coming, Evening, Jumping, Port, Taking, joined, pages_of};
 use super::loads::loads;
 use desk::perform::perform;
-use desk::serving::serve_all;
-use desk::{Failure, Folder, Order, copy_office, order, serve_on, tell_failure, tell_words};
+use desk::{Failure, Folder, Order, copy_office, order, tell_failure, tell_words};
+use hall::{Aside, FileNumbers, Terms, serve_hall};
 use office::{Answer, Office, Run, Stop, Work};
 use register::Request;
 use sqlite::{Alter, Connection};
 use std::alloc::{AllocError, Global};
-use std::cell::RefCell;
-use std::net::TcpListener;
 use std::test::Fail;
-use votes::{Counted, Sink};
+use store::Fault;
+use votes::{Broken, Counted, Sink};
 
 /// One step of a script.
 #[derive(Clone, Copy, Debug)]
@@ -33,11 +32,12 @@ pub enum Step<'a> {
     Work(u32),
     /// The store opened, and asked for a ward's papers and its count; what it reads stands as the output.
     Loads(u32),
-    /// The office opened, and so many clients served in turn, whose connections may break, and of whom one may not be let
-    /// in; what they took stands as the output, and what came of serving as the error output.
-    Serve(&'a [Option<Client<'a>>], u32),
-    /// The office opened, and so many connections answered; how that ended stands as the output.
-    Listen(&'a TcpListener, u32),
+    /// The office opened, and clients served of whom each may be let in or not, and whose lines may break; what each took
+    /// stands as the output, behind a line feed where somebody came before him, and what came of serving as the error output.
+    Serve(Evening<'a>),
+    /// The office opened, and clients served at a port, while the clock jumps by more than half a minute; how that ended
+    /// stands as the output.
+    Listen(&'a Port),
     /// Statements, whatever is in the database.
     Change(&'a str),
     /// Every row of every table, as the output.
@@ -228,13 +228,48 @@ fn work<S: Alter + Drop>(
     Ok((Said::quietly(alloc, text), conn))
 }
 
-/// Lets clients in: all that they took, and what came of it.
+/// The file that is served, and no proxy.
+pub const TERMS: Terms<'static> = Terms {
+    origin: None,
+    file: FileNumbers {
+        device: 7,
+        inode: 12,
+    },
+};
+
+/// An office that has nothing beside it: no copy and no journal can be made.
+#[derive(Clone, Copy)]
+struct Unaided;
+
+impl Aside for Unaided {
+    fn copy<S: Alter, O: Sink, E: Sink>(
+        &self,
+        _office: &mut Office<S>,
+        _folder: &str,
+        _path: &str,
+        _out: &mut O,
+        err: &mut E,
+    ) -> u8 {
+        tell_failure(Failure::CopyFailed, err)
+    }
+
+    fn journal<S: Alter, O: Sink, E: Sink>(
+        &self,
+        _office: &mut Office<S>,
+        _out: &mut O,
+        err: &mut E,
+    ) -> u8 {
+        tell_failure(Failure::Office(Fault::Memory), err)
+    }
+}
+
+/// Serves the clients of an evening: all that they took, and what came of it.
 fn serve<S: Alter + Drop>(
     alloc: Global,
     conn: Connection<S>,
-    clients: &[Option<Client<'_>>],
-    connections: u32,
+    evening: Evening<'_>,
 ) -> Result<(Said, Connection<S>), Fail> {
+    let pages = pages_of(alloc, evening.comers.len())?;
     let mut office = match Office::open_from(alloc, conn) {
         Ok(office) => office,
         Err((fault, conn)) => {
@@ -250,13 +285,21 @@ fn serve<S: Alter + Drop>(
             ));
         }
     };
-    let page = RefCell::new(Vec::new(alloc));
     let served = {
-        let mut coming = Coming::new(clients, &page);
-        serve_all(alloc, &mut coming, connections, None, &mut office)
+        let clock = Jumping::by(evening.seconds);
+        let mut coming = Coming::new(evening, &pages);
+        serve_hall(
+            alloc,
+            &clock,
+            &mut coming,
+            TERMS,
+            &Unaided,
+            evening.connections,
+            &mut office,
+        )
     };
     let conn = office.into_connection();
-    let out = String::from_utf8(page.into_inner())?;
+    let out = joined(alloc, pages)?;
     let err = format!(in alloc; "{served:?}")?;
     Ok((
         Said {
@@ -271,14 +314,27 @@ fn serve<S: Alter + Drop>(
 fn listen<S: Alter + Drop>(
     alloc: Global,
     conn: Connection<S>,
-    listener: &TcpListener,
-    connections: u32,
+    port: &Port,
 ) -> Result<(Said, Connection<S>), Fail> {
     let Ok(mut office) = Office::open_from(alloc, conn) else {
         return Err(Fail::from("no office is opened"));
     };
-    let clock = Jumping::by(0);
-    let served = serve_on(alloc, &clock, listener, connections, None, &mut office);
+    let clock = Jumping::by(31);
+    let most = Some(port.connections);
+    let served = match port.watch.try_borrow_mut() {
+        Ok(mut watch) => {
+            serve_hall(
+                alloc,
+                &clock,
+                &mut *watch,
+                TERMS,
+                &Unaided,
+                most,
+                &mut office,
+            )
+        },
+        Err(_) => Err(Broken),
+    };
     let conn = office.into_connection();
     let text = format!(in alloc; "{served:?}")?;
     Ok((Said::quietly(alloc, text), conn))
@@ -351,8 +407,8 @@ fn done<S: Alter + Drop>(
         Step::List(requests) => list(alloc, conn, requests),
         Step::Work(clerk) => work(alloc, conn, clerk),
         Step::Loads(ward) => loads(alloc, conn, ward),
-        Step::Serve(clients, connections) => serve(alloc, conn, clients, connections),
-        Step::Listen(listener, connections) => listen(alloc, conn, listener, connections),
+        Step::Serve(evening) => serve(alloc, conn, evening),
+        Step::Listen(port) => listen(alloc, conn, port),
         Step::Change(statements) => {
             conn.execute_batch(statements)?;
             Ok((Said::quietly(alloc, String::new(alloc)), conn))

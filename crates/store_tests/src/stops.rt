@@ -5,7 +5,7 @@
 mod counts;
 
 use super::begun::{BEGUN, KEYED, KEYING, NOMINATED};
-use super::clients::Client;
+use super::clients::{Client, Evening};
 use super::disks::Disks;
 use super::machine::{Act, File, Machine, hear, hear_unchanged, play_acts, rows};
 use super::steps::{Case, STOPPED, STOPPED_ANSWER, Step, Told};
@@ -206,7 +206,7 @@ batch 12 round 2 open
 /// Stops a keying over HTTP at each call of one file.
 fn stop_client<M: Machine + Drop>(rt: &(impl Abort + AllocGlobal), file: File) -> Result<(), Fail> {
     let client = [Some(Client::whole(KEYING.as_bytes()))];
-    let case = (Step::Serve(&client, 1), (0, KEYED, "Ok(())"));
+    let case = (Step::Serve(Evening::of(&client)), (0, KEYED, "Ok(())"));
     let machine: M = play_acts(rt, BEGUN)?;
     stop_each(rt, machine, case, file)?;
     Ok(())
@@ -296,9 +296,9 @@ fn a_large_keying_stops_whole(rt: HostRuntime) -> Result<(), Fail> {
     Ok(())
 }
 
-/// What a client of a closed office is told.
+/// What a client of a closed office is told, behind another one.
 const CLOSED_ANSWER: &str =
-    "HTTP/1.1 503 Service Unavailable\r\nContent-Type: application/json\r\nContent-Length: 13\r\nConnection: close\r\n\r\n{\"fault\":104}";
+    "\nHTTP/1.1 503 Service Unavailable\r\nContent-Type: application/json\r\nContent-Length: 13\r\nConnection: close\r\n\r\n{\"fault\":104}";
 
 /// Where a store stopped under two clients who key in turn.
 enum Stop {
@@ -317,7 +317,7 @@ fn stop_twice<M: Machine + Drop>(
     let keying = Client::whole(KEYING.as_bytes());
     let stopping = machine.copied(rt.alloc(), File::Log, calls)?;
     let clients = [Some(keying), Some(keying)];
-    let (said, _) = stopping.play(rt.alloc(), &[Step::Serve(&clients, 2)])?;
+    let (said, _) = stopping.play(rt.alloc(), &[Step::Serve(Evening::of(&clients))])?;
     let Some(said) = said.first() else {
         return Ok(Stop::AtTheOpening);
     };

@@ -35,14 +35,14 @@ use Rattle.tables.specs.declared.table.Table.{Table}
 use Rattle.tables.specs.declared.table.Table.TheVariants.{Office, Ward, Candidate, Batch, Keying, Verdict, Lot, Receipt, Bundle, Vote, Third}
 use Rattle.tables.specs.declared.table.Reference.{Reference}
 use Rattle.tables.specs.declared.table.Reference.TheVariants.{WardOfBatch}
-use Rattle.tables.specs.Texts.{select_text, select_by_reference_text, select_rowids_text}
+use Rattle.tables.specs.Texts.{scan_text, select_text, select_by_reference_text, select_rowids_text}
 use Rattle.tables.specs.Schema.{Definition, schema_from, place_of, places_from, tree_of, shape, columns_of, table_sought, place_sought, changes_rows, BeginsTo}
 use Rattle.tables.specs.Contents.{Contents, RestsAt, Rests, RestsIfOpen}
 use Rattle.tables.specs.Rows.{is_of, begins_key}
 use Rattle.tables.proofs.FaultLemmas.{query_cause}
 use Rattle.tables.proofs.ListingLemmas.{begins_to, office_of}
 use Rattle.tables.proofs.ListLemmas.{mapped_length}
-use Rattle.tables.proofs.Queries.{selects, selects_by_reference, selects_rowids}
+use Rattle.tables.proofs.Queries.{scans, selects, selects_by_reference, selects_rowids}
 use Rattle.tables.proofs.SelectLemmas.{query, IsSelect, tail_of, asked_of, tests_from, columns_from, ordered_from}
 
 -- ---- one read after another
@@ -269,15 +269,21 @@ accepts_rowids Vote changes rest others views = absurd (true≢false (sym change
 accepts_rowids Third changes rest others views = absurd (true≢false (sym changes))
 accepts_rowids t changes rest others views = refl
 
+-- a query of all rows is accepted
+accepts_scan : (t : Table) → (rest : List Definition) (others : List Index) (views : List View)
+    → accepts_program (schema_from (1 + place_of t) rest others views) [] (query (tree_of t) [] (columns_from 0 (length (columns_of t))) []) [] ≡ true
+accepts_scan Office rest others views = refl
+accepts_scan t rest others views = refl
+
 -- ---- the queries of a table
 
 -- all rows, under a schema that begins with the tables up to this one
 pub all_fails : {X : Type 0} (t : Table) (db : Database) → BeginsTo t db.schema → (old new : State) (r : Result X Fault) → HasCleanDisk new → RestsAt db old
-    → IfErr r (TellsQuery (select_text t 0) [] old new) → IfErr r (FailsBy old new)
+    → IfErr r (TellsQuery (scan_text t) [] old new) → IfErr r (FailsBy old new)
 all_fails t db begins old new r clean rests tells =
-    if_fails (schema_from (1 + place_of t) begins.rest begins.others begins.views) (select_text t 0) (tree_of t) _ _ _ _
-    ((selects t 0 (omega arith)).select begins.rest begins.others begins.views) [] refl
-    (accepts t [] refl (omega arith) begins.rest begins.others begins.views) old new r clean (ap (λ (d : Database). d.schema) rests.now ∙ begins.is) tells
+    if_fails (schema_from (1 + place_of t) begins.rest begins.others begins.views) (scan_text t) (tree_of t) _ _ _ _
+    ((scans t).select begins.rest begins.others begins.views) [] refl
+    (accepts_scan t begins.rest begins.others begins.views) old new r clean (ap (λ (d : Database). d.schema) rests.now ∙ begins.is) tells
 
 -- the rowids of a table whose rows change
 pub rowids_fail : (t : Table) → changes_rows t ≡ true → (db : Database) → BeginsTo t db.schema → (old new : State) (f : Fault) → HasCleanDisk new → RestsAt db old

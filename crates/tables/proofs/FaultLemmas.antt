@@ -21,9 +21,15 @@ cause_of _ = inr refl
 pub query_cause : (sql : List ℕ) (params : Row) (old new : State) (f : Fault) → TellsQuery sql params old new f → (f ≡ Memory) ⊎ (f ≡ Store)
 query_cause sql params old new f tells = subst (λ (x : Fault). (x ≡ Memory) ⊎ (x ≡ Store)) (sym tells.1) (cause_of tells.0)
 
-pub if_query_cause : {X : Type 0} (sql : List ℕ) (params : Row) (old new : State) (r : Result X Fault) → IfErr r (TellsQuery sql params old new) → IfErr r (λ f. (f ≡ Memory) ⊎ (f ≡ Store))
-if_query_cause sql params old new (Ok x) tells = tt
-if_query_cause sql params old new (Err f) tells = query_cause sql params old new f tells
+-- the same of a query whose rows are sorted, for which memory may be wanting too
+pub sorted_cause : (sql : List ℕ) (params : Row) (old new : State) (f : Fault) → (f ≡ Memory) ⊎ TellsQuery sql params old new f → (f ≡ Memory) ⊎ (f ≡ Store)
+sorted_cause sql params old new f (inl memory) = inl memory
+sorted_cause sql params old new f (inr tells) = query_cause sql params old new f tells
+
+pub if_sorted_cause : {X : Type 0} (sql : List ℕ) (params : Row) (old new : State) (r : Result X Fault) → IfErr r (λ f. (f ≡ Memory) ⊎ TellsQuery sql params old new f)
+    → IfErr r (λ f. (f ≡ Memory) ⊎ (f ≡ Store))
+if_sorted_cause sql params old new (Ok x) tells = tt
+if_sorted_cause sql params old new (Err f) tells = sorted_cause sql params old new f tells
 
 pub statement_cause : (sql : List ℕ) (params : Row) (old new : State) (f : Fault) → TellsStatement sql params old new f → (f ≡ Memory) ⊎ (f ≡ Store)
 statement_cause sql params old new f tells = subst (λ (x : Fault). (x ≡ Memory) ⊎ (x ≡ Store)) (sym tells.1) (cause_of tells.0)

@@ -18,16 +18,16 @@ use Rattle.sqlite.specs.Query.{key_cmp}
 use Rattle.sqlite.specs.State.{State, Shown}
 use Rattle.tables.specs.declared.table.Table.{Table}
 use Rattle.tables.specs.declared.table.Table.TheVariants.{Office}
-use Rattle.tables.specs.Texts.{select_rowids_text}
+use Rattle.tables.specs.Texts.{scan_text, select_rowids_text}
 use Rattle.tables.specs.Schema.{schema_from, place_of, tree_of, shape, columns_of, changes_rows, places_from, definition, key_index, all_tables, BeginsTo, IsOfficeSchema}
-use Rattle.tables.specs.Rows.{tuples, at, column_places, is_row_of, row_cmp, keys_cmp, ascending_keys}
+use Rattle.tables.specs.Rows.{tuples, at, begins_with, column_places, is_row_of, row_cmp, keys_cmp, ascending_keys}
 use Rattle.tables.specs.Contents.{Contents, OfficeAt, IsOffice, RestsAt, Rests}
 use Rattle.tables.specs.Reading.{Lists, Finds, ListsRowids, alone}
 use Rattle.tables.proofs.ListLemmas.{all_pass, sorted_mapped, mapped_same, mapped_itself}
 use Rattle.tables.proofs.ColumnPlaceLemmas.{column_shown, typed_at}
 use Rattle.tables.proofs.ReadLemmas.{rests_at}
 use Rattle.tables.proofs.SelectLemmas.{reads_rows, shows_columns, ordered_terms, ordered_keys, columns_from, ordered_from}
-use Rattle.tables.proofs.Queries.{Reads, selects_rowids}
+use Rattle.tables.proofs.Queries.{Reads, scans, selects_rowids}
 
 -- a schema that begins with all tables begins with those up to each
 pub begins_to : (t : Table) (s : Schema) → IsOfficeSchema s → BeginsTo t s
@@ -97,16 +97,39 @@ module _ (t : Table) (sql : List ℕ) (tests : List Term) (reads : Reads t sql t
             (λ a b. rw (ordered_keys 0 m) (keys_shown m n (key_within t) a b)) got.ordered got.sorted);
       }
 
-  pub if_listed : {X F : Type 0} (db : Database) → BeginsTo t db.schema → (old new : State) (rows : X → List Row) (r : Result X F) → RestsAt db old
-      → IfOk r (λ x. Shown sql params old new (rows x)) → IfOk r (λ x. Lists t test db (rows x))
-  if_listed db begins old new rows (Ok x) rests shown = listed db begins old new (rows x) rests shown
-  if_listed db begins old new rows (Err e) rests shown = tt
-
   pub if_found : {X F : Type 0} (c : Contents) (old new : State) (rows : X → List Row) (r : Result X F) → Rests c old → IfOk r (λ x. Shown sql params old new (rows x))
       → IfOk r (λ x. Finds t test c (rows x))
   if_found c old new rows (Ok x) rests shown =
       found_in t test c old.now (rows x) (office_of c old rests) (listed old.now (begins_to t old.now.schema (office_of c old rests).begins) old new (rows x) (rests_at c old rests) shown)
   if_found c old new rows (Err e) rests shown = tt
+
+-- ---- all rows, as the table has them
+
+pub scanned : (t : Table) (db : Database) → BeginsTo t db.schema → (old new : State) (rows : List Row) → RestsAt db old → Shown (scan_text t) [] old new rows
+    → IsPermutation (map (at (column_places t)) (tuples t db.trees)) rows
+scanned t db begins old new rows rests shown =
+    let n = length (columns_of t) in
+    let has : old.now.schema ≡ schema_from (1 + place_of t) begins.rest begins.others begins.views = ap (λ (d : Database). d.schema) rests.now ∙ begins.is in
+    let got = reads_rows (schema_from (1 + place_of t) begins.rest begins.others begins.views) (scan_text t) (tree_of t) [] (columns_from 0 n) [] _
+    ((scans t).select begins.rest begins.others begins.views)
+    (drop 1) [] (λ _. true) (λ _. []) (at (places_from 0 n)) (λ r. refl) (λ r. refl) (λ r. shows_columns 0 n [] r) old new rows has shown in
+    let all : filter (λ _. true) (tuples t old.now.trees) ≡ tuples t old.now.trees = all_pass (tuples t old.now.trees) in
+    subst (λ (d : Database). IsPermutation (map (at (column_places t)) (tuples t d.trees)) rows) rests.now
+    (subst (IsPermutation (map (at (column_places t)) (tuples t old.now.trees))) (sym got.shown)
+    (subst (λ l. IsPermutation (map (at (column_places t)) l) (map (at (column_places t)) got.ordered)) all (IsPermutation-map (at (column_places t)) _ _ got.same)))
+
+pub if_scanned : {X F : Type 0} (t : Table) (db : Database) → BeginsTo t db.schema → (old new : State) (rows : X → List Row) (r : Result X F) → RestsAt db old
+    → IfOk r (λ x. Shown (scan_text t) [] old new (rows x)) → IfOk r (λ x. IsPermutation (map (at (column_places t)) (tuples t db.trees)) (rows x))
+if_scanned t db begins old new rows (Ok x) rests shown = scanned t db begins old new (rows x) rests shown
+if_scanned t db begins old new rows (Err e) rests shown = tt
+
+-- the same rows in the order of the key are listed
+pub in_order_listed : (t : Table) (db : Database) (rows sorted : List Row) → IsPermutation (map (at (column_places t)) (tuples t db.trees)) rows → IsPermutation rows sorted
+    → IsSorted (row_cmp t) sorted → Lists t (begins_with []) db sorted
+in_order_listed t db rows sorted scan same up = record {
+  same = subst (λ l. IsPermutation (map (at (column_places t)) l) sorted) (sym (all_pass (tuples t db.trees))) (IsPermutation-trans _ _ _ scan same);
+  sorted = up;
+}
 
 -- ---- the rowids
 

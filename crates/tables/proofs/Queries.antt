@@ -14,7 +14,7 @@ use Rattle.tables.specs.declared.table.Table.{Table}
 use Rattle.tables.specs.declared.table.Table.TheVariants.{Office, Ward, Candidate, Batch, Keying, Verdict, Lot, Receipt, Bundle, Vote, Third}
 use Rattle.tables.specs.declared.table.Reference.{Reference}
 use Rattle.tables.specs.declared.table.Reference.TheVariants.{WardOfBatch}
-use Rattle.tables.specs.Texts.{names_of, select_text, select_by_reference_text, select_rowids_text}
+use Rattle.tables.specs.Texts.{names_of, scan_text, select_text, select_by_reference_text, select_rowids_text}
 use Rattle.tables.specs.Schema.{Definition, schema_from, place_of, tree_of, shape, columns_of, changes_rows, table_sought, place_sought}
 use Rattle.tables.specs.Reading.{is_query_text, IsQuery}
 use Rattle.tables.proofs.QueryLemmas.{query_text}
@@ -41,6 +41,17 @@ selects Vote (suc (suc (suc (suc n)))) low = absurd (omega (arith, low))
 selects Third (suc (suc n)) low = absurd (omega (arith, low))
 selects t n low = record { query = refl; select = λ rest others views. record { is = refl; unlisted = refl; plain = (refl, refl); low = λ db. refl; whole = refl; given = refl } }
 
+-- what a SELECT of all columns in whatever order has to be
+pub record Scans (t : Table) : Type 0 where
+  pub query : is_query_text (first (scan_text t)) ≡ true
+  pub select : (rest : List Definition) (others : List Index) (views : List View)
+      → IsSelect (schema_from (1 + place_of t) rest others views) (scan_text t) (tree_of t) [] (columns_from 0 (length (columns_of t))) [] (names_of t)
+
+pub scans : (t : Table) → Scans t
+unfolding understood everything scan_text
+scans Office = record { query = refl; select = λ rest others views. record { is = refl; unlisted = refl; plain = (refl, refl); low = λ db. refl; whole = refl; given = refl } }
+scans t = record { query = refl; select = λ rest others views. record { is = refl; unlisted = refl; plain = (refl, refl); low = λ db. refl; whole = refl; given = refl } }
+
 pub selects_by_reference : (r : Reference) → Reads (table_sought r) (select_by_reference_text r) (op2 (Compare Eq Binary) (col 1 (suc (place_sought r))) (col 0 0) ∷ [])
 unfolding understood everything select_by_reference_text
 selects_by_reference WardOfBatch = record { query = refl; select = λ rest others views. record { is = refl; unlisted = refl; plain = (refl, refl); low = λ db. refl; whole = refl; given = refl } }
@@ -63,6 +74,9 @@ selects_rowids t changes = record { query = refl; select = λ rest others views.
 
 pub selects_query : (t : Table) (n : ℕ) → n ≤ (shape t).key → IsQuery (select_text t n)
 selects_query t n low = query_text (select_text t n) (selects t n low).query
+
+pub scan_query : (t : Table) → IsQuery (scan_text t)
+scan_query t = query_text (scan_text t) (scans t).query
 
 pub reference_query : (r : Reference) → IsQuery (select_by_reference_text r)
 reference_query r = query_text (select_by_reference_text r) (selects_by_reference r).query

@@ -85,6 +85,10 @@ insert_text t =
 unfoldable pub select_text : Table → ℕ → List ℕ
 select_text t n = select_where t (matched 0 (take n (names_of t)))
 
+-- all columns of all rows, in whatever order
+unfoldable pub scan_text : Table → List ℕ
+scan_text t = codes "SELECT " ++ joined comma (names_of t) ++ codes " FROM " ++ (shape t).name
+
 -- all columns of the rows with a value in a column outside the key, in the order of the key
 unfoldable pub select_by_reference_text : Reference → List ℕ
 select_by_reference_text r = select_where (table_sought r) (matched 0 (slice_index_or (names_of (table_sought r)) (place_sought r) [] ∷ []))

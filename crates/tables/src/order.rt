@@ -1,7 +1,7 @@
 //! Rows in the order of their keys.
 
-ghost use Rattle.std.specs.Prelude.{◌≡◌, ◌<◌, ◌+◌, ◌^◌, true, false};
-ghost use Rattle.std.specs.List.Sorted.{IsStrictlySortedBy};
+ghost use Rattle.std.specs.Prelude.{◌≡◌, ◌<◌, ◌+◌, ◌^◌, true, false, OnOk};
+ghost use Rattle.std.specs.List.Sorted.{IsPermutation, IsSorted, IsStrictlySortedBy};
 ghost use Rattle.sqlite.specs.Value.{owned};
 ghost use Rattle.sqlite.specs.Order.{column};
 ghost use Rattle.sqlite.specs.Query.{key_cmp};
@@ -12,6 +12,7 @@ use crate::table::Table;
 use sqlite::Row;
 use sqlite_value::order::compare;
 use sqlite_value::value::ValueRef;
+use std::alloc::AllocError;
 use std::cmp::Ordering;
 
 /// The value at a place, and NULL past the end.
@@ -39,10 +40,18 @@ fn order_from(a: &Row, b: &Row, place: usize, columns: usize) -> Ordering
 }
 
 /// The order of two rows by the key of their table.
-fn key_order(table: Table, a: &Row, b: &Row) -> Ordering
+pub(crate) fn key_order(table: Table, a: &Row, b: &Row) -> Ordering
     ensures { result ≡ row_cmp table a.now b.now }
 {
     order_from(a, b, 0, table.key_columns())
+}
+
+/// Puts rows in the order of the key of their table. The only error is want of memory.
+pub(crate) fn put_in_order(table: Table, rows: &mut Vec<Row>) -> Result<(), AllocError>
+    ensures same { IsPermutation rows.old.items rows.new.items }
+    ensures sorted { OnOk result (IsSorted (row_cmp table) rows.new.items) }
+{
+    rows.sort_by(|a, b| key_order(table, a, b))
 }
 
 /// Whether each row's key is below that of the next one.

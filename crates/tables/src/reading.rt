@@ -1,22 +1,24 @@
 //! Rows that are read, outside a transaction.
 
-ghost use Rattle.std.specs.Prelude.{◌≡◌, ◌≤◌, [], ◌∷◌, true, false, length, IfOk, IfErr, OnOk, IsTrue};
+ghost use Rattle.std.specs.Prelude.{◌≡◌, ◌⊎◌, ◌≤◌, [], ◌∷◌, true, false, length, map, IfOk, IfErr, OnOk, IsTrue};
+ghost use Rattle.std.specs.List.Sorted.{IsPermutation};
 ghost use Rattle.sqlite.specs.Value.{owned};
 ghost use Rattle.sqlite.specs.Kind.TheVariants.{Integer};
 ghost use Rattle.sqlite.specs.Values.{bound, bound_value};
 ghost use Rattle.sqlite.specs.Effect.{Database};
 ghost use Rattle.sqlite.specs.State.{HasCleanDisk, Shown};
 ghost use Rattle.sqlite.specs.Held.{state};
-ghost use Rattle.tables.specs.Texts.{select_text, select_by_reference_text};
+ghost use Rattle.tables.specs.Texts.{scan_text, select_text, select_by_reference_text};
 ghost use Rattle.tables.specs.Schema.{BeginsTo, shape, table_sought};
-ghost use Rattle.tables.specs.Rows.{is_of, begins_key, begins_with, refers_to};
+ghost use Rattle.tables.specs.Rows.{at, column_places, is_of, begins_key, begins_with, refers_to, tuples};
 ghost use Rattle.tables.specs.Contents.{Contents, RestsAt, Rests, RestsIfOpen};
 ghost use Rattle.tables.specs.Reading.{IsQuery, OnlyReads, FailsBy, Lists, Finds};
 ghost use Rattle.tables.specs.Faults.{TellsQuery};
 
 use crate::fault::{Fault, fault_of};
+use crate::order::put_in_order;
 use crate::table::{Reference, Table};
-use crate::texts::{select_by_reference_text, select_text};
+use crate::texts::{scan_text, select_by_reference_text, select_text};
 use sqlite::{Alter, Connection, Row};
 use sqlite_value::value::ValueRef;
 
@@ -39,8 +41,24 @@ pub(crate) fn query<S: Alter>(
     }
 }
 
+/// All rows of a table with all their columns, as the table has them.
+fn scanned_rows<S: Alter>(conn: &mut Connection<S>, table: Table) -> Result<Vec<Row>, Fault>
+    requires { conn.old.in_transaction ≡ false }
+    ensures scans { HasCleanDisk (state S.Store conn.new) → (db : Database) → BeginsTo table db.schema → RestsAt db (state S.Store conn.old)
+        → IfOk result (λ rows. IsPermutation (map (at (column_places table)) (tuples table db.trees)) rows.items) }
+    ensures opens { HasCleanDisk (state S.Store conn.new) → OnOk result (IsTrue (state S.Store conn.new).is_open) }
+    ensures reads { OnlyReads (state S.Store conn.old) (state S.Store conn.new) }
+    ensures outside { conn.new.in_transaction ≡ false }
+    ensures cause { IfErr result (TellsQuery (scan_text table) [] (state S.Store conn.old) (state S.Store conn.new)) }
+    ensures fails { HasCleanDisk (state S.Store conn.new) → (db : Database) → BeginsTo table db.schema → RestsAt db (state S.Store conn.old)
+        → IfErr result (FailsBy (state S.Store conn.old) (state S.Store conn.new)) }
+{
+    query(conn, scan_text(table), &[])
+}
+
 /// All rows of a table with all their columns, in the order of the key. It asks only that the
-/// schema begins with the tables up to this one.
+/// schema begins with the tables up to this one. The rows are read as the table has them, and sorted here:
+/// asked for the order of the key, `sqlite` would look each row up through the key's index.
 pub fn all_rows<S: Alter>(conn: &mut Connection<S>, table: Table) -> Result<Vec<Row>, Fault>
     requires { conn.old.in_transaction ≡ false }
     ensures lists { HasCleanDisk (state S.Store conn.new) → (db : Database) → BeginsTo table db.schema → RestsAt db (state S.Store conn.old)
@@ -48,11 +66,15 @@ pub fn all_rows<S: Alter>(conn: &mut Connection<S>, table: Table) -> Result<Vec<
     ensures opens { HasCleanDisk (state S.Store conn.new) → OnOk result (IsTrue (state S.Store conn.new).is_open) }
     ensures reads { OnlyReads (state S.Store conn.old) (state S.Store conn.new) }
     ensures outside { conn.new.in_transaction ≡ false }
-    ensures cause { IfErr result (TellsQuery (select_text table 0) [] (state S.Store conn.old) (state S.Store conn.new)) }
+    ensures cause { IfErr result (λ f. (f ≡ Fault.Memory) ⊎ TellsQuery (scan_text table) [] (state S.Store conn.old) (state S.Store conn.new) f) }
     ensures fails { HasCleanDisk (state S.Store conn.new) → (db : Database) → BeginsTo table db.schema → RestsAt db (state S.Store conn.old)
         → IfErr result (FailsBy (state S.Store conn.old) (state S.Store conn.new)) }
 {
-    query(conn, select_text(table, 0), &[])
+    let mut rows = scanned_rows(conn, table)?;
+    match put_in_order(table, &mut rows) {
+        Ok(()) => Ok(rows),
+        Err(_) => Err(Fault::Memory),
+    }
 }
 
 /// The rows whose key begins with these values, up to the whole key, with all their columns, in the

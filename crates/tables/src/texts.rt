@@ -2,7 +2,7 @@
 
 ghost use Rattle.std.specs.Prelude.{◌≡◌, ◌≤◌, true};
 ghost use Rattle.tables.specs.Schema.{shape, changes_rows};
-ghost use Rattle.tables.specs.Texts.{create_text, insert_text, select_text, select_by_reference_text, select_rowids_text, update_text, set_text, delete_text};
+ghost use Rattle.tables.specs.Texts.{scan_text, create_text, insert_text, select_text, select_by_reference_text, select_rowids_text, update_text, set_text, delete_text};
 
 use crate::table::{Reference, Setting, Table};
 
@@ -128,6 +128,26 @@ pub fn select_text(table: Table, columns: usize) -> &'static str
         (Table::Third, 0) => "SELECT batch, clerk FROM third ORDER BY batch",
         (Table::Third, 1) => "SELECT batch, clerk FROM third WHERE batch = ?1 ORDER BY batch",
         _ => unreachable!(),
+    }
+}
+
+#[tactic(auto, unfolding(crate::specs::Texts::scan_text))]
+/// The text of all columns of all rows, in whatever order.
+pub(crate) fn scan_text(table: Table) -> &'static str
+    ensures { result.now ≡ scan_text table }
+{
+    match table {
+        Table::Office => "SELECT one, version FROM office",
+        Table::Ward => "SELECT ward, seats, phase, done, name FROM ward",
+        Table::Candidate => "SELECT ward, candidate, name FROM candidate",
+        Table::Batch => "SELECT batch, ward, size, clerk_a, clerk_b, round FROM batch",
+        Table::Keying => "SELECT batch, round, clerk, paper, marks FROM keying",
+        Table::Verdict => "SELECT batch, paper, code, marks FROM verdict",
+        Table::Lot => "SELECT ward, stage, candidate FROM lot",
+        Table::Receipt => "SELECT actor, id, subject, reply FROM receipt",
+        Table::Bundle => "SELECT ward, prefs, papers, holder, value FROM bundle",
+        Table::Vote => "SELECT ward, stage, candidate, units, mark FROM vote",
+        Table::Third => "SELECT batch, clerk FROM third",
     }
 }
 

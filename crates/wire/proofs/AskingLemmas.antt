@@ -9,7 +9,7 @@ use Rattle.httparse.specs.Spans.{IsRequestAt, IsRequestOf, header_bytes, name_an
 use Rattle.httparse.specs.declared.spans.HeaderSpan.{HeaderSpan}
 use Rattle.httparse.specs.declared.spans.RequestSpans.{RequestSpans}
 use Rattle.wire.proofs.HeadLemmas.{HasOneHead-all}
-use Rattle.wire.specs.Asking.{AskedEntry, Asks, AsksOneThing, DeniesForeign, FailsAfter, IsWanting, LacksAt, LacksBytes, TakesOwn, asked_at, asked_by, asked_entry, asked_of, denied, wanted}
+use Rattle.wire.specs.Asking.{AskedEntry, Asks, AsksOneThing, DeniesForeign, FailsAfter, IsWanting, LacksAt, LacksBehind, LacksBytes, LacksFound, TakesOwn, asked_at, asked_by, asked_entry, asked_of, denied, wanted}
 use Rattle.wire.specs.Heads.{BeginsWith, HasNoHead}
 use Rattle.wire.specs.Lengths.{NamedValue, body_length}
 use Rattle.wire.specs.Origins.{is_foreign}
@@ -49,7 +49,7 @@ Asks-none given None none = tt
 Asks-none given (Some bytes) none = inl (none, refl)
 
 -- a head, what was read behind it, and what is left
-begins : (bytes got left : List ℕ) (headers : List HeaderSpan) (spans : RequestSpans) (head : RequestHead) → IsRequestAt got headers spans head → length got ≤ 8192 → length headers ≡ 32
+pub begins : (bytes got left : List ℕ) (headers : List HeaderSpan) (spans : RequestSpans) (head : RequestHead) → IsRequestAt got headers spans head → length got ≤ 8192 → length headers ≡ 32
     → bytes ≡ got ++ left → BeginsWith bytes head (drop spans.len got ++ left)
 begins bytes got left headers spans head is fits places e = record {
   is_head = is.reads.0;
@@ -84,22 +84,34 @@ Asks-head given (Some bytes) mid got headers spans found (Ok asked) fits places 
 
 -- ---- what doesn't say yet what is asked
 
+module _ (given : Option (List ℕ)) (got : List ℕ) (headers : List HeaderSpan) (spans : RequestSpans) where
+  -- a head lacks what was found of it lacks
+  LacksBehind-of : (head : RequestHead) → IsRequestAt got headers spans head → (behind : List ℕ) → LacksFound given got headers spans behind → LacksBehind given head behind
+  LacksBehind-of head there behind lacks =
+      let fields = map (header_bytes got) (take spans.headers headers) in
+      subst (λ (f : List NamedValue). LacksBytes (wanted (is_foreign given f) head.method (named_by head.target)) (body_length f) behind) there.fields
+      (subst (λ p. LacksBytes (wanted (is_foreign given fields) head.method (named_by p)) (body_length fields) behind) there.path
+      (subst (λ m. LacksBytes (wanted (is_foreign given fields) m (named_by (span_bytes got spans.path))) (body_length fields) behind) there.method lacks))
+
+  -- and the other way round
+  pub LacksFound-of : (head : RequestHead) → IsRequestAt got headers spans head → (behind : List ℕ) → LacksBehind given head behind → LacksFound given got headers spans behind
+  LacksFound-of head there behind lacks =
+      let fields = map (header_bytes got) (take spans.headers headers) in
+      subst (λ m. LacksBytes (wanted (is_foreign given fields) m (named_by (span_bytes got spans.path))) (body_length fields) behind) (sym there.method)
+      (subst (λ p. LacksBytes (wanted (is_foreign given fields) head.method (named_by p)) (body_length fields) behind) (sym there.path)
+      (subst (λ (f : List NamedValue). LacksBytes (wanted (is_foreign given f) head.method (named_by head.target)) (body_length f) behind) (sym there.fields) lacks))
+
+  -- bytes that begin with what was read don't say what is asked, where what was found in that lacks more
+  pub IsWanting-found : (bytes left : List ℕ) → IsRequestOf got headers spans → length got ≤ 8192 → length headers ≡ 32 → bytes ≡ got ++ left
+      → LacksFound given got headers spans (drop spans.len got ++ left) → IsWanting given bytes
+  IsWanting-found bytes left (head, there) fits places e lacks =
+      let behind = drop spans.len got ++ left in
+      inr (head, behind, begins bytes got left headers spans head there fits places e, LacksBehind-of head there behind lacks)
+
 -- there is a whole head, and what it asks for isn't all there
 pub FailsAfter-behind : (given old mid new : Option (List ℕ)) (got : List ℕ) (headers : List HeaderSpan) (spans : RequestSpans) → IsRequestOf got headers spans → (r : Result Asked Unread)
     → length got ≤ 8192 → length headers ≡ 32 → Consumes old mid got → IfErr r (FailsAfter mid new (LacksAt given got headers spans)) → IfErr r (FailsAfter old new (IsWanting given))
 FailsAfter-behind given old mid new got headers spans found (Ok asked) fits places took after = tt
 FailsAfter-behind given old mid new got headers spans found (Err Memory) fits places took after = tt
-FailsAfter-behind given old mid new got headers spans (head, there) (Err Broken) fits places took (more, then, lacks) =
-    let fields = map (header_bytes got) (take spans.headers headers) in (
-      got ++ more,
-      Consumes-trans old mid new got more took then,
-      inr (
-        head,
-        drop spans.len got ++ more,
-        begins (got ++ more) got more headers spans head there fits places refl,
-        subst (λ (f : List NamedValue). LacksBytes (wanted (is_foreign given f) head.method (named_by head.target)) (body_length f) (drop spans.len got ++ more)) there.fields
-            (subst (λ p. LacksBytes (wanted (is_foreign given fields) head.method (named_by p)) (body_length fields) (drop spans.len got ++ more)) there.path
-            (subst (λ m. LacksBytes (wanted (is_foreign given fields) m (named_by (span_bytes got spans.path))) (body_length fields) (drop spans.len got ++ more)) there.method
-            lacks)),
-      ),
-    )
+FailsAfter-behind given old mid new got headers spans found (Err Broken) fits places took (more, then, lacks) =
+    (got ++ more, Consumes-trans old mid new got more took then, IsWanting-found given got headers spans (got ++ more) more found fits places refl lacks)

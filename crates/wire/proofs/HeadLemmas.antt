@@ -44,7 +44,7 @@ no_head-overflows (Some xs) (Some ys) got took over = λ head behind begins.
     absurd (omega arith)
 
 -- the bytes of a head that are within what was read begin it
-within : (got ys front behind : List ℕ) → got ++ ys ≡ front ++ behind → length front ≤ length got → got ≡ front ++ drop (length front) got
+pub within : (got ys front behind : List ℕ) → got ++ ys ≡ front ++ behind → length front ≤ length got → got ≡ front ++ drop (length front) got
 within got ys [] behind e le = refl
 within [] ys (x ∷ front) behind e le = absurd (omega arith)
 within (y ∷ got) ys (x ∷ front) behind e le =

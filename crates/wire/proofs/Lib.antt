@@ -9,6 +9,7 @@ pub mod PartLemmas
 pub mod PathLemmas
 pub mod LengthLemmas
 pub mod AskingLemmas
+pub mod LackingLemmas
 pub mod ReplyLemmas
 pub mod ResponseLemmas
 pub mod OutcomeLemmas

@@ -120,11 +120,15 @@ LacksBytes (Err why) size behind = ⊥
 abbrev pub LacksBehind : Option (List ℕ) → RequestHead → List ℕ → Type 0
 LacksBehind given head behind = LacksBytes (wanted (is_foreign given (map name_and_value head.fields)) head.method (named_by head.target)) (body_length (map name_and_value head.fields)) behind
 
--- the same of a head that was found in what was read, and of what was read then
-abbrev pub LacksAt : Option (List ℕ) → List ℕ → List HeaderSpan → RequestSpans → List ℕ → Type 0
-LacksAt given got headers spans more =
+-- the same of a head that was found in what was read, and of the bytes behind it
+abbrev pub LacksFound : Option (List ℕ) → List ℕ → List HeaderSpan → RequestSpans → List ℕ → Type 0
+LacksFound given got headers spans behind =
     LacksBytes (wanted (is_foreign given (map (header_bytes got) (take spans.headers headers))) (span_bytes got spans.method) (named_by (span_bytes got spans.path)))
-    (body_length (map (header_bytes got) (take spans.headers headers))) (drop spans.len got ++ more)
+    (body_length (map (header_bytes got) (take spans.headers headers))) behind
+
+-- the same of the bytes behind it that were read with it, and of what was read then
+abbrev pub LacksAt : Option (List ℕ) → List ℕ → List HeaderSpan → RequestSpans → List ℕ → Type 0
+LacksAt given got headers spans more = LacksFound given got headers spans (drop spans.len got ++ more)
 
 -- what was read doesn't say yet what is asked: it has no whole head yet, or the head of a keying whose body isn't all there
 abbrev pub IsWanting : Option (List ℕ) → List ℕ → Type 0

@@ -5,6 +5,7 @@ pub mod Lengths
 pub mod Origins
 pub mod Bodies
 pub mod Asking
+pub mod Lacking
 pub mod Replies
 pub mod Responses
 pub mod Told

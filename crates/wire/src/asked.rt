@@ -102,7 +102,7 @@ fn read_keying<R: Source>(
 
 /// What is asked for: what a target names, if it is asked for by its own verb, and not by a page from elsewhere; or
 /// why it is denied. The only error is want of memory.
-fn wanted(
+pub(crate) fn wanted(
     alloc: Global,
     is_foreign: bool,
     method: &[u8],

@@ -1,6 +1,6 @@
 //! How long the body of a request is.
 
-ghost use Rattle.std.specs.Prelude.{◌≡◌, ◌<◌, IfErr, IfOk, length, map};
+ghost use Rattle.std.specs.Prelude.{◌≡◌, ◌<◌, ◌≤◌, IfErr, IfOk, length, map};
 ghost use Rattle.std.specs.List.{All};
 ghost use Rattle.std.specs.Str.{str_eq_ignore_ascii_case};
 ghost use Rattle.httparse.specs.Spans.{IsHeaderWithin, header_bytes};
@@ -15,7 +15,8 @@ pub const MAX_BODY_BYTES: u32 = 1_048_576;
 
 /// The length that a text writes, up to the greatest.
 fn length_in(text: &[u8]) -> Result<usize, Denial>
-    ensures { result ≡ length_in text.now }
+    ensures is { result ≡ length_in text.now }
+    ensures fits { IfOk result (λ length. length ≤ MAX_BODY_BYTES) }
 {
     if text.is_empty() || !all_digits(text) {
         return Err(Denial::BadRequest);
@@ -60,7 +61,8 @@ fn value_of<'b>(
 /// coding may wrap it, and it may be told once; where it isn't told, there is none.
 pub(crate) fn body_length(buffer: &[u8], headers: &[HeaderSpan]) -> Result<usize, Denial>
     requires { All (IsHeaderWithin (length buffer.now)) headers.now }
-    ensures { result ≡ body_length (map (header_bytes buffer.now) headers.now) }
+    ensures is { result ≡ body_length (map (header_bytes buffer.now) headers.now) }
+    ensures fits { IfOk result (λ length. length ≤ MAX_BODY_BYTES) }
 {
     let Ok(None) = value_of(buffer, headers, b"transfer-encoding") else {
         return Err(Denial::BadRequest);

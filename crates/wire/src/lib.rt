@@ -3,13 +3,13 @@
 //! [`serve_one`] reads a request, asks the office what it asks, and writes the answer. What may be asked:
 //! `POST /clerks/{c}/batches/{b}/keying`, `GET /clerks/{c}/work`, `GET /wards/{w}/sheet` and
 //! `GET /wards/{w}/result`. [`read_asked`] reads what is asked, [`Asked`], or why it is denied before the
-//! office is asked, [`Denial`].
+//! office is asked, [`Denial`]. [`lacks`] says whether a client was heard to the end of what he asks.
 //!
 //! A page from elsewhere in a browser of this machine asks nothing: each request with a header that shows one is
 //! denied. [`Origin`] is that of pages which may come through a proxy in front.
 //!
-//! `specs/Asking.antt` says what the bytes of a client ask, `specs/Origins.antt` what shows that a page from elsewhere
-//! sent them, `specs/Targets.antt` which targets name what,
+//! `specs/Asking.antt` says what the bytes of a client ask, `specs/Lacking.antt` when they are whole,
+//! `specs/Origins.antt` what shows that a page from elsewhere sent them, `specs/Targets.antt` which targets name what,
 //! `specs/Responses.antt` which bytes an answer has, and `specs/Serving.antt` what is answered at a state of
 //! the office, and what each end of a connection leaves.
 //!
@@ -28,6 +28,8 @@ pub mod asked;
 mod body;
 mod digits;
 mod head;
+mod lack;
+mod lacking;
 mod length;
 pub mod origin;
 pub mod target;
@@ -42,6 +44,8 @@ mod serving;
 
 pub use asked::{Asked, Keying, read_asked};
 pub use denial::{Denial, Verb};
+pub use lack::Lacks;
+pub use lacking::lacks;
 pub use origin::Origin;
 pub use serving::{Served, serve_one};
 pub use target::Reading;

@@ -1,23 +1,11 @@
 -- Why `journal` keeps its promise: the office in memory was empty, and memory gives back what was written.
-use Rattle.std.proofs.Common.{◌≡◌, inl, inr, refl}
-use Rattle.sqlite_trees.specs.View.{doubt}
-use Rattle.sqlite_trees.specs.declared.memory.MemStore.{MemStore}
-use Rattle.sqlite.specs.Held.{Held, state}
-use Rattle.sqlite.specs.State.{HasCleanDisk}
-use Rattle.sqlite.specs.Steps.{IsEmpty, over_memory}
+use Rattle.std.proofs.Common.{inl, inr, refl}
 use Rattle.tables.specs.declared.fault.Fault.TheVariants.{Memory}
-use Rattle.store.specs.Openings.{IsBlank}
 use Rattle.desk.specs.Pages.{failed}
 use Rattle.desk.specs.declared.lines.Failure.TheVariants.{Office}
 use Rattle.desk.proofs.PageLemmas.{error_shown}
+use Rattle.count_office.proofs.MemoryLemmas.{memory_is_blank, memory_is_clean}
 use Rattle.count_office.proofs.journal.Goals as goal
-
-memory_is_clean : (held : Held MemStore) → HasCleanDisk (state over_memory held)
-unfolding doubt
-memory_is_clean held = refl
-
-memory_is_blank : (held : Held MemStore) → IsEmpty (state over_memory held) → IsBlank (state over_memory held)
-memory_is_blank held empty = record { is_open = empty.0.is_open; outside = empty.0.autocommit; settled = empty.0.clean; schema = empty.2; sound = (empty.1 empty.0.is_open).0 }
 
 pub returns-in-Ok-clause-told : goal.returns-in-Ok-clause-told
 returns-in-Ok-clause-told g c =

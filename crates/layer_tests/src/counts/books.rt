@@ -5,56 +5,116 @@ ghost use Rattle.count.specs.Books.{placed};
 ghost use Rattle.count.specs.Bundles.{papers_of};
 ghost use Rattle.count.specs.Law.Contest.{IsContest, contest_for};
 ghost use Rattle.count.specs.Law.Places.{place as place_of};
-ghost use Rattle.count.specs.Law.Right.{IsRightForSome};
+ghost use Rattle.count.specs.Law.Right.{IsRight, IsRightForSome};
 
+use super::begun::{Counting, by_bundles, by_parcels};
+use super::kept::goes_on_from_what_was_kept;
 use super::rows::is_read_back_at_each;
-use super::worked::{WORKED, Worked};
-use super::{first_columns, goes_to_each, papers_of, records, with_all};
+use super::worked::{Expected, Worked, elections};
+use super::{bundles_of, first_columns, holds, holds_of_list, record_all, with_all};
 use count::{
-    BundleBook, Bundles, CountBook, CountEnd, Due, KeptCount, NextStage, ParcelBook, Placed, Stage,
-    count_to, is_bundled_contest, is_contest, run_count,
+    BundleBook, Bundles, CountBook, CountEnd, Due, KeptCount, NextStage, Placed, Stage, count_to,
+    due_by, is_bundled_contest, run_count,
 };
 use paper::{Columns, Prefs};
 use std::alloc::{AllocError, Global};
 use std::process::Abort;
 use std::test::Fail;
-use votes::{MAX_PAPERS, ONE_VOTE, Votes};
 
-/// The papers of some groups as bundles, added one by one from the last to the first.
-pub fn bundles_of(alloc: Global, papers: &[Prefs]) -> Result<Bundles, Fail> {
-    let mut bundles = Bundles::new(alloc);
-    for paper in papers.iter().rev() {
-        if bundles.papers() < MAX_PAPERS {
-            bundles.add(*paper)?;
-        }
-    }
-    Ok(bundles)
+/// A count comes to so many stages: so many are elected then, and this comes next.
+#[derive(Drop)]
+struct ComesTo<'a> {
+    worked: &'a Worked,
+    stages: usize,
+    elected: Columns,
+    next: &'a Expected,
 }
 
-/// Counts a worked election to its end in a new book, and compares each stage.
-fn comes_as_worked<B: CountBook>(rt: &impl Abort, book: &mut B, worked: &Worked) -> Result<(), Fail>
-    requires { B.history book.old ≡ [] }
-{
-    let end = run_count(book, worked.lots)?;
-    assert!(rt; end == CountEnd::Finished, "{}", worked.name);
-    assert_eq!(rt; book.stages().len(), worked.stages.len(), "{}", worked.name);
-    for (stage, expected) in book.stages().iter().zip(worked.stages) {
-        assert!(rt; records(stage, expected), "{}: {stage:?}", worked.name);
+impl<'a> Counting for ComesTo<'a> {
+    fn count<B: CountBook>(&self, rt: &impl Abort, book: &mut B) -> Result<(), Fail> {
+        let worked = self.worked;
+        count_to(book, worked.lots, self.stages)?;
+        let found = book.stages().len();
+        holds(rt, worked, "how many stages", found == self.stages);
+        holds(rt, worked, "the elected", book.elected() == self.elected);
+        let next = Due::Act(self.next.action);
+        holds(rt, worked, "what is due", due_by(book, worked.lots) == next);
+        Ok(())
+    }
+}
+
+/// Counts a worked election to each of its stages in turn, and asks what comes next there.
+fn goes_to_each(rt: &impl Abort, alloc: Global, worked: &Worked) -> Result<(), Fail> {
+    let mut elected = Columns::empty();
+    for (stages, next) in worked.stages.iter().enumerate() {
+        let comes_to = ComesTo {
+            worked,
+            stages,
+            elected,
+            next,
+        };
+        by_parcels(rt, alloc, worked, &comes_to)?;
+        elected = with_all(elected, next.elected);
     }
     Ok(())
 }
 
-/// Counts a worked election in both books.
-fn both_books_count(rt: &impl Abort, alloc: Global, worked: &Worked) -> Result<(), Fail> {
+/// Counts a worked election to its end, from where its count stands.
+fn ends_as_worked<B: CountBook>(rt: &impl Abort, book: &mut B, worked: &Worked) -> Result<(), Fail>
+    requires { IsRight (B.contest book.old) worked.now.lots.now (B.history book.old) }
+{
+    let end = run_count(book, worked.lots)?;
+    holds(rt, worked, "its end", end == CountEnd::Finished);
+    record_all(rt, worked, book.stages(), worked.stages);
+    Ok(())
+}
+
+/// A count comes as worked.
+#[derive(Drop)]
+struct ComesAsWorked<'a> {
+    worked: &'a Worked,
+}
+
+impl<'a> Counting for ComesAsWorked<'a> {
+    fn count<B: CountBook>(&self, rt: &impl Abort, book: &mut B) -> Result<(), Fail> {
+        ends_as_worked(rt, book, self.worked)
+    }
+}
+
+/// A book of these bundles after so many stages.
+fn counted<'a>(
+    alloc: Global,
+    candidates: Columns,
+    worked: &Worked,
+    bundles: &'a Bundles,
+    stages: usize,
+) -> Result<BundleBook<'a>, AllocError>
+    requires { IsContest (contest_for candidates worked.now.seats (papers_of bundles.now)) }
+{
+    let mut book = BundleBook::new(alloc, candidates, worked.seats, bundles)?;
+    count_to(&mut book, worked.lots, stages)?;
+    Ok(book)
+}
+
+/// Where a book stands.
+fn stands(alloc: Global, book: &BundleBook<'_>) -> Result<NextStage, AllocError> {
+    let places = Vec::from_slice(alloc, book.places())?;
+    let stages = Vec::from_slice(alloc, book.stages())?;
+    Ok(NextStage { places, stages })
+}
+
+/// Where a worked election stands by its bundles after so many stages.
+pub fn standing(
+    rt: &impl Abort,
+    alloc: Global,
+    worked: &Worked,
+    bundles: &Bundles,
+    stages: usize,
+) -> Result<NextStage, Fail> {
     let candidates = first_columns(worked.candidates);
-    let papers = papers_of(alloc, worked.papers)?;
-    let bundles = bundles_of(alloc, &papers)?;
-    assert!(rt; is_contest(&candidates, worked.seats, &papers));
-    assert!(rt; is_bundled_contest(&candidates, worked.seats, &bundles));
-    let mut book = ParcelBook::new(alloc, candidates, worked.seats, &papers)?;
-    comes_as_worked(rt, &mut book, worked)?;
-    let mut book = BundleBook::new(alloc, candidates, worked.seats, &bundles)?;
-    comes_as_worked(rt, &mut book, worked)
+    assert!(rt; is_bundled_contest(&candidates, worked.seats, bundles));
+    let book = counted(alloc, candidates, worked, bundles, stages)?;
+    Ok(stands(alloc, &book)?)
 }
 
 /// The bundles of the first worked election after its second stage: a list, how many papers have it, who
@@ -66,27 +126,31 @@ const PLACES: [(&[u8], u32, u8, u64); 4] = [
     (&[3], 2, 3, 100000),
 ];
 
+/// Whether papers lie so.
+fn are_with(placed: &Placed, holder: u8, units: u64) -> bool {
+    placed.holder == holder && placed.value.units() == units
+}
+
+/// Whether a bundle lies so.
+fn lies_as(list: &Prefs, papers: u32, placed: &Placed, expected: &(&[u8], u32, u8, u64)) -> bool {
+    let are_there = are_with(placed, expected.2, expected.3);
+    list.as_slice() == expected.0 && papers == expected.1 && are_there
+}
+
+/// Each bundle lies where it has to.
+fn lie_as(rt: &impl Abort, bundles: &Bundles, places: &[Placed]) {
+    assert!(rt; places.len() == PLACES.len());
+    for (((list, papers), placed), expected) in bundles.iter().zip(places).zip(&PLACES) {
+        holds_of_list(rt, list, *papers, lies_as(list, *papers, placed, expected));
+    }
+}
+
 #[test]
 fn bundles_lie_where_their_papers_do(rt: HostRuntime) -> Result<(), Fail> {
-    let Some(worked) = WORKED.first() else {
-        return Err(Fail::from("no such election"));
-    };
-    let candidates = first_columns(worked.candidates);
-    let bundles = bundles_of(rt.alloc(), &papers_of(rt.alloc(), worked.papers)?)?;
-    assert!(rt; is_bundled_contest(&candidates, worked.seats, &bundles));
-    let mut book = BundleBook::new(rt.alloc(), candidates, worked.seats, &bundles)?;
-    count_to(&mut book, worked.lots, 2)?;
-    assert_eq!(rt; book.places().len(), PLACES.len());
-    let lying = bundles.iter().zip(book.places());
-    for (((list, papers), placed), expected) in lying.zip(&PLACES) {
-        let found = (
-            list.as_slice(),
-            *papers,
-            placed.holder,
-            placed.value.units(),
-        );
-        assert!(rt; found == *expected, "{found:?}");
-    }
+    let worked = elections().first().ok_or("no such election")?;
+    let bundles = bundles_of(rt.alloc(), worked.papers)?;
+    let stood = standing(&rt, rt.alloc(), worked, &bundles, 2)?;
+    lie_as(&rt, &bundles, &stood.places);
     Ok(())
 }
 
@@ -123,98 +187,43 @@ fn goes_on_from(
     let mut stood = BundleBook::new(alloc, candidates, worked.seats, bundles)?;
     count_to(&mut stood, worked.lots, stages)?;
     let (places, made) = (stood.places(), stood.stages());
-    assert_eq!(rt; places.len(), bundles.len(), "{}", worked.name);
+    holds(rt, worked, "how many places", places.len() == bundles.len());
     let mut book = resume_again(alloc, candidates, worked.seats, bundles, places, made)?;
-    assert_eq!(rt; book.stages().len(), stages, "{}", worked.name);
-    let end = run_count(&mut book, worked.lots)?;
-    assert!(rt; end == CountEnd::Finished, "{}", worked.name);
-    for (stage, expected) in book.stages().iter().zip(worked.stages) {
-        assert!(rt; records(stage, expected), "{}: {stage:?}", worked.name);
+    holds(rt, worked, "where it starts", book.stages().len() == stages);
+    ends_as_worked(rt, &mut book, worked)
+}
+
+/// The same from each of its stages.
+fn goes_on_from_each(rt: &impl Abort, alloc: Global, worked: &Worked) -> Result<(), Fail> {
+    let bundles = bundles_of(alloc, worked.papers)?;
+    for stages in 0..worked.stages.len() {
+        goes_on_from(rt, alloc, worked, &bundles, stages)?;
     }
     Ok(())
 }
 
 #[test]
 fn counts_go_on_from_each_stage(rt: HostRuntime) -> Result<(), Fail> {
-    for worked in &WORKED {
-        let papers = papers_of(rt.alloc(), worked.papers)?;
-        let bundles = bundles_of(rt.alloc(), &papers)?;
-        for stages in 0..worked.stages.len() {
-            goes_on_from(&rt, rt.alloc(), worked, &bundles, stages)?;
-        }
+    for worked in elections() {
+        goes_on_from_each(&rt, rt.alloc(), worked)?;
     }
     Ok(())
 }
 
-/// Counts a worked election stage by stage, each by what was kept of the stage before.
-fn goes_on_from_what_was_kept(rt: &impl Abort, alloc: Global, worked: &Worked) -> Result<(), Fail> {
-    let candidates = first_columns(worked.candidates);
-    let papers = papers_of(alloc, worked.papers)?;
-    let bundles = bundles_of(alloc, &papers)?;
-    let mut kept = KeptCount::begin(alloc, candidates, worked.seats, bundles)?;
-    let mut elected = first_columns(0);
-    for expected in worked.stages {
-        let Some(next) = kept.next_stage(alloc, worked.lots)? else {
-            return Err(Fail::from("no stage is due"));
-        };
-        let NextStage { places, stages } = next;
-        let Some(stage) = stages.last() else {
-            return Err(Fail::from("no stage was made"));
-        };
-        assert!(rt; records(stage, expected), "{}: {stage:?}", worked.name);
-        elected = with_all(elected, expected.elected);
-        let bundles = bundles_of(alloc, &papers)?;
-        kept = KeptCount::resume(candidates, worked.seats, bundles, places, stages).ok_or(
-            "what was kept is of no count",
-        )?;
-        assert!(rt;
-            kept.elected() == elected,
-            "{}: {:?}",
-            worked.name,
-            kept.elected()
-        );
-    }
-    assert!(rt;
-        kept.next_stage(alloc, worked.lots)?.is_none(),
-        "{}",
-        worked.name
-    );
-    assert!(rt;
-        matches!(kept.due_by(worked.lots), Due::Finished),
-        "{}",
-        worked.name
-    );
-    Ok(())
+/// Counts a worked election in both books.
+fn both_books_count(rt: &impl Abort, alloc: Global, worked: &Worked) -> Result<(), Fail> {
+    let comes_as_worked = ComesAsWorked { worked };
+    by_parcels(rt, alloc, worked, &comes_as_worked)?;
+    by_bundles(rt, alloc, worked, &comes_as_worked)
 }
 
 #[test]
 fn worked_elections_are_counted(rt: HostRuntime) -> Result<(), Fail> {
-    for worked in &WORKED {
+    for worked in elections() {
         goes_to_each(&rt, rt.alloc(), worked)?;
         both_books_count(&rt, rt.alloc(), worked)?;
-        goes_on_from_what_was_kept(&rt, rt.alloc(), worked)?;
+        goes_on_from_what_was_kept::<KeptCount>(&rt, rt.alloc(), worked)?;
         is_read_back_at_each(&rt, rt.alloc(), worked)?;
-    }
-    Ok(())
-}
-
-#[test]
-fn places_that_no_count_has_are_not_taken_up(rt: HostRuntime) -> Result<(), Fail> {
-    let candidates = first_columns(3);
-    for (holder, value, is_taken_up) in [
-        (30, ONE_VOTE, true),
-        (31, ONE_VOTE, false),
-        (1, ONE_VOTE + 1, false),
-    ] {
-        let papers = papers_of(rt.alloc(), &[(2, &[1])])?;
-        let bundles = bundles_of(rt.alloc(), &papers)?;
-        let mut places = Vec::new(rt.alloc());
-        places.push(Placed {
-            holder,
-            value: Votes::from_units(value),
-        })?;
-        let kept = KeptCount::resume(candidates, 1, bundles, places, Vec::new(rt.alloc()));
-        assert_eq!(rt; kept.is_some(), is_taken_up, "{holder} {value}");
     }
     Ok(())
 }

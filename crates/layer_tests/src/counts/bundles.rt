@@ -1,7 +1,10 @@
 //! Equal papers kept once.
 
+use super::{add, holds_of_list, prefs_of};
 use count::Bundles;
 use paper::Prefs;
+use std::alloc::{AllocError, Global};
+use std::process::Abort;
 use std::test::Fail;
 use votes::MAX_PAPERS;
 
@@ -34,48 +37,73 @@ static BUNDLES: [(&[u8], u32); 6] = [
     (&[5], 1),
 ];
 
+/// Adds a paper with this list.
+fn add_list(bundles: &mut Bundles, list: &[u8]) -> Result<(), Fail> {
+    let list = prefs_of(list)?;
+    Ok(add(bundles, list)?)
+}
+
+/// The bundles of scattered papers, added one by one.
+fn scattered(alloc: Global) -> Result<Bundles, Fail> {
+    let mut bundles = Bundles::new(alloc);
+    for list in &SCATTERED {
+        add_list(&mut bundles, *list)?;
+    }
+    Ok(bundles)
+}
+
+/// Adds equal papers, 7 at most. An error is want of memory, or of room.
+fn add_several(bundles: &mut Bundles, list: Prefs, papers: u32) -> Result<(), AllocError> {
+    if papers >= 1 && papers <= 7 && bundles.papers() <= MAX_PAPERS - 7 {
+        return bundles.add_papers(list, papers);
+    }
+    Err(AllocError)
+}
+
+/// Adds equal papers twice, all of them at once.
+fn add_twice(bundles: &mut Bundles, list: &[u8], papers: u32) -> Result<(), Fail> {
+    let list = prefs_of(list)?;
+    add_several(bundles, list, papers)?;
+    Ok(add_several(bundles, list, papers)?)
+}
+
+/// Each bundle, added twice.
+fn doubled(alloc: Global) -> Result<Bundles, Fail> {
+    let mut bundles = Bundles::new(alloc);
+    for (list, papers) in &BUNDLES {
+        add_twice(&mut bundles, *list, *papers)?;
+    }
+    Ok(bundles)
+}
+
+/// Whether a bundle has this list, and so many times the papers beside it.
+fn is_bundle(list: &Prefs, papers: u32, expected: &(&[u8], u32), times: u64) -> bool {
+    let wanted = times.saturating_mul(u64::from(expected.1));
+    list.as_slice() == expected.0 && u64::from(papers) == wanted
+}
+
+/// These are the six bundles, with so many times their papers.
+fn are_bundles(rt: &impl Abort, bundles: &Bundles, times: u64) {
+    let papers = u64::from(bundles.papers());
+    let are_six = papers == times.saturating_mul(15) && bundles.len() == 6;
+    assert!(rt; are_six, "{papers} papers");
+    for ((list, papers), expected) in bundles.iter().zip(&BUNDLES) {
+        holds_of_list(rt, list, *papers, is_bundle(list, *papers, expected, times));
+    }
+}
+
+/// A bundle is found by its place.
+fn is_found(rt: &impl Abort, bundles: &Bundles) {
+    assert!(rt; bundles.len() > 4);
+    let (list, papers) = bundles.get(4);
+    holds_of_list(rt, list, papers, is_bundle(list, papers, &BUNDLES[4], 1));
+}
+
 #[test]
 fn equal_papers_are_kept_once(rt: HostRuntime) -> Result<(), Fail> {
-    let mut bundles = Bundles::new(rt.alloc());
-    for list in &SCATTERED {
-        let prefs = Prefs::from_slice(list).ok_or("no ranking")?;
-        if bundles.papers() < MAX_PAPERS {
-            bundles.add(prefs)?;
-        }
-    }
-    assert_eq!(&rt; bundles.papers(), 15);
-    assert_eq!(&rt; bundles.len(), 6);
-    for ((list, papers), (expected, number)) in bundles.iter().zip(&BUNDLES) {
-        assert!(&rt;
-            list.as_slice() == *expected && papers == number,
-            "{list:?}: {papers}"
-        );
-    }
-    if bundles.len() > 4 {
-        let (list, papers) = bundles.get(4);
-        let (expected, number) = &BUNDLES[4];
-        assert!(&rt;
-            list.as_slice() == *expected && papers == *number,
-            "{list:?}: {papers}"
-        );
-    }
-    // several at once
-    let mut bundles = Bundles::new(rt.alloc());
-    for (list, number) in &BUNDLES {
-        let prefs = Prefs::from_slice(list).ok_or("no ranking")?;
-        for _ in 0..2 {
-            if *number >= 1 && bundles.papers() <= MAX_PAPERS - 7 && *number <= 7 {
-                bundles.add_papers(prefs, *number)?;
-            }
-        }
-    }
-    assert_eq!(&rt; bundles.papers(), 30);
-    assert_eq!(&rt; bundles.len(), 6);
-    for ((list, papers), (expected, number)) in bundles.iter().zip(&BUNDLES) {
-        assert!(&rt;
-            list.as_slice() == *expected && u64::from(*papers) == 2 * u64::from(*number),
-            "{list:?}: {papers}"
-        );
-    }
+    let bundles = scattered(rt.alloc())?;
+    are_bundles(&rt, &bundles, 1);
+    is_found(&rt, &bundles);
+    are_bundles(&rt, &doubled(rt.alloc())?, 2);
     Ok(())
 }

@@ -1,15 +1,51 @@
 //! Counts that are read back from the rows of what is tabulated of them, and from nothing else.
 
-use super::books::bundles_of;
+use super::books::standing;
 use super::worked::Worked;
-use super::{first_columns, papers_of, records};
-use count::{BundleBook, Bundles, CountBook, count_to, is_bundled_contest};
+use super::{bundles_of, first_columns, record_all};
+use count::{Bundles, KeptCount, NextStage};
 use register::tabulated::count_of;
 use register::{PlacedBundle, Tabulation};
-use std::alloc::Global;
+use std::alloc::{AllocError, Global};
 use std::process::Abort;
 use std::test::Fail;
 use votes::ONE_VOTE;
+
+/// What is tabulated of a worked election where it stands.
+fn tabulated(
+    alloc: Global,
+    worked: &Worked,
+    bundles: &Bundles,
+    stood: &NextStage,
+) -> Result<Tabulation, AllocError> {
+    let candidates = first_columns(worked.candidates);
+    let mut rows = Tabulation::empty(alloc);
+    rows.add(alloc, 7, &candidates, bundles, &stood.places, &stood.stages)?;
+    Ok(rows)
+}
+
+/// The count that is read back from these rows.
+fn read_back(alloc: Global, worked: &Worked, rows: &Tabulation) -> Result<KeptCount, Fail> {
+    let (candidates, seats) = (first_columns(worked.candidates), u32::from(worked.seats));
+    match count_of(alloc, candidates, seats, &rows.bundles, &rows.figures)? {
+        Some(kept) => Ok(kept),
+        None => Err(Fail::from("the rows of a count weren't read back")),
+    }
+}
+
+/// What was read back is as it stood, after so many stages.
+fn is_as_it_stood(
+    rt: &impl Abort,
+    worked: &Worked,
+    kept: &KeptCount,
+    stood: &NextStage,
+    stages: usize,
+) {
+    let expected = &worked.stages[..stages.min(worked.stages.len())];
+    record_all(rt, worked, kept.stages(), expected);
+    let is_so = kept.stages().len() == stages && kept.places() == stood.places.as_slice();
+    assert!(rt; is_so, "{}: {stages}", worked.name);
+}
 
 /// Tabulates a worked election after so many stages, and reads it back.
 fn is_read_back(
@@ -19,27 +55,16 @@ fn is_read_back(
     bundles: &Bundles,
     stages: usize,
 ) -> Result<(), Fail> {
-    let candidates = first_columns(worked.candidates);
-    assert!(rt; is_bundled_contest(&candidates, worked.seats, bundles));
-    let mut book = BundleBook::new(alloc, candidates, worked.seats, bundles)?;
-    count_to(&mut book, worked.lots, stages)?;
-    let mut rows = Tabulation::empty(alloc);
-    rows.add(alloc, 7, &candidates, bundles, book.places(), book.stages())?;
-    let seats = u32::from(worked.seats);
-    let kept = count_of(alloc, candidates, seats, &rows.bundles, &rows.figures)?.ok_or(
-        "the rows of a count weren't read back",
-    )?;
-    assert_eq!(rt; kept.stages().len(), stages, "{}", worked.name);
-    for (stage, expected) in kept.stages().iter().zip(worked.stages) {
-        assert!(rt; records(stage, expected), "{}: {stage:?}", worked.name);
-    }
-    assert!(rt; kept.places() == book.places(), "{}: {stages}", worked.name);
+    let stood = standing(rt, alloc, worked, bundles, stages)?;
+    let rows = tabulated(alloc, worked, bundles, &stood)?;
+    let kept = read_back(alloc, worked, &rows)?;
+    is_as_it_stood(rt, worked, &kept, &stood, stages);
     Ok(())
 }
 
 /// The same after each of its stages.
 pub fn is_read_back_at_each(rt: &impl Abort, alloc: Global, worked: &Worked) -> Result<(), Fail> {
-    let bundles = bundles_of(alloc, &papers_of(alloc, worked.papers)?)?;
+    let bundles = bundles_of(alloc, worked.papers)?;
     for stages in 1..=worked.stages.len() {
         is_read_back(rt, alloc, worked, &bundles, stages)?;
     }
@@ -56,18 +81,44 @@ const BUNDLES: [(&[u8], u32, u32, bool); 6] = [
     (&[1, 2], 1, 257, false),
 ];
 
+/// A bundle of these papers.
+fn placed(
+    alloc: Global,
+    list: &[u8],
+    papers: u32,
+    holder: u32,
+) -> Result<PlacedBundle, AllocError> {
+    Ok(PlacedBundle {
+        ward: 7,
+        list: Vec::from_slice(alloc, list)?,
+        papers,
+        holder,
+        value: ONE_VOTE,
+    })
+}
+
+/// Whether a count is read back that has this one bundle.
+fn has_count(alloc: Global, bundle: PlacedBundle) -> Result<bool, AllocError> {
+    let found = count_of(alloc, first_columns(3), 1, &[bundle], &[])?;
+    Ok(found.is_some())
+}
+
+/// A count is read back that has this one bundle, where it may have it.
+fn may_have(
+    rt: &impl Abort,
+    alloc: Global,
+    (list, papers, holder, may_be): &(&[u8], u32, u32, bool),
+) -> Result<(), Fail> {
+    let bundle = placed(alloc, *list, *papers, *holder)?;
+    let found = has_count(alloc, bundle)?;
+    assert!(rt; found == *may_be, "{list:?} {papers} {holder}");
+    Ok(())
+}
+
 #[test]
 fn rows_of_no_count_are_not_read_back(rt: HostRuntime) -> Result<(), Fail> {
-    for (list, papers, holder, may_be) in BUNDLES {
-        let bundle = PlacedBundle {
-            ward: 7,
-            list: Vec::from_slice(rt.alloc(), list)?,
-            papers,
-            holder,
-            value: ONE_VOTE,
-        };
-        let found = count_of(rt.alloc(), first_columns(3), 1, &[bundle], &[])?;
-        assert_eq!(rt; found.is_some(), may_be, "{list:?} {papers} {holder}");
+    for case in &BUNDLES {
+        may_have(&rt, rt.alloc(), case)?;
     }
     Ok(())
 }

@@ -21,7 +21,12 @@ pub struct Worked {
     pub stages: &'static [Expected],
 }
 
-pub static WORKED: [Worked; 10] = [
+/// All of them. (A proof that reads them by this call knows none of them, and is short.)
+pub fn elections() -> &'static [Worked] {
+    &WORKED
+}
+
+static WORKED: [Worked; 10] = [
     Worked {
         name: "values cut to 0.33333",
         candidates: 3,

@@ -1,32 +1,19 @@
 -- Why `copied` keeps its promise.
-use Rattle.std.proofs.Common.{◌≡◌, inl, inr, Result, Ok, Err, refl, sym, ap, subst, ◌∙◌}
+use Rattle.std.proofs.Common.{inl, inr, refl, sym, ap, subst, ◌∙◌}
 use Rattle.sqlite.specs.Held.{state}
 use Rattle.register.specs.Machine.{after}
 use Rattle.register.specs.Offices.{empty_office}
 use Rattle.tables.specs.declared.fault.Fault.TheVariants.{Memory}
 use Rattle.tables.specs.Reading.{OnlyReads}
 use Rattle.tables.proofs.ReadLemmas.{only_reads_itself}
-use Rattle.store.specs.declared.copying.CopyFault.{CopyFault}
 use Rattle.store.specs.declared.copying.CopyFault.TheVariants.{Taken}
-use Rattle.store.specs.declared.copying.Holdings.{Holdings}
 use Rattle.desk.specs.Copying.{HoldsCopy, IsNoneCopied, copied_text, state_behind}
 use Rattle.desk.specs.Pages.{failed, failure_of, replied}
 use Rattle.desk.specs.declared.lines.Failure.TheVariants.{Office}
+use Rattle.desk.proofs.CauseLemmas.{told_fault, told_one}
 use Rattle.desk.proofs.CopyingLemmas.{ends_copying, holds_behind, none_copied, unbegun_behind}
 use Rattle.desk.proofs.KeptLemmas.{read_leaves}
 use Rattle.desk.proofs.copying.copied.Goals as goal
-
--- an answer is not both
-told_one : {holdings : Holdings} {why : CopyFault} (r : Result Holdings CopyFault) → r ≡ Ok holdings → r ≡ Err why → ⊥
-told_one {holdings} {why} r ok err = let bad : Ok holdings ≡ Err why = sym ok ∙ err in absurd (cc bad)
-
--- nor two faults
-abbrev fault_in : Result Holdings CopyFault → CopyFault → CopyFault
-fault_in (Ok holdings) none = none
-fault_in (Err why) none = why
-
-told_fault : (why other : CopyFault) (r : Result Holdings CopyFault) → r ≡ Err why → r ≡ Err other → why ≡ other
-told_fault why other r first second = ap (λ (x : Result Holdings CopyFault). fault_in x other) (sym first ∙ second)
 
 pub returns-in-Ok-copied_text-clause-copied : goal.returns-in-Ok-copied_text-clause-copied
 returns-in-Ok-copied_text-clause-copied g c clean = record {

@@ -1,11 +1,11 @@
 -- Why `copy` keeps its promise.
-use Rattle.std.proofs.Common.{◌≡◌, ap, ◌∙◌, subst, rules}
+use Rattle.std.proofs.Common.{◌≡◌, inl, ap, ◌∙◌, subst, rules}
 use Rattle.sqlite.specs.Held.{state}
 use Rattle.register.specs.Offices.{OfficeState}
 use Rattle.rowcheck.specs.States.{state_of, tabulated}
 use Rattle.store.specs.Copies.{LeavesNoneOrAll, holdings_of}
 use Rattle.store.specs.Offices.{IsAt}
-use Rattle.store.proofs.ReopenLemmas.{left_ours, left_told, left_failed}
+use Rattle.store.proofs.ReopenLemmas.{at_left, left_ours, left_told, left_failed}
 use Rattle.store.proofs.CopyLemmas.{copy_is_at, copy_stops, copy_whole, read_left}
 use Rattle.store.proofs.copying.copy.Goals as goal
 
@@ -13,6 +13,7 @@ pub returns-in-Ok-commit_copy : goal.returns-in-Ok-commit_copy
 returns-in-Ok-commit_copy g c =
     let x = state_of c.in-Ok.rows in
     let t = tabulated c.in-Ok.rows in
+    let old = state g.S.Store c.args.conn.now in
     let blank = state g.T.Store c.args.copy.now in
     let full = state g.T.Store c.commit_copy.new.copy in
     let read = c.in-Ok.ensures in
@@ -32,6 +33,17 @@ returns-in-Ok-commit_copy g c =
       stops = λ clean honest db rests s left new.
           let found = read.holds clean db (left_ours s db left) rests in
           subst (λ (y : OfficeState). LeavesNoneOrAll y blank full) (read_left s x db left found.0) (copy_stops x t blank full found.1 honest (c.commit_copy.ensures.survives tt new));
+      kept = λ clean s at.
+          let was = at_left s old at (c.checked_rows.ensures.reads.was_open clean (read.opens clean)) in
+          let found = read.holds clean old.now (left_ours s old.now was.1) was.0 in
+          let is : x ≡ s = read_left s x old.now was.1 found.0 in
+          record {
+            same = (
+              c.holdings_of.ensures ∙ ap holdings_of is,
+              λ honest new. subst (λ (y : OfficeState). IsAt y full) is (copy_is_at x t full read.judged (λ trees is_open may. g.met.T.Store.settled c.commit_copy.new.copy.store trees is_open may) (made.done honest tt new)),
+            );
+            stops = λ honest new. subst (λ (y : OfficeState). LeavesNoneOrAll y blank full) is (copy_stops x t blank full found.1 honest (c.commit_copy.ensures.survives tt new));
+          };
       made = λ honest new. (x, c.holdings_of.ensures, copy_is_at x t full read.judged (λ trees is_open may. g.met.T.Store.settled c.commit_copy.new.copy.store trees is_open may) (made.done honest tt new));
       whole = λ honest new. copy_whole x t blank full read.judged honest (c.commit_copy.ensures.survives tt new);
       told = λ clean db ours rests new. tt;
@@ -51,6 +63,7 @@ pub returns-in-Ok : goal.returns-in-Ok
 returns-in-Ok g c =
     let x = state_of c.in-Ok.rows in
     let t = tabulated c.in-Ok.rows in
+    let old = state g.S.Store c.args.conn.now in
     let blank = state g.T.Store c.args.copy.now in
     let full = state g.T.Store c.commit_copy.new.copy in
     let read = c.in-Ok.ensures in
@@ -60,6 +73,13 @@ returns-in-Ok g c =
       stops = λ clean honest db rests s left new.
           let found = read.holds clean db (left_ours s db left) rests in
           subst (λ (y : OfficeState). LeavesNoneOrAll y blank full) (read_left s x db left found.0) (copy_stops x t blank full found.1 honest (c.commit_copy.ensures.survives tt new));
+      kept = λ clean s at.
+          let was = at_left s old at (c.checked_rows.ensures.reads.was_open clean (read.opens clean)) in
+          let found = read.holds clean old.now (left_ours s old.now was.1) was.0 in
+          record {
+            same = tt;
+            stops = λ honest new. subst (λ (y : OfficeState). LeavesNoneOrAll y blank full) (read_left s x old.now was.1 found.0) (copy_stops x t blank full found.1 honest (c.commit_copy.ensures.survives tt new));
+          };
       made = λ honest new. tt;
       whole = λ honest new. copy_whole x t blank full read.judged honest (c.commit_copy.ensures.survives tt new);
       told = λ clean db ours rests new. (search rules, (x, (read.holds clean db ours rests).0));
@@ -82,6 +102,7 @@ returns g c =
       copied = λ clean db ours rests. tt;
       same = λ clean db rests s left. tt;
       stops = search rules;
+      kept = λ clean s at. record { same = tt; stops = λ honest new trees may. inl may };
       made = λ honest new. tt;
       whole = search rules;
       told = λ clean db ours rests new. (read.told clean db ours rests, read.fails clean db ours rests);

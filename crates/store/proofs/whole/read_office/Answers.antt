@@ -24,6 +24,7 @@ returns-in-Ok g c =
       cause = λ clean db rests s left. tt;
       reads = c.checked_rows.ensures.reads;
       inside = search rules;
+      outside = λ was. c.checked_rows.ensures.outside;
     }
 
 pub returns-in-Err : goal.returns-in-Err
@@ -42,4 +43,5 @@ returns-in-Err g c =
           left_failed s db (state g.S.Store c.args.conn.now) (state g.S.Store c.checked_rows.new.conn) c.in-Err.fault left (read.told clean db ours rests) (read.fails clean db ours rests);
       reads = c.checked_rows.ensures.reads;
       inside = search rules;
+      outside = λ was. c.checked_rows.ensures.outside;
     }

@@ -1,24 +1,20 @@
 -- Why `all_rows` keeps its promise.
-use Rattle.std.proofs.Common.{[], refl, arith}
-use Rattle.sqlite.specs.Held.{state}
-use Rattle.tables.specs.Texts.{select_text}
-use Rattle.tables.specs.Rows.{begins_with}
-use Rattle.tables.proofs.Queries.{selects, selects_query}
-use Rattle.tables.proofs.ListingLemmas.{if_listed}
-use Rattle.tables.proofs.CauseLemmas.{all_fails}
+use Rattle.std.proofs.Common.{inr}
+use Rattle.std.proofs.lemmas.Result.{err_from_is_err_and}
+use Rattle.tables.proofs.ListingLemmas.{in_order_listed}
 use Rattle.tables.proofs.reading.all_rows.Goals as goal
 
-pub returns-clause-lists : goal.returns-clause-lists
-returns-clause-lists g c clean db begins rests =
-    if_listed c.args.table (select_text c.args.table 0) [] (selects c.args.table 0 (omega arith)) [] (begins_with []) (λ r. refl) db begins (state g.S.Store c.args.conn.now)
-    (state g.S.Store c.query.new.conn) (λ rows. rows.items) c.query.result rests (rw c.select_text.ensures at (c.query.ensures.shown clean))
+pub returns-in-Ok-clause-lists : goal.returns-in-Ok-clause-lists
+returns-in-Ok-clause-lists g c clean db begins rests =
+    in_order_listed c.args.table db c.in_ok-rows.rows.items c.put_in_order.new.rows.items (c.in_ok-rows.ensures.scans clean db begins rests) c.put_in_order.ensures.same
+    c.in-Ok.ensures.sorted
 
-pub returns-clause-opens : goal.returns-clause-opens
-returns-clause-opens g c clean = (rw c.select_text.ensures at (c.query.ensures.opens clean)) (selects_query c.args.table 0 (omega arith))
+pub returns-in_err-rows-clause-cause : goal.returns-in_err-rows-clause-cause
+returns-in_err-rows-clause-cause g c =
+    let p = err_from_is_err_and c.from_residual.result c.from_residual.ensures.1 in
+    rw (p.1, p.2) (inr c.in_err-rows.ensures.cause)
 
-pub returns-clause-reads : goal.returns-clause-reads
-returns-clause-reads g c = (rw c.select_text.ensures at c.query.ensures.reads) (selects_query c.args.table 0 (omega arith))
-
-pub returns-clause-fails : goal.returns-clause-fails
-returns-clause-fails g c clean db begins rests =
-    all_fails c.args.table db begins (state g.S.Store c.args.conn.now) (state g.S.Store c.query.new.conn) c.query.result clean rests (rw c.select_text.ensures at c.query.ensures.cause)
+pub returns-in_err-rows-clause-fails : goal.returns-in_err-rows-clause-fails
+returns-in_err-rows-clause-fails g c clean db begins rests =
+    let p = err_from_is_err_and c.from_residual.result c.from_residual.ensures.1 in
+    rw (p.1, p.2) (c.in_err-rows.ensures.fails clean db begins rests)

@@ -1,0 +1,2 @@
+-- What the program hands on.
+pub mod Done

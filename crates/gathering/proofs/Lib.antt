@@ -1,0 +1,4 @@
+-- The lemmas, by subject.
+pub mod LineLemmas
+pub mod RoomLemmas
+pub mod OfLemmas

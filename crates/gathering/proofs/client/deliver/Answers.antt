@@ -1,0 +1,12 @@
+-- Why `deliver` keeps its promise.
+use Rattle.std.proofs.Common.{◌∙◌, ap, drop}
+use Rattle.std.proofs.lemmas.List.{take_rest}
+use Rattle.gathering.proofs.LineLemmas.{delivers_next}
+use Rattle.gathering.proofs.client.deliver.Goals as goal
+
+pub loop-answer-preserved : goal.loop-answer-preserved
+loop-answer-preserved g c = record {
+  same = c.loop-answer.invariant.same;
+  delivers = delivers_next _ _ _ _ _ _ c.loop-answer.answer.sent c.in_ok-count.count _ c.loop-answer.invariant.delivers
+      (take_rest c.deref.result.now c.loop-answer.answer.sent ∙ ap (drop c.loop-answer.answer.sent) (c.deref.ensures.value ∙ c.loop-answer.invariant.same)) c.in_ok-count.ensures.takes.0 c.in_ok-count.ensures.takes.1 c.in_ok-count.ensures.unheard;
+}

@@ -1,0 +1,50 @@
+-- What a client's line gives and takes, and what is gathered of it.
+use Rattle.std.specs.Prelude.{◌≡◌, ◌<◌, ◌≤◌, ◌++◌, ⊤, ℕ, List, Option, None, Some, Result, Ok, Err, length, take}
+use Rattle.std.specs.Io.KnownBytes.{Consumes, IsAtEnd, Keeps, append_known}
+use Rattle.votes.specs.declared.streams.Broken.{Broken}
+use Rattle.gathering.specs.declared.line.Came.{Came}
+use Rattle.gathering.specs.declared.line.Came.TheVariants.{Bytes, Nothing, End}
+
+-- a line gave so many bytes, which stand at the front of the room; or nothing, for none has come yet, or none is to come
+abbrev pub Gives : Option (List ℕ) → Option (List ℕ) → List ℕ → Result Came Broken → Type 0
+Gives old new room (Ok (Bytes n)) = (0 < n) × (n ≤ length room) × Consumes old new (take n room)
+Gives old new room (Ok Nothing) = Keeps old new
+Gives old new room (Ok End) = IsAtEnd new × Keeps old new
+Gives old new room (Err broken) = Keeps old new
+
+-- what a line took grew by these bytes; where it doesn't tell what it took, it goes on so
+abbrev pub Grows : Option (List ℕ) → Option (List ℕ) → List ℕ → Type 0
+Grows old new bytes = new ≡ append_known old bytes
+
+-- a line took so many of the bytes, from the front on
+abbrev pub Takes : Option (List ℕ) → Option (List ℕ) → List ℕ → Result ℕ Broken → Type 0
+Takes old new bytes (Ok n) = (n ≤ length bytes) × Grows old new (take n bytes)
+Takes old new bytes (Err broken) = new ≡ old
+
+-- a line took just these bytes so far, if it tells what it took
+abbrev pub HasTaken : Option (List ℕ) → List ℕ → Type 0
+HasTaken None bytes = ⊤
+HasTaken (Some taken) bytes = taken ≡ bytes
+
+-- what two moments of a line tell: the bytes that are still to come of it, and those that it took
+pub record Line (L : Type 0) : Type 0 where
+  pub held : L → Option (List ℕ)
+  pub taken : L → Option (List ℕ)
+
+abbrev pub line_of : {L : Type 0} → (L → Option (List ℕ)) → (L → Option (List ℕ)) → Line L
+line_of held taken = record { held = held; taken = taken }
+
+-- Bytes were gathered of a line behind those from before: just those that it gave, and it was put nothing.
+pub record Gathers {L : Type 0} (line : Line L) (old new : L) (before after : List ℕ) : Type 0 where
+  pub more : List ℕ
+  pub is : after ≡ before ++ more
+  pub gave : Consumes (line.held old) (line.held new) more
+  pub untold : line.taken new ≡ line.taken old
+
+-- A line took the bytes of an answer from one place to another, and it was asked for nothing.
+pub record Delivers {L : Type 0} (line : Line L) (old new : L) (answer : List ℕ) (before after : ℕ) : Type 0 where
+  pub within : before ≤ length answer → after ≤ length answer
+  pub bytes : List ℕ
+  pub is : take after answer ≡ take before answer ++ bytes
+  pub took : Grows (line.taken old) (line.taken new) bytes
+  pub unheard : Keeps (line.held old) (line.held new)

@@ -1,0 +1,48 @@
+//! Where clients and orders come in, and what tells which of them may go on.
+
+ghost use Rattle.std.specs.Prelude.{◌≡◌, List, Option};
+ghost use Rattle.gathering.specs.Rooms.{IsFresh, IsWanted, LetsIn};
+ghost use Rattle.gathering.specs.declared.client.Comer.{Comer};
+
+use crate::client::Comer;
+use crate::line::Line;
+use std::time::Duration;
+use votes::Broken;
+
+/// What a door gave.
+#[derive(Drop)]
+pub enum Admitted<L> {
+    /// The next who waited.
+    One(Comer<L>),
+    /// Nobody waits who may come in.
+    Nobody,
+    /// Somebody may wait, and can't be let in now.
+    NotNow,
+}
+
+/// Where clients and orders come in, and what tells who may go on. What it tells is no promise: who can't go on is tried in
+/// vain.
+pub trait Doors {
+    type Line: Line + Drop;
+
+    /// Those who were let in so far, as they came in, as far as they are told.
+    ghost came: { Self → Option (List (Comer Self.Line)) };
+
+    /// Waits until somebody may go on or come in, so long at most.
+    fn wait(&mut self, most: Duration) -> Result<(), Broken>
+        ensures { came self.new ≡ came self.old };
+
+    /// The number of the next who may go on; none, once all were told.
+    fn next_ready(&mut self) -> Option<u64>
+        ensures { came self.new ≡ came self.old };
+
+    /// Lets in the next who waits at a door, and tells of him by this number from then on. Orders come in first, and clients
+    /// only where they are wanted, too.
+    fn admit(&mut self, number: u64, clients_too: bool) -> Admitted<Self::Line>
+        ensures fresh { IsFresh Self.Line.taken result }
+        ensures wanted { IsWanted clients_too result }
+        ensures lets_in { LetsIn (came self.old) (came self.new) result };
+
+    /// Whether somebody may wait at a door.
+    fn is_waited_at(&self) -> bool;
+}

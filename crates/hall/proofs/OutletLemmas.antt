@@ -1,0 +1,150 @@
+-- What goes out of an order, one frame behind the other.
+use Rattle.std.proofs.Common.{◌≡◌, ◌∙◌, ◌<◌, ◌+◌, ◌^◌, ◌++◌, ◌⊎◌, Bool, false, true, ◌&&◌, cond, ℕ, List, None, Option, Some, ap, arith, fold, inl, inr, length, length-append, refl, subst, sym, take}
+use Rattle.std.proofs.Common.{leb}
+use Rattle.std.proofs.lemmas.Bool.{le-leb, leb-true}
+use Rattle.std.proofs.lemmas.List.{take-append-le}
+use Rattle.std.proofs.lemmas.Slice.Eq.{bytes_eq-Decides}
+use Rattle.std.specs.Io.KnownBytes.{Appends, Keeps}
+use Rattle.gathering.specs.Clients.{IsTold}
+use Rattle.gathering.specs.Lines.{Delivers, HasTaken, Line}
+use Rattle.gathering.specs.declared.client.Answer.{Answer}
+use Rattle.gathering.proofs.LineLemmas.{told_more}
+use Rattle.handover.specs.Frames.{AreWhole, Place, at_kind, frame_bytes, hear, in_bytes, in_length, nothing_heard, over, said, said_by}
+use Rattle.handover.proofs.FrameLemmas.{over_more, said_more}
+use Rattle.hall.specs.Outlets.{IsEnded, IsGoingOut, has_taken, is_at_kind, is_going_out, said_through}
+use Rattle.hall.specs.declared.outlet.Outlet.{Outlet}
+
+-- ---- the test
+
+both : (a b : Bool) → a ≡ true → b ≡ true → (a && b) ≡ true
+both true true x y = refl
+both true false x y = absurd (cc y)
+both false b x y = absurd (cc x)
+
+first_of : (a b : Bool) → (a && b) ≡ true → a ≡ true
+first_of true b is = refl
+first_of false b is = absurd (cc is)
+
+next_of : (a b : Bool) → (a && b) ≡ true → b ≡ true
+next_of true b is = is
+next_of false b is = absurd (cc is)
+
+at_kind_from : (place : Place) → is_at_kind place ≡ true → place ≡ at_kind
+at_kind_from at_kind is = refl
+at_kind_from (in_length kind number left) is = absurd (cc is)
+at_kind_from (in_bytes kind left) is = absurd (cc is)
+
+taken_from : (taken : Option (List ℕ)) (bytes : List ℕ) → has_taken taken bytes ≡ true → HasTaken taken bytes
+taken_from None bytes is = tt
+taken_from (Some taken) bytes is = (bytes_eq-Decides taken bytes).0 is
+
+has_taken_by : (taken : Option (List ℕ)) (bytes : List ℕ) → HasTaken taken bytes → has_taken taken bytes ≡ true
+has_taken_by None bytes has = refl
+has_taken_by (Some taken) bytes has = (bytes_eq-Decides taken bytes).1 has
+
+module _ {L : Type 0} (line : Line L) where
+  pub goes_from : (o : Outlet L) → is_going_out line o ≡ true → IsGoingOut line o.line o.answer
+  goes_from o is =
+      let place = is_at_kind (fold hear nothing_heard o.answer.bytes.items).place in
+      let within = leb o.answer.sent (length o.answer.bytes.items) in
+      let has = has_taken (line.taken o.line) (take o.answer.sent o.answer.bytes.items) in
+      let behind = next_of place (within && has) is in
+      record {
+        whole = at_kind_from (fold hear nothing_heard o.answer.bytes.items).place (first_of place (within && has) is);
+        told = record {
+          within = leb-true o.answer.sent (length o.answer.bytes.items) (first_of within has behind);
+          took = taken_from (line.taken o.line) (take o.answer.sent o.answer.bytes.items) (next_of within has behind);
+        };
+      }
+
+  pub goes_by : (o : Outlet L) → IsGoingOut line o.line o.answer → is_going_out line o ≡ true
+  goes_by o goes =
+      let place = is_at_kind (fold hear nothing_heard o.answer.bytes.items).place in
+      let within = leb o.answer.sent (length o.answer.bytes.items) in
+      let has = has_taken (line.taken o.line) (take o.answer.sent o.answer.bytes.items) in
+      both place (within && has) (ap is_at_kind goes.whole)
+      (both within has (le-leb o.answer.sent (length o.answer.bytes.items) goes.told.within) (has_taken_by (line.taken o.line) (take o.answer.sent o.answer.bytes.items) goes.told.took))
+
+  -- ---- what an outlet took
+
+  pub said_so : (o : Outlet L) → IsGoingOut line o.line o.answer → said_through line o ≡ Some (said_by o.answer.bytes.items)
+  said_so o goes = ap (λ (b : Bool). cond b (Some (said_by o.answer.bytes.items)) None) (goes_by o goes)
+
+  -- it grows by what was said
+  pub appends : (old new : Outlet L) (bytes : List ℕ) → (IsGoingOut line old.line old.answer → IsGoingOut line new.line new.answer)
+      → (IsGoingOut line old.line old.answer → said_by new.answer.bytes.items ≡ said_by old.answer.bytes.items ++ bytes) → Appends (said_through line old) (said_through line new) bytes
+  appends old new bytes goes more = by (is_going_out line old) refl
+    where
+      by : (b : Bool) → is_going_out line old ≡ b → Appends (cond b (Some (said_by old.answer.bytes.items)) None) (said_through line new) bytes
+      by false is = tt
+      by true is =
+          let was = goes_from old is in
+          subst (λ (t : Option (List ℕ)). Appends (Some (said_by old.answer.bytes.items)) t bytes) (sym (said_so new (goes was))) (more was)
+
+  -- it is as it was
+  pub keeps : (old new : Outlet L) → (IsGoingOut line old.line old.answer → IsGoingOut line new.line new.answer) → new.answer.bytes.items ≡ old.answer.bytes.items
+      → Keeps (said_through line old) (said_through line new)
+  keeps old new goes same = by (is_going_out line old) refl
+    where
+      by : (b : Bool) → is_going_out line old ≡ b → Keeps (cond b (Some (said_by old.answer.bytes.items)) None) (said_through line new)
+      by false is = tt
+      by true is = subst (λ (t : Option (List ℕ)). Keeps (Some (said_by old.answer.bytes.items)) t) (sym (said_so new (goes (goes_from old is)))) (ap said_by same)
+
+  -- what it took is all that was said, and that goes out so
+  pub said_from : (o : Outlet L) (bytes : List ℕ) → said_through line o ≡ Some bytes → IsGoingOut line o.line o.answer × (bytes ≡ said_by o.answer.bytes.items)
+  said_from o bytes took = by (is_going_out line o) refl took
+    where
+      by : (b : Bool) → is_going_out line o ≡ b → cond b (Some (said_by o.answer.bytes.items)) None ≡ Some bytes → IsGoingOut line o.line o.answer × (bytes ≡ said_by o.answer.bytes.items)
+      by false is it = absurd (cc it)
+      by true is it = (goes_from o is, cc it)
+
+  -- ---- one frame more
+
+  -- the line took more of it
+  pub out_more : (old new : L) (before after : Answer) → Delivers line old new before.bytes.items before.sent after.sent → after.bytes.items ≡ before.bytes.items → IsGoingOut line old before
+      → IsGoingOut line new after
+  out_more old new before after delivers same goes = record {
+    whole = subst AreWhole (sym same) goes.whole;
+    told = subst (λ (bytes : List ℕ). IsTold line new bytes after.sent) (sym same) (told_more line old new before.bytes.items before.sent after.sent goes.told delivers);
+  }
+
+  -- more was put behind it, of which the line took nothing yet
+  told_still : (now : L) (before after : Answer) (more : List ℕ) → after.bytes.items ≡ before.bytes.items ++ more → after.sent ≡ before.sent → IsTold line now before.bytes.items before.sent
+      → IsTold line now after.bytes.items after.sent
+  told_still now before after more put still told =
+      let long = ap (λ (bs : List ℕ). length bs) put in
+      let same : take after.sent after.bytes.items ≡ take before.sent before.bytes.items =
+      ap (λ (n : ℕ). take n after.bytes.items) still ∙ ap (λ (bs : List ℕ). take before.sent bs) put ∙ take-append-le before.sent before.bytes.items more told.within in
+      record {
+        within = omega (arith, still, long, told.within, length-append before.bytes.items more);
+        took = subst (HasTaken (line.taken now)) (sym same) told.took;
+      }
+
+  -- a frame was put behind it
+  pub out_said : (now : L) (before after : Answer) (bytes : List ℕ) → length bytes < 2 ^ 32 → after.bytes.items ≡ before.bytes.items ++ frame_bytes (said bytes) → after.sent ≡ before.sent
+      → IsGoingOut line now before → IsGoingOut line now after × (said_by after.bytes.items ≡ said_by before.bytes.items ++ bytes)
+  out_said now before after bytes small put still goes =
+      let (more, whole) = said_more before.bytes.items bytes goes.whole small in (
+        record { whole = subst AreWhole (sym put) whole; told = told_still now before after (frame_bytes (said bytes)) put still goes.told },
+        ap said_by put ∙ more,
+      )
+
+  -- the frame of the end was put behind it; or memory was wanting, and it is as it was
+  pub ended : (o : Outlet L) (bytes : List ℕ) (status : ℕ) (err : List ℕ) (after : Answer) → said_through line o ≡ Some bytes → length (take 65536 err) + 1 < 2 ^ 32 → after.sent ≡ o.answer.sent
+      → (after.bytes.items ≡ o.answer.bytes.items) ⊎ (after.bytes.items ≡ o.answer.bytes.items ++ frame_bytes (over status (take 65536 err)))
+      → IsEnded line bytes status err o.line after
+  ended o bytes status err after took small still (inl same) =
+      let (goes, is) = said_from o bytes took in
+      record {
+        told = subst (λ (n : ℕ). IsTold line o.line after.bytes.items n) (sym still) (subst (λ (frames : List ℕ). IsTold line o.line frames o.answer.sent) (sym same) goes.told);
+        is = is ∙ ap said_by (sym same);
+        end = inr (subst AreWhole (sym same) goes.whole);
+      }
+  ended o bytes status err after took small still (inr put) =
+      let (goes, is) = said_from o bytes took in
+      let (more, whole) = over_more o.answer.bytes.items status (take 65536 err) goes.whole small in
+      record {
+        told = told_still o.line o.answer after (frame_bytes (over status (take 65536 err))) put still goes.told;
+        is = is ∙ sym (ap said_by put ∙ more);
+        end = inl (record { front = o.answer.bytes.items; whole = goes.whole; is = put });
+      }

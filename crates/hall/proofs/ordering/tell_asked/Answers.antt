@@ -1,0 +1,20 @@
+-- Why `tell_asked` keeps its promise.
+use Rattle.std.proofs.Common.{◌∙◌, Some, ap, sym}
+use Rattle.sqlite.specs.Held.{state}
+use Rattle.gathering.specs.Lines.{line_of}
+use Rattle.handover.specs.Spelling.{piece_entries}
+use Rattle.desk.specs.Pages.{Outputs}
+use Rattle.hall.specs.Outlets.{said_through}
+use Rattle.hall.proofs.OrderLemmas.{none_told, tells_asked}
+use Rattle.hall.proofs.ordering.tell_asked.Goals as goal
+
+pub returns-clause-followed : goal.returns-clause-followed
+returns-clause-followed g c =
+    let line = line_of g.L.Line.held g.L.Line.taken in
+    let before : Outputs =
+    record { out = said_through line c.new-out.result; out_failed = c.new-out.result.failed; err = Some c.new-err.result.bytes.items; err_failed = c.new-err.result.failed } in
+    let after : Outputs = record { out = said_through line c.do_asked-status.new.out; out_failed = c.do_asked-status.new.out.failed; err = Some c.do_asked-status.new.err.bytes.items; err_failed = c.do_asked-status.new.err.failed } in
+    let it = tells_asked line (state g.S.Store) c.args.office.now c.do_asked-status.new.office (piece_entries c.args.brought.files.now) c.args.asked.now before after c.do_asked-status.result c.as_slice.result.now
+    c.end.result.0 c.end.result.1 (none_told before c.new-out.ensures.taken c.new-out.ensures.failed (ap Some c.new-err.ensures.bytes) c.new-err.ensures.failed)
+    (ap Some (sym (c.as_slice.ensures.value ∙ c.into_bytes.ensures))) (λ said took. c.end.ensures said took) c.do_asked-status.ensures.did c.do_asked-status.ensures.closed c.do_asked-status.ensures.clean in
+    it.0

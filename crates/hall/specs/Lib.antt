@@ -1,0 +1,8 @@
+pub mod Terms
+pub mod Handings
+pub mod Outlets
+pub mod Reads
+pub mod Visits
+pub mod Turns
+pub mod Guests
+pub mod Halls

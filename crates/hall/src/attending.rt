@@ -1,0 +1,324 @@
+//! Who goes on, a client or an order: he is heard, has his turn once what he asks has come to its end, and is told his answer.
+
+ghost use Rattle.std.specs.Prelude.{◌≡◌, ℕ, [], None, Ok, Some, false, true};
+ghost use Rattle.sqlite.specs.Held.{state};
+ghost use Rattle.gathering.specs.Lines.{Gathers, HasTaken, line_of};
+ghost use Rattle.gathering.specs.Clients.{IsOf, IsTold};
+ghost use Rattle.wire.specs.Origins.{given_by};
+ghost use Rattle.hall.specs.Handings.{HasCameWhole};
+ghost use Rattle.hall.specs.Terms.{Given, given_in};
+ghost use Rattle.hall.specs.Turns.{HasCome, HasComeAt, IsSameClient, IsToldAll, IsUntold, MayHaveTurn, answer_of};
+ghost use Rattle.office.specs.Answers.{IsOpenAt, IsReadAt, WhenOpenAt};
+ghost use Rattle.wire.specs.Asking.{Asks, reading};
+ghost use Rattle.wire.specs.declared.target.Reading.{Reading};
+ghost use Rattle.hall.specs.Reads.{IsRead, TellsNoFault, desk_at, reads_in};
+ghost use Rattle.hall.specs.Visits.{HasServed, ServesClient, ServesVisit, Visit};
+
+use crate::aside::Aside;
+use crate::message::hear_message;
+use crate::ordering::answer_order;
+use crate::reads::{Kept, asks_reading};
+use crate::terms::Terms;
+use gathering::{Answer, Client, Door, Gathered, Heard, Line, Lost, Writing, deliver};
+use office::Office;
+use sqlite::Alter;
+use std::alloc::Global;
+use wire::{Lacks, Origin, Served, lacks, serve_one};
+
+/// How many bytes of a client are heard before it is looked what they lack: as many as the head of a request may have.
+const FRONT: usize = 8192;
+
+/// The status of an answer that tells a fault, which isn't kept.
+const FAULT: u16 = 503;
+
+/// What became of who went on.
+#[derive(Clone, Copy)]
+pub enum Attended {
+    /// More is to come of him, or he has more to take.
+    Waits,
+    /// He had his turn just now, and has more to take.
+    Served,
+    /// He took his whole answer.
+    Done,
+    /// He is let go: his line broke, or memory was wanting for what he sends.
+    Lost,
+}
+
+/// Hears the body of what a client asks, for which so many bytes in all are wanted; whether it has come to its end.
+fn hear_body<L: Line>(
+    alloc: Global,
+    origin: Option<Origin<'_>>,
+    client: &mut Client<L>,
+    wanted: usize,
+) -> Result<bool, Lost>
+    requires { client.old.answer ≡ None }
+    ensures gathers { Gathers (line_of L.held L.taken) client.old.line client.new.line client.old.got.items client.new.got.items }
+    ensures same { IsSameClient client.old client.new × (client.new.answer ≡ None) }
+    ensures come { result ≡ Ok true → HasCome (given_by origin.entry) (L.held client.new.line) client.new.got.items }
+{
+    match client.hear(wanted)? {
+        Heard::Ended => Ok(true),
+        Heard::Waits => Ok(false),
+        Heard::Enough => match lacks(alloc, origin, client.got.as_slice())? {
+            Lacks::Nothing => Ok(true),
+            Lacks::Bytes(_) => Ok(false),
+        },
+    }
+}
+
+/// Hears what a client asks; whether it has come to its end.
+fn hear_out<L: Line>(
+    alloc: Global,
+    origin: Option<Origin<'_>>,
+    client: &mut Client<L>,
+) -> Result<bool, Lost>
+    requires { client.old.answer ≡ None }
+    ensures gathers { Gathers (line_of L.held L.taken) client.old.line client.new.line client.old.got.items client.new.got.items }
+    ensures same { IsSameClient client.old client.new × (client.new.answer ≡ None) }
+    ensures come { result ≡ Ok true → HasCome (given_by origin.entry) (L.held client.new.line) client.new.got.items }
+{
+    let heard = client.hear(FRONT)?;
+    match lacks(alloc, origin, client.got.as_slice())? {
+        Lacks::Nothing => Ok(true),
+        Lacks::Bytes(wanted) => match heard {
+            Heard::Ended => Ok(true),
+            Heard::Waits => Ok(false),
+            Heard::Enough => hear_body(alloc, origin, client, wanted),
+        },
+    }
+}
+
+/// Hears who has no answer yet; whether what he asks has come to its end.
+fn hear<L: Line>(
+    alloc: Global,
+    origin: Option<Origin<'_>>,
+    client: &mut Client<L>,
+) -> Result<bool, Lost>
+    requires { client.old.answer ≡ None }
+    ensures gathers { Gathers (line_of L.held L.taken) client.old.line client.new.line client.old.got.items client.new.got.items }
+    ensures same { IsSameClient client.old client.new × (client.new.answer ≡ None) }
+    ensures come { result ≡ Ok true → (given : Given) → given.origin ≡ given_by origin.entry → HasComeAt client.old.door given (L.held client.new.line) client.new.got.items }
+{
+    match client.door {
+        Door::Clients => hear_out(alloc, origin, client),
+        Door::Orders => hear_message(client),
+    }
+}
+
+/// Whether an answer was told whole, and tells no fault.
+fn tells_no_fault(served: Served) -> bool
+    ensures { result ≡ true → TellsNoFault served }
+{
+    match served {
+        Served::Answered(status) => status != FAULT,
+        Served::ReadFailed => false,
+        Served::WriteFailed => false,
+    }
+}
+
+/// Serves a client of whom these bytes were gathered, and gives his answer, of which nothing was told yet; and whether it was
+/// told whole, and without a fault. Where memory is wanting for it, it is a beginning.
+fn served<S: Alter>(
+    alloc: Global,
+    origin: Option<Origin<'_>>,
+    got: &[u8],
+    office: &mut Office<S>,
+) -> (Vec<u8>, bool)
+    ensures served { HasServed (given_by origin.entry) (state S.Store) office.old got.now result.0.items office.new }
+    ensures read { result.1 ≡ true → WhenOpenAt (state S.Store) office.old office.new
+        (λ s. (what : Reading) → Asks (given_by origin.entry) got.now (reading what) → IsRead (given_by origin.entry) s got.now result.0.items × IsOpenAt s office.new.closed (state S.Store office.new.held)) }
+    ensures asked { WhenOpenAt (state S.Store) office.old office.new (λ s. (what : Reading) → Asks (given_by origin.entry) got.now (reading what) → IsReadAt s office.new.closed (state S.Store office.new.held)) }
+{
+    let mut reader = Gathered::new(got);
+    let mut writer = Writing::new(alloc);
+    let served = serve_one(alloc, origin, &mut reader, &mut writer, office);
+    let is_told = tells_no_fault(served);
+    (writer.into_bytes(), is_told)
+}
+
+/// Whether a client asks for a read, and the office is open for it. Where memory is wanting, he doesn't.
+fn is_reading<S: Alter>(
+    alloc: Global,
+    origin: Option<Origin<'_>>,
+    got: &[u8],
+    office: &Office<S>,
+) -> bool
+    ensures open { result ≡ true → office.now.closed ≡ false }
+    ensures asks { result ≡ true → (what : Reading) × Asks (given_by origin.entry) got.now (reading what) }
+{
+    if office.is_closed() {
+        return false;
+    }
+    asks_reading(alloc, origin, got)
+}
+
+/// The answer to a client who asks for a read. What is read anew is kept for who asks the same; and where an answer to the same
+/// is kept, it is told again.
+fn read_answer<S: Alter>(
+    alloc: Global,
+    origin: Option<Origin<'_>>,
+    got: &[u8],
+    office: &mut Office<S>,
+    kept: &mut Kept,
+) -> Answer
+    requires open { office.old.closed ≡ false }
+    requires asks { (what : Reading) × Asks (given_by origin) got.now (reading what) }
+    ensures served { (number : ℕ) → ServesClient (given_by origin.entry) (state S.Store) (desk_at office.old (reads_in kept.old))
+        (record { door = Door.Clients; number = number; got = got.now; answer = result.bytes.items }) (desk_at office.new (reads_in kept.new)) }
+    ensures untold { result.sent ≡ 0 }
+{
+    if let Some(bytes) = kept.told_to(alloc, got) {
+        return Answer { bytes, sent: 0 };
+    }
+    let (bytes, is_told) = served(alloc, origin, got, office);
+    if !is_told {
+        return Answer { bytes, sent: 0 };
+    }
+    kept.keep(alloc, got, bytes.as_slice());
+    Answer { bytes, sent: 0 }
+}
+
+/// The answer to a client of whom these bytes were gathered, of which nothing was told yet. Before anything but a read nothing is
+/// kept any more.
+fn answered<S: Alter>(
+    alloc: Global,
+    origin: Option<Origin<'_>>,
+    got: &[u8],
+    office: &mut Office<S>,
+    kept: &mut Kept,
+) -> Answer
+    ensures served { (number : ℕ) → ServesClient (given_by origin.entry) (state S.Store) (desk_at office.old (reads_in kept.old))
+        (record { door = Door.Clients; number = number; got = got.now; answer = result.bytes.items }) (desk_at office.new (reads_in kept.new)) }
+    ensures untold { result.sent ≡ 0 }
+{
+    if is_reading(alloc, origin, got, office) {
+        return read_answer(alloc, origin, got, office, kept);
+    }
+    kept.empty();
+    let (bytes, _) = served(alloc, origin, got, office);
+    Answer { bytes, sent: 0 }
+}
+
+/// The answer to who came in at a door, of whom all was heard, and his line again: of a client nothing was told yet, and an order
+/// was told what its line took.
+fn answer_to<L: Line, A: Aside, S: Alter>(
+    alloc: Global,
+    terms: Terms<'_>,
+    aside: &A,
+    door: Door,
+    got: &[u8],
+    line: L,
+    office: &mut Office<S>,
+    kept: &mut Kept,
+) -> (L, Answer)
+    requires fresh { HasTaken (L.taken line) [] }
+    requires whole { door ≡ Door.Orders → HasCameWhole got.now }
+    ensures told { IsTold (line_of L.held L.taken) result.0 result.1.bytes.items result.1.sent }
+    ensures served { (number : ℕ) → ServesVisit (given_in terms.entry) (state S.Store) (desk_at office.old (reads_in kept.old))
+        (record { door = door; number = number; got = got.now; answer = result.1.bytes.items }) (desk_at office.new (reads_in kept.new)) }
+{
+    match door {
+        Door::Clients => (line, answered(alloc, terms.origin, got, office, kept)),
+        Door::Orders => {
+            kept.empty();
+            answer_order(alloc, terms.file, aside, got, line, office)
+        }
+    }
+}
+
+/// Tells a client more of his answer, if he has one.
+fn tell_more<L: Line>(client: &mut Client<L>) -> Attended
+    ensures is { (start : L) → IsOf (line_of L.held L.taken) start client.old → IsOf (line_of L.held L.taken) start client.new }
+    ensures same { IsSameClient client.old client.new }
+    ensures his { answer_of client.new ≡ answer_of client.old }
+    ensures done { result ≡ Attended.Done → IsToldAll client.new }
+{
+    let Some(answer) = &mut client.answer else {
+        return Attended::Waits;
+    };
+    match deliver(&mut client.line, answer) {
+        Ok(true) => Attended::Done,
+        Ok(false) => Attended::Waits,
+        Err(_) => Attended::Lost,
+    }
+}
+
+/// Who was heard to the end has his turn: he is served, or followed, from that alone, and told of his answer what he takes now.
+fn take_turn<L: Line, A: Aside, S: Alter>(
+    alloc: Global,
+    terms: Terms<'_>,
+    aside: &A,
+    client: Client<L>,
+    office: &mut Office<S>,
+    kept: &mut Kept,
+) -> (Client<L>, Attended)
+    requires fresh { HasTaken (L.taken client.line) [] }
+    requires whole { client.door ≡ Door.Orders → HasCameWhole client.got.items }
+    ensures is { (start : L) → IsOf (line_of L.held L.taken) start result.0 }
+    ensures same { IsSameClient client result.0 }
+    ensures turn { (visit : Visit) × (visit.door ≡ client.door) × (visit.number ≡ client.number) × (visit.got ≡ client.got.items)
+        × ServesVisit (given_in terms.entry) (state S.Store) (desk_at office.old (reads_in kept.old)) visit (desk_at office.new (reads_in kept.new)) × (answer_of result.0 ≡ Some visit.answer) }
+    ensures done { result.1 ≡ Attended.Done → IsToldAll result.0 }
+{
+    let Client {
+        door,
+        line,
+        number,
+        since,
+        got,
+        answer: _,
+    } = client;
+    let (line, answer) = answer_to(
+        alloc,
+        terms,
+        aside,
+        door,
+        got.as_slice(),
+        line,
+        office,
+        kept,
+    );
+    let mut client = Client {
+        door,
+        line,
+        number,
+        since,
+        got: Vec::new(alloc),
+        answer: Some(answer),
+    };
+    match tell_more(&mut client) {
+        Attended::Waits => (client, Attended::Served),
+        told => (client, told),
+    }
+}
+
+/// A client, or an order that is handed over, goes on, as far as his line lets him now: he is heard; once what he asks has come
+/// to its end, this is his turn, and he is served; and he is told his answer. He is given back, with what became of him.
+///
+/// What is gathered of him are his own bytes, from his first one on, and what he is told is the answer to just these. Nobody
+/// else is touched.
+pub fn attend<L: Line, A: Aside, S: Alter>(
+    alloc: Global,
+    terms: Terms<'_>,
+    aside: &A,
+    client: Client<L>,
+    office: &mut Office<S>,
+    kept: &mut Kept,
+) -> (Client<L>, Attended)
+    requires untold { IsUntold (line_of L.held L.taken) client }
+    ensures is { (start : L) → IsOf (line_of L.held L.taken) start client → IsOf (line_of L.held L.taken) start result.0 }
+    ensures same { IsSameClient client result.0 }
+    ensures turn { MayHaveTurn (given_in terms.entry) (line_of L.held L.taken) (state S.Store) client result.0 (desk_at office.old (reads_in kept.old)) (desk_at office.new (reads_in kept.new)) }
+    ensures done { result.1 ≡ Attended.Done → IsToldAll result.0 }
+{
+    let mut client = client;
+    if client.answer.is_some() {
+        let told = tell_more(&mut client);
+        return (client, told);
+    }
+    match hear(alloc, terms.origin, &mut client) {
+        Ok(true) => take_turn(alloc, terms, aside, client, office, kept),
+        Ok(false) => (client, Attended::Waits),
+        Err(_) => (client, Attended::Lost),
+    }
+}

@@ -1,0 +1,60 @@
+//! The message of an order that is handed over: it is heard to its end.
+
+ghost use Rattle.std.specs.Prelude.{◌≡◌, ◌+◌, None, IfOk, IfSome, Ok, length, take, true};
+ghost use Rattle.std.specs.Int.{from_be_bytes, w64};
+ghost use Rattle.gathering.specs.Lines.{Gathers, line_of};
+ghost use Rattle.hall.specs.Handings.{HasCameWhole};
+ghost use Rattle.hall.specs.Turns.{IsSameClient};
+
+use gathering::{Client, Heard, Line, Lost};
+
+/// How many bytes the length of a message takes, which stands in front of it.
+pub const LENGTH: usize = 8;
+
+/// The longest message. Whoever has more to hand over ends `serve` first.
+const MAX_MESSAGE: u64 = 32 << 20;
+
+/// How many bytes a message has in all, by those that came of it; none, where it is too long.
+fn message_len(front: [u8; LENGTH]) -> Option<usize>
+    ensures { IfSome result (λ n. n ≡ 8 + from_be_bytes w64 front) }
+{
+    let len = u64::from_be_bytes(front);
+    if len > MAX_MESSAGE {
+        return None;
+    }
+    Some(LENGTH + len as usize)
+}
+
+/// Hears the length of a message; none, as long as it isn't there. Who ends before it is let go.
+fn hear_length<L: Line>(client: &mut Client<L>) -> Result<Option<[u8; LENGTH]>, Lost>
+    requires { client.old.answer ≡ None }
+    ensures gathers { Gathers (line_of L.held L.taken) client.old.line client.new.line client.old.got.items client.new.got.items }
+    ensures same { IsSameClient client.old client.new × (client.new.answer ≡ None) }
+    ensures front { IfOk result (λ found. IfSome found (λ front. front ≡ take 8 client.new.got.items)) }
+{
+    match client.hear(LENGTH)? {
+        Heard::Enough => Ok(client.got.as_slice().first_chunk().copied()),
+        Heard::Waits => Ok(None),
+        Heard::Ended => Err(Lost::Line),
+    }
+}
+
+/// Hears the message of an order; whether it has come to its end. One that ends too early, or is too long, is let go.
+pub fn hear_message<L: Line>(client: &mut Client<L>) -> Result<bool, Lost>
+    requires { client.old.answer ≡ None }
+    ensures gathers { Gathers (line_of L.held L.taken) client.old.line client.new.line client.old.got.items client.new.got.items }
+    ensures same { IsSameClient client.old client.new × (client.new.answer ≡ None) }
+    ensures come { result ≡ Ok true → HasCameWhole client.new.got.items }
+{
+    let Some(front) = hear_length(client)? else {
+        return Ok(false);
+    };
+    let Some(wanted) = message_len(front) else {
+        return Err(Lost::Line);
+    };
+    match client.hear(wanted)? {
+        Heard::Enough => Ok(true),
+        Heard::Waits => Ok(false),
+        Heard::Ended => Err(Lost::Line),
+    }
+}

@@ -1,0 +1,123 @@
+//! Answers to reads that are kept, to be told again while nothing changes.
+//!
+//! Whoever asks the same, byte for byte, is told the same. Before any turn that isn't a read, nothing is kept any more.
+
+ghost use Rattle.std.specs.Prelude.{◌≡◌, ◌⊎◌, ◌≤◌, ◌<◌, ◌++◌, ◌∷◌, [], IfSome, List, Option, ℕ, length, true};
+ghost use Rattle.std.specs.List.{Contains};
+ghost use Rattle.wire.specs.Asking.{Asks, reading};
+ghost use Rattle.wire.specs.Origins.{given_by};
+ghost use Rattle.wire.specs.declared.target.Reading.{Reading};
+ghost use Rattle.hall.specs.Reads.{ReadEntry, reads_in};
+
+use gathering::Gathered;
+use std::alloc::Global;
+use wire::{Asked, Origin, read_asked};
+
+/// The most bytes that are kept, of requests and answers together.
+const MAX_KEPT: usize = 16 << 20;
+
+/// The most answers that are kept.
+const MAX_ANSWERS: usize = 512;
+
+/// How a request for a read begins. What begins otherwise isn't read twice.
+const GET: &[u8] = b"GET ";
+
+/// A request, and what was told to it.
+#[derive(Drop)]
+pub struct KeptAnswer {
+    pub got: Vec<u8>,
+    pub answer: Vec<u8>,
+}
+
+/// The answers to reads that were told since anything may have changed, the oldest first.
+#[derive(Drop)]
+pub struct Kept {
+    pub answers: Vec<KeptAnswer>,
+    pub bytes: usize,
+}
+
+/// Whether bytes ask for a read: a clerk's work, a stage sheet or a declaration. Where memory is wanting, they don't.
+pub fn asks_reading(alloc: Global, origin: Option<Origin<'_>>, got: &[u8]) -> bool
+    ensures { result ≡ true → (what : Reading) × Asks (given_by origin.entry) got.now (reading what) }
+{
+    if !got.starts_with(GET) {
+        return false;
+    }
+    let mut reader = Gathered::new(got);
+    matches!(
+        read_asked(alloc, origin, &mut reader),
+        Ok(Asked::Reading(_))
+    )
+}
+
+impl Kept {
+    /// Nothing is kept yet. Takes no memory.
+    pub fn new(alloc: Global) -> Kept
+        ensures { reads_in result ≡ [] }
+    {
+        Kept {
+            answers: Vec::new(alloc),
+            bytes: 0,
+        }
+    }
+
+    /// Nothing is kept any more.
+    pub fn empty(&mut self)
+        ensures { reads_in self.new ≡ [] }
+    {
+        self.answers.clear();
+        self.bytes = 0;
+    }
+
+    /// The answer that was told to these bytes, if one is kept, and memory isn't wanting for it.
+    pub fn told_to(&self, alloc: Global, got: &[u8]) -> Option<Vec<u8>>
+        ensures { IfSome result (λ answer. (entry : ReadEntry) × Contains (reads_in self.now) entry × (entry.got ≡ got.now) × (entry.answer ≡ answer.items)) }
+    {
+        for kept in &self.answers {
+            if kept.got.as_slice() == got {
+                return match Vec::from_slice(alloc, kept.answer.as_slice()) {
+                    Ok(answer) => Some(answer),
+                    Err(_) => None,
+                };
+            }
+        }
+        None
+    }
+
+    /// Lets the oldest go, until so many bytes more may be kept.
+    fn make_room(&mut self, more: usize)
+        ensures { (gone : List ReadEntry) × (reads_in self.old ≡ gone ++ reads_in self.new) }
+    {
+        for _ in 0..MAX_ANSWERS {
+            let is_full = self.answers.len() >= MAX_ANSWERS;
+            if !is_full && self.bytes.saturating_add(more) <= MAX_KEPT {
+                return;
+            }
+            if self.answers.is_empty() {
+                return;
+            }
+            let oldest = self.answers.remove(0);
+            let len = oldest.got.len().saturating_add(oldest.answer.len());
+            self.bytes = self.bytes.saturating_sub(len);
+        }
+    }
+
+    /// Keeps an answer, if there is room for it: the oldest are let go. Where memory is wanting, it isn't kept.
+    pub fn keep(&mut self, alloc: Global, got: &[u8], answer: &[u8])
+        ensures { (gone kept : List ReadEntry) × (reads_in self.old ≡ gone ++ kept)
+            × ((reads_in self.new ≡ kept) ⊎ (reads_in self.new ≡ kept ++ record { got = got.now; answer = answer.now } ∷ [])) }
+    {
+        let len = got.len().saturating_add(answer.len());
+        if len > MAX_KEPT {
+            return;
+        }
+        self.make_room(len);
+        let (Ok(got), Ok(answer)) = (Vec::from_slice(alloc, got), Vec::from_slice(alloc, answer))
+        else {
+            return;
+        };
+        if self.answers.push(KeptAnswer { got, answer }).is_ok() {
+            self.bytes = self.bytes.saturating_add(len);
+        }
+    }
+}

@@ -1,0 +1,6 @@
+-- The lemmas, by subject.
+pub mod Fields
+pub mod Pieces
+pub mod Loop
+pub mod Written
+pub mod FrameLemmas

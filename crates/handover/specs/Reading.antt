@@ -1,0 +1,69 @@
+-- Reading from left to right, with the first fault that is met.
+use Rattle.std.specs.Prelude.{◌≡◌, ℕ, zero, suc, List, [], ◌∷◌, length, take, drop, Option, Some, None, Result, Ok, Err, nat_lt, ◌==◌, if◌then◌else◌}
+use Rattle.std.specs.Int.{Width, w32, w64, byte_len, from_be_bytes}
+use Rattle.handover.specs.declared.fault.Fault.{Fault}
+use Rattle.handover.specs.declared.fault.Fault.TheVariants.{Short, Flag, Trailing}
+use Rattle.handover.specs.declared.fault.ReadError.{ReadError}
+use Rattle.handover.specs.declared.fault.ReadError.TheVariants as errors
+use Rattle.handover.specs.Spelling.{HandedEntry, PieceEntry}
+
+infixl 10 ◌>>=◌
+abbrev pub ◌>>=◌ : {A B : Type 0} → Result A Fault → (A → Result B Fault) → Result B Fault
+(Ok x) >>= f = f x
+(Err e) >>= f = Err e
+
+-- What a function returned, seen by view, is what reading gives, unless memory ran out.
+abbrev pub Fails : {Y : Type 0} → ReadError → Result Y Fault → Type 0
+Fails errors.Memory read = Unit {0}
+Fails (errors.Fault f) read = read ≡ Err f
+
+abbrev pub Gives : {X Y : Type 0} → (X → Y) → Result X ReadError → Result Y Fault → Type 0
+Gives view (Ok x) read = read ≡ Ok (view x)
+Gives view (Err e) read = Fails e read
+
+-- A field is a value and the bytes after it.
+abbrev pub number_at : Width → List ℕ → Result (ℕ × List ℕ) Fault
+number_at w bytes = if nat_lt (length bytes) (byte_len w) then Err Short else Ok (from_be_bytes w (take (byte_len w) bytes), drop (byte_len w) bytes)
+
+unfoldable pub string_at : List ℕ → Result (List ℕ × List ℕ) Fault
+string_at bytes = do
+  n ← number_at w32 bytes
+  if nat_lt (length n.1) n.0 then Err Short else Ok (take n.0 n.1, drop n.0 n.1)
+
+unfoldable pub optional_at : List ℕ → Result (Option (List ℕ) × List ℕ) Fault
+optional_at [] = Err Short
+optional_at (zero ∷ rest) = Ok (None, rest)
+optional_at (suc zero ∷ rest) = do
+  text ← string_at rest
+  Ok (Some text.0, text.1)
+optional_at (suc (suc b) ∷ rest) = Err Flag
+
+unfoldable pub piece_at : List ℕ → Result (PieceEntry × List ℕ) Fault
+piece_at bytes = do
+  name ← string_at bytes
+  own ← optional_at name.1
+  Ok (record { name = name.0; bytes = own.0 }, own.1)
+
+unfoldable pub pieces_at : ℕ → List ℕ → Result (List PieceEntry × List ℕ) Fault
+pieces_at zero bytes = Ok ([], bytes)
+pieces_at (suc n) bytes = do
+  first ← piece_at bytes
+  others ← pieces_at n first.1
+  Ok (first.0 ∷ others.0, others.1)
+
+-- how many, and each of them
+unfoldable pub list_at : List ℕ → Result (List PieceEntry × List ℕ) Fault
+list_at bytes = do
+  n ← number_at w32 bytes
+  pieces_at n.0 n.1
+
+-- all of the bytes
+unfoldable pub handed_in : List ℕ → Result HandedEntry Fault
+handed_in bytes = do
+  version ← string_at bytes
+  device ← number_at w64 version.1
+  inode ← number_at w64 device.1
+  folder ← string_at inode.1
+  words ← list_at folder.1
+  files ← list_at words.1
+  if length files.1 == 0 then Ok (record { version = version.0; device = device.0; inode = inode.0; folder = folder.0; words = words.0; files = files.0 }) else Err Trailing

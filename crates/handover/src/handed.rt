@@ -1,0 +1,20 @@
+//! What an order has that is handed over.
+
+/// A word, without bytes; or a file by its path, with its bytes, or without where it couldn't be read.
+#[derive(Clone, Copy)]
+pub struct Piece<'b> {
+    pub name: &'b [u8],
+    pub bytes: Option<&'b [u8]>,
+}
+
+/// An order that is handed over: by which version of the program, over which file, by the numbers of its device and its
+/// own; what was typed, in which folder; and the files that it names.
+#[derive(Drop)]
+pub struct Handed<'b> {
+    pub version: &'b [u8],
+    pub device: u64,
+    pub inode: u64,
+    pub folder: &'b [u8],
+    pub words: Vec<Piece<'b>>,
+    pub files: Vec<Piece<'b>>,
+}

@@ -1,0 +1,89 @@
+//! Growths that are refused, by `rt try --test --fail-alloc 1..` and tools/refused-in-tests: each call that fails is made once more.
+
+ghost use Rattle.std.specs.Prelude.{◌≡◌, []};
+
+use super::begun::{Counting, by_parcels, on_bundles};
+use super::worked::{Worked, elections};
+use super::{add, papers_of};
+use count::{AdvanceError, Bundles, CountBook, Due};
+use paper::Prefs;
+use std::alloc::Global;
+use std::process::Abort;
+use std::test::Fail;
+
+/// Adds the stage that is due.
+fn advance<B: CountBook>(book: &mut B) -> Result<(), AdvanceError> {
+    book.advance(None)
+}
+
+/// Whether a book has so many stages, and this is due.
+fn stands_at<B: CountBook>(book: &B, stages: usize, due: &Due) -> bool {
+    book.stages().len() == stages && book.due() == *due
+}
+
+/// Adds a stage, and once more where a growth was refused, which has to leave the book as it was.
+fn advance_again<B: CountBook>(rt: &impl Abort, book: &mut B, stages: usize) {
+    let due = book.due();
+    if advance(book) == Err(AdvanceError::Memory) {
+        assert!(rt; stands_at(book, stages, &due) && advance(book).is_ok());
+    }
+    assert!(rt;
+        book.stages().len() == stages.saturating_add(1),
+        "after {stages}"
+    );
+}
+
+/// Adds a paper, and once more where a growth was refused, which has to leave the bundles as they were.
+fn add_again(rt: &impl Abort, bundles: &mut Bundles, paper: Prefs) {
+    let (papers, len) = (bundles.papers(), bundles.len());
+    if add(bundles, paper).is_err() {
+        assert!(rt; bundles.papers() == papers && bundles.len() == len);
+        assert!(rt; add(bundles, paper).is_ok());
+    }
+}
+
+/// Adds each of so many stages, which are all of the count.
+#[derive(Drop)]
+struct AdvancesAgain {
+    stages: usize,
+}
+
+impl Counting for AdvancesAgain {
+    fn count<B: CountBook>(&self, rt: &impl Abort, book: &mut B) -> Result<(), Fail> {
+        for stages in 0..self.stages {
+            advance_again(rt, book, stages);
+        }
+        assert!(rt; book.due() == Due::Finished);
+        Ok(())
+    }
+}
+
+/// The election with a surplus of papers at two values.
+fn with_surpluses() -> Result<&'static Worked, &'static str> {
+    elections().get(1).ok_or("no such election")
+}
+
+#[test]
+fn a_refused_growth_leaves_the_book(rt: HostRuntime) -> Result<(), Fail> {
+    let worked = with_surpluses()?;
+    let stages = worked.stages.len();
+    by_parcels(&rt, rt.alloc(), worked, &AdvancesAgain { stages })
+}
+
+/// The papers of the election as bundles, each added once more where a growth was refused.
+fn bundled_again(rt: &impl Abort, alloc: Global, worked: &Worked) -> Result<Bundles, Fail> {
+    let papers = papers_of(alloc, worked.papers)?;
+    let mut bundles = Bundles::new(alloc);
+    for paper in &papers {
+        add_again(rt, &mut bundles, *paper);
+    }
+    Ok(bundles)
+}
+
+#[test]
+fn a_refused_growth_leaves_the_bundles(rt: HostRuntime) -> Result<(), Fail> {
+    let worked = with_surpluses()?;
+    let stages = worked.stages.len();
+    let bundles = bundled_again(&rt, rt.alloc(), worked)?;
+    on_bundles(&rt, rt.alloc(), worked, &bundles, &AdvancesAgain { stages })
+}

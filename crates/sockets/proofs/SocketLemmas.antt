@@ -1,0 +1,54 @@
+-- What a line gives and takes that tells none of its bytes.
+use Rattle.std.proofs.Common.{◌≡◌, ◌⊎◌, inl, inr, ◌<◌, ◌≤◌, ℕ, Bool, List, None, Ok, Err, Result, length, refl, subst, sym, true, arith}
+use Rattle.std.specs.Prelude.{IfOk}
+use Rattle.votes.specs.declared.streams.Broken.{Broken}
+use Rattle.gathering.specs.declared.line.Came.{Came}
+use Rattle.gathering.specs.declared.line.Came.TheVariants.{Bytes, Nothing, End}
+use Rattle.gathering.specs.declared.doors.Admitted.{Admitted}
+use Rattle.gathering.specs.declared.doors.Admitted.TheVariants.{One, Nobody, NotNow}
+use Rattle.gathering.specs.Lines.{Gives, Takes}
+use Rattle.gathering.specs.Rooms.{IsFresh, IsWanted, LetsIn, MayCome}
+use Rattle.gathering.specs.declared.client.Comer.{Comer}
+use Rattle.gathering.specs.declared.client.Door.{Door}
+use Rattle.gathering.specs.declared.client.Door.TheVariants.{Clients, Orders}
+use Rattle.sockets.specs.Watches.{IsAtDoor}
+
+-- what was read is within the room
+pub gives_untold : {E : Type 0} (read : Result ℕ E) (room : List ℕ) (r : Result Came Broken) → IfOk read (λ n. n ≤ length room) → ((n : ℕ) → r ≡ Ok (Bytes n) → (0 < n) × (read ≡ Ok n))
+    → Gives None None room r
+gives_untold read room (Ok (Bytes n)) within told =
+    let it = told n refl in
+    (it.0, subst (λ x. IfOk x (λ m. m ≤ length room)) it.1 within, tt)
+gives_untold read room (Ok Nothing) within told = tt
+gives_untold read room (Ok End) within told = (tt, tt)
+gives_untold read room (Err broken) within told = tt
+
+-- what was written is within the bytes
+pub takes_untold : {E : Type 0} (written : Result ℕ E) (bytes : List ℕ) (r : Result ℕ Broken) → IfOk written (λ n. n ≤ length bytes) → IfOk r (λ n. (n ≡ 0) ⊎ (written ≡ Ok n)) → Takes None None bytes r
+takes_untold written bytes (Ok n) within (inl none) = (omega (arith, none), refl)
+takes_untold written bytes (Ok n) within (inr is) = (subst (λ x. IfOk x (λ m. m ≤ length bytes)) is within, refl)
+takes_untold written bytes (Err broken) within told = refl
+
+-- whoever comes in over a line that tells nothing was told nothing
+pub fresh_untold : {L : Type 0} (a : Admitted L) → IsFresh (λ (l : L). None) a
+fresh_untold (One comer) = tt
+fresh_untold Nobody = tt
+fresh_untold NotNow = tt
+
+-- orders may always come
+pub order_wanted : {L : Type 0} (clients_too : Bool) (a : Admitted L) → IsAtDoor Orders a → IsWanted clients_too a
+order_wanted clients_too (One comer) at = subst (MayCome clients_too) (sym at) tt
+order_wanted clients_too Nobody at = tt
+order_wanted clients_too NotNow at = tt
+
+-- and clients, where they are wanted
+pub client_wanted : {L : Type 0} (clients_too : Bool) (a : Admitted L) → IsAtDoor Clients a → clients_too ≡ true → IsWanted clients_too a
+client_wanted clients_too (One comer) at wanted = subst (MayCome clients_too) (sym at) wanted
+client_wanted clients_too Nobody at wanted = tt
+client_wanted clients_too NotNow at wanted = tt
+
+-- where nothing is told of those who came in, it goes on so
+pub lets_in_untold : {L : Type 0} (a : Admitted L) → LetsIn None None a
+lets_in_untold (One comer) = refl
+lets_in_untold Nobody = refl
+lets_in_untold NotNow = refl

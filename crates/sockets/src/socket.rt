@@ -1,0 +1,59 @@
+//! A socket as a line, of which no call waits.
+
+ghost use Rattle.std.specs.Prelude.{◌≡◌, ◌⊎◌, ◌<◌, ℕ, None, Ok, IfOk};
+
+use gathering::{Came, Line};
+use mio::net::{TcpStream, UnixStream};
+use std::io;
+use std::io::{ErrorKind, Read, Write};
+use votes::Broken;
+
+/// A client's socket, or that of an order.
+#[derive(Drop)]
+pub enum Socket {
+    Client(TcpStream),
+    Order(UnixStream),
+}
+
+/// What a read came to.
+fn came(read: io::Result<usize>) -> Result<Came, Broken>
+    ensures { (n : ℕ) → result ≡ Ok (Came.Bytes n) → (0 < n) × (read ≡ Ok n) }
+{
+    match read {
+        Ok(0) => Ok(Came::End),
+        Ok(count) => Ok(Came::Bytes(count)),
+        Err(error) if error.kind() == ErrorKind::WouldBlock => Ok(Came::Nothing),
+        Err(_) => Err(Broken),
+    }
+}
+
+/// What a write came to.
+fn took(written: io::Result<usize>) -> Result<usize, Broken>
+    ensures { IfOk result (λ n. (n ≡ 0) ⊎ (written ≡ Ok n)) }
+{
+    match written {
+        Ok(count) => Ok(count),
+        Err(error) if error.kind() == ErrorKind::WouldBlock => Ok(0),
+        Err(_) => Err(Broken),
+    }
+}
+
+impl Line for Socket {
+    ghost held = { λ _. None };
+
+    ghost taken = { λ _. None };
+
+    fn fetch(&mut self, room: &mut [u8]) -> Result<Came, Broken> {
+        match self {
+            Socket::Client(stream) => came(stream.read(room)),
+            Socket::Order(stream) => came(stream.read(room)),
+        }
+    }
+
+    fn put(&mut self, bytes: &[u8]) -> Result<usize, Broken> {
+        match self {
+            Socket::Client(stream) => took(stream.write(bytes)),
+            Socket::Order(stream) => took(stream.write(bytes)),
+        }
+    }
+}

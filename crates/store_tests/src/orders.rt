@@ -1,0 +1,325 @@
+//! Orders that are handed over to an office while it serves clients. They come whole or byte by byte, their lines break, they
+//! are for another file or from another program, or they are no orders at all.
+
+use super::begun::{BEGUN, KEYED, KEYING};
+use super::clients::{Client, Evening};
+use super::disks::Disks;
+use super::machine::{Machine, hear, hear_unchanged, play_acts};
+use super::steps::{Case, Step, TERMS};
+use desk::version::VERSION;
+use std::alloc::Global;
+use std::process::Abort;
+use std::test::Fail;
+
+/// The papers of a keying, as a file.
+const PAPERS: &[u8] = b"paper,1,2,3\n1,1,2,\n2,,,1\n";
+
+/// Orders that are handed over.
+const STATUS: &[&str] = &["DB", "status", "7"];
+
+const IMPORT: &[&str] = &["DB", "import-keying", "9", "12", "1", "FILE", "--id", "k1"];
+
+const SCRIPT: &[&str] = &["DB", "replay", "SCRIPT"];
+
+/// A script whose first line names a file, and whose last is refused.
+const LINES: &[u8] =
+    b"import-keying 9 12 1 FILE --id k1\ncandidate 7 4 Dee --id d1\nseal 7 --id s1\n";
+
+const INIT: &[&str] = &["DB", "init"];
+
+const MIGRATE: &[&str] = &["DB", "migrate"];
+
+const SERVE: &[&str] = &["DB", "serve", "8080", "0"];
+
+const COPY: &[&str] = &["DB", "copy", "NEW"];
+
+const JUDGE: &[&str] = &["DB", "judge", "12", "1", "maybe", "--id", "j1"];
+
+const ELSEWHERE: &[&str] = &["DB", "status", "8"];
+
+/// The files that go with them.
+const KEYED_FILE: &[(&str, &[u8])] = &[("FILE", PAPERS)];
+
+const SCRIPTED: &[(&str, &[u8])] = &[("SCRIPT", LINES), ("FILE", PAPERS)];
+
+/// What is told of them.
+const IMPORTED: &[&str] = &["batch 12 round 1 keyed", "\n"];
+
+/// An order, the file for which it is given, and the program that gives it.
+#[derive(Clone, Copy)]
+struct Given<'a> {
+    version: &'a str,
+    inode: u64,
+    words: &'a [&'a str],
+    files: &'a [(&'a str, &'a [u8])],
+}
+
+impl<'a> Given<'a> {
+    /// An order as this program gives it, for the file that is served.
+    fn of(words: &'a [&'a str]) -> Given<'a> {
+        Given {
+            version: VERSION,
+            inode: TERMS.file.inode,
+            words,
+            files: &[],
+        }
+    }
+
+    /// Its message, spelled here byte by byte.
+    fn message(&self, alloc: Global) -> Result<Vec<u8>, Fail> {
+        let mut spelling = Vec::new(alloc);
+        put_string(&mut spelling, self.version.as_bytes())?;
+        spelling.extend_from_slice(&TERMS.file.device.to_be_bytes())?;
+        spelling.extend_from_slice(&self.inode.to_be_bytes())?;
+        put_string(&mut spelling, b"/tmp")?;
+        put_count(&mut spelling, self.words.len())?;
+        for word in self.words {
+            put_string(&mut spelling, word.as_bytes())?;
+            spelling.push(0)?;
+        }
+        put_count(&mut spelling, self.files.len())?;
+        for (path, bytes) in self.files {
+            put_string(&mut spelling, path.as_bytes())?;
+            spelling.push(1)?;
+            put_string(&mut spelling, bytes)?;
+        }
+        let mut message = Vec::from_slice(alloc, &(spelling.len() as u64).to_be_bytes())?;
+        message.extend_from_slice(&spelling)?;
+        Ok(message)
+    }
+}
+
+/// Puts a number as four bytes.
+fn put_count(out: &mut Vec<u8>, count: usize) -> Result<(), Fail> {
+    let Ok(count) = u32::try_from(count) else {
+        return Err(Fail::from("no count of four bytes"));
+    };
+    Ok(out.extend_from_slice(&count.to_be_bytes())?)
+}
+
+/// Puts how many bytes there are, and the bytes.
+fn put_string(out: &mut Vec<u8>, bytes: &[u8]) -> Result<(), Fail> {
+    put_count(out, bytes.len())?;
+    Ok(out.extend_from_slice(bytes)?)
+}
+
+/// What an order is told in frames, spelled here byte by byte: each of these, and at the end its status with what goes to the
+/// error output.
+fn frames(alloc: Global, told: &[&str], status: u8, err: &str) -> Result<String, Fail> {
+    let mut bytes = Vec::new(alloc);
+    for text in told {
+        bytes.push(1)?;
+        put_string(&mut bytes, text.as_bytes())?;
+    }
+    bytes.push(2)?;
+    put_count(&mut bytes, err.len().saturating_add(1))?;
+    bytes.push(status)?;
+    bytes.extend_from_slice(err.as_bytes())?;
+    Ok(String::from_utf8(bytes)?)
+}
+
+/// A step in which orders come at once, and are told this.
+fn told_of<'a>(orders: &'a [Option<Client<'a>>], told: &'a str) -> Case<'a> {
+    let evening = Evening {
+        connections: Some(0),
+        ..Evening::of(orders)
+    };
+    (Step::Serve(evening), (0, told, "Ok(())"))
+}
+
+/// Orders come at once, and are told this.
+fn are_told<'a, M: Machine + Drop>(
+    rt: &(impl Abort + AllocGlobal),
+    machine: M,
+    orders: &'a [Option<Client<'a>>],
+    told: &'a str,
+) -> Result<M, Fail> {
+    hear(rt, machine, &[told_of(orders, told)])
+}
+
+/// The same, and they change nothing.
+fn are_told_unchanged<'a, M: Machine + Drop>(
+    rt: &(impl Abort + AllocGlobal),
+    machine: M,
+    orders: &'a [Option<Client<'a>>],
+    told: &'a str,
+) -> Result<M, Fail> {
+    hear_unchanged(rt, machine, &[told_of(orders, told)])
+}
+
+/// Orders that aren't followed, each with its status and why: of another program, for another file, which no office does while it
+/// is served, and those that aren't understood. They change nothing.
+fn are_refused<M: Machine + Drop>(rt: &(impl Abort + AllocGlobal), machine: M) -> Result<M, Fail> {
+    let alloc = rt.alloc();
+    let older = Given {
+        version: "1.2.0-older",
+        ..Given::of(STATUS)
+    };
+    let elsewhere = Given {
+        inode: TERMS.file.inode + 1,
+        ..Given::of(STATUS)
+    };
+    let mut messages = Vec::new(alloc);
+    let mut told = String::new(alloc);
+    for (given, status, err) in [
+        (older, 3, "fault 102: store\n"),
+        (elsewhere, 3, "fault 102: store\n"),
+        (Given::of(INIT), 3, "fault 111: office is being served\n"),
+        (Given::of(MIGRATE), 3, "fault 111: office is being served\n"),
+        (Given::of(SERVE), 3, "fault 111: office is being served\n"),
+        (Given::of(COPY), 3, "fault 110: copy not written\n"),
+        (Given::of(JUDGE), 2, "bad verdict word\n"),
+        (Given::of(ELSEWHERE), 1, "refused 5: no such ward\n"),
+        (
+            Given::of(SCRIPT),
+            3,
+            "file fault 8 at record 0: read failed\n",
+        ),
+    ] {
+        if !messages.is_empty() {
+            told.push('\n')?;
+        }
+        told.push_str(frames(alloc, &[], status, err)?.as_str())?;
+        messages.push(given.message(alloc)?)?;
+    }
+    let orders: Vec<Option<Client<'_>>> = messages
+        .iter()
+        .map(|message| Some(Client::order(message)))
+        .collect(alloc)?;
+    are_told_unchanged(rt, machine, &orders, told.as_str())
+}
+
+/// Messages that are no orders: one that is too long and one that ends too early are let go, and one that spells nothing is
+/// told what a file is told that another program holds.
+fn are_none<M: Machine + Drop>(rt: &(impl Abort + AllocGlobal), machine: M) -> Result<M, Fail> {
+    let mut told = frames(rt.alloc(), &[], 3, "fault 102: store\n")?;
+    told.push_str("\n\n")?;
+    let early = Client {
+        ends: true,
+        ..Client::order(b"\0\0\0\0\0\0\0\x04abc")
+    };
+    let orders = [
+        Some(Client::order(b"\0\0\0\0\0\0\0\x03abc")),
+        Some(Client::order(b"\0\0\0\0\x7f\0\0\0abc")),
+        Some(early),
+    ];
+    are_told_unchanged(rt, machine, &orders, told.as_str())
+}
+
+/// An order, a client's keying, and an order that comes a few bytes at a time.
+fn around_a_keying<'a>(
+    before: &'a [u8],
+    keying: &'a [u8],
+    behind: &'a [u8],
+) -> [Option<Client<'a>>; 3] {
+    let slow = Client {
+        at_once: 3,
+        sips: 3,
+        ..Client::order(behind)
+    };
+    [
+        Some(Client::order(before)),
+        Some(Client::whole(keying)),
+        Some(slow),
+    ]
+}
+
+/// One client comes, and orders beside him, and they are told this.
+fn with_one_client<'a, M: Machine + Drop>(
+    rt: &(impl Abort + AllocGlobal),
+    machine: M,
+    comers: &'a [Option<Client<'a>>],
+    told: &'a str,
+) -> Result<M, Fail> {
+    let evening = Evening {
+        connections: Some(1),
+        ..Evening::of(comers)
+    };
+    let step = Step::Serve(evening);
+    hear(rt, machine, &[(step, (0, told, "Ok(())"))])
+}
+
+/// Orders have their turns among clients: one before a keying and one behind it tell how the ward stood. They come a few bytes
+/// at a time, and don't count.
+fn come_among_clients<M: Machine + Drop>(
+    rt: &(impl Abort + AllocGlobal),
+    machine: M,
+) -> Result<M, Fail> {
+    let alloc = rt.alloc();
+    let status = Given::of(STATUS).message(alloc)?;
+    let import = Given {
+        files: KEYED_FILE,
+        ..Given::of(IMPORT)
+    };
+    let import = import.message(alloc)?;
+    let before =
+        "ward 7 keying: 3 candidates, 1 batches, 0 taken, 0 differing, 0 doubtful open, 0 stages";
+    let told = frames(alloc, &[before, "\n"], 0, "")?;
+    let keyed = frames(alloc, IMPORTED, 0, "")?;
+    let comers = around_a_keying(status.as_slice(), KEYING.as_bytes(), import.as_slice());
+    let mut out = told;
+    out.push('\n')?;
+    out.push_str(KEYED)?;
+    out.push('\n')?;
+    out.push_str(keyed.as_str())?;
+    with_one_client(rt, machine, &comers, out.as_str())
+}
+
+/// A script has one turn. Its refusal is told behind the number of its line, and what was done before stands.
+fn follow_scripts<M: Machine + Drop>(
+    rt: &(impl Abort + AllocGlobal),
+    machine: M,
+) -> Result<M, Fail> {
+    let given = Given {
+        files: SCRIPTED,
+        ..Given::of(SCRIPT)
+    };
+    let message = given.message(rt.alloc())?;
+    let told = frames(rt.alloc(), IMPORTED, 1, "line 2: refused 9: wrong phase\n")?;
+    let orders = [Some(Client::order(message.as_slice()))];
+    are_told(rt, machine, &orders, told.as_str())
+}
+
+/// The lines of orders break at each byte that they take. The keying is kept from the first of them on, and told again.
+fn break_at_each_byte<M: Machine + Drop>(
+    rt: &(impl Abort + AllocGlobal),
+    machine: M,
+) -> Result<M, Fail> {
+    let alloc = rt.alloc();
+    let given = Given {
+        files: KEYED_FILE,
+        ..Given::of(IMPORT)
+    };
+    let message = given.message(alloc)?;
+    let whole = frames(alloc, IMPORTED, 0, "")?;
+    let mut orders = Vec::new(alloc);
+    let mut told = String::new(alloc);
+    for takes in 0..whole.len() {
+        orders.push(Some(Client {
+            takes,
+            ..Client::order(message.as_slice())
+        }))?;
+        told.push_str(whole.get(..takes).unwrap_or(""))?;
+        told.push('\n')?;
+    }
+    orders.push(Some(Client::order(message.as_slice())))?;
+    told.push_str(whole.as_str())?;
+    are_told(rt, machine, &orders, told.as_str())
+}
+
+fn are_handed_over<M: Machine + Drop>(rt: &(impl Abort + AllocGlobal)) -> Result<(), Fail> {
+    let machine: M = play_acts(rt, BEGUN)?;
+    let machine = are_refused(rt, machine)?;
+    let machine = are_none(rt, machine)?;
+    come_among_clients(rt, machine)?;
+    let machine: M = play_acts(rt, BEGUN)?;
+    follow_scripts(rt, machine)?;
+    let machine: M = play_acts(rt, BEGUN)?;
+    break_at_each_byte(rt, machine)?;
+    Ok(())
+}
+
+#[test]
+fn orders_are_handed_over(rt: HostRuntime) -> Result<(), Fail> {
+    are_handed_over::<Disks>(&rt)
+}

@@ -1,0 +1,54 @@
+//! Connections over loopback, in one process with their clients.
+
+use super::begun::{BAD_REQUEST, BEGUN, KEYED, KEYING};
+use super::clients::Port;
+use super::disks::Disks;
+use super::machine::{Machine, hear, play_acts};
+use super::steps::Step;
+use mio::net::TcpListener;
+use sockets::Watch;
+use std::cell::RefCell;
+use std::io::{Read, Write};
+use std::net::{Ipv4Addr, SocketAddr, TcpStream};
+use std::process::Abort;
+use std::test::Fail;
+
+/// A client that has sent this, and stays.
+fn connected(rt: &HostRuntime, office: SocketAddr, sends: &str) -> Result<TcpStream, Fail> {
+    let mut stream = TcpStream::connect(rt, office)?;
+    stream.write_all(sends.as_bytes())?;
+    Ok(stream)
+}
+
+/// What a client is sent.
+fn received(rt: &HostRuntime, mut stream: TcpStream) -> Result<String, Fail> {
+    let mut text = Vec::new(rt.alloc());
+    stream.read_to_end(&mut text)?;
+    Ok(String::from_utf8(text)?)
+}
+
+/// Serves the clients of a port.
+fn serve<M: Machine + Drop>(rt: &(impl Abort + AllocGlobal), port: &Port) -> Result<(), Fail> {
+    let machine: M = play_acts(rt, BEGUN)?;
+    hear(rt, machine, &[(Step::Listen(port), (0, "Ok(())", ""))])?;
+    Ok(())
+}
+
+/// The first of three is silent. He holds up nobody, and is let go.
+#[test]
+fn connections_are_answered_side_by_side(rt: HostRuntime) -> Result<(), Fail> {
+    let listener = TcpListener::bind(&rt, SocketAddr::from((Ipv4Addr::LOCALHOST, 0)))?;
+    let office = listener.local_addr()?;
+    let port = Port {
+        watch: RefCell::new(Watch::new(&rt, rt.alloc(), listener, None)?),
+        connections: 3,
+    };
+    let silent = connected(&rt, office, "")?;
+    let wrong = connected(&rt, office, "X\r\n\r\n")?;
+    let keying = connected(&rt, office, KEYING)?;
+    serve::<Disks>(&rt, &port)?;
+    assert_eq!(rt; received(&rt, silent)?.as_str(), "");
+    assert_eq!(rt; received(&rt, wrong)?.as_str(), BAD_REQUEST);
+    assert_eq!(rt; received(&rt, keying)?.as_str(), KEYED);
+    Ok(())
+}
