@@ -156,7 +156,7 @@ fn votes_in(candidates: &Columns, figures: &[Figure]) -> [Votes; MAX_CANDIDATES]
     votes
 }
 
-/// The action on a candidate that his mark tells, where it tells one.
+/// The action on a candidate that his mark shows, where it shows one.
 fn action_by(mark: u32, c: u8) -> Option<Action>
     ensures { result ≡ action_by_mark mark c }
 {
@@ -168,7 +168,7 @@ fn action_by(mark: u32, c: u8) -> Option<Action>
     }
 }
 
-/// The action that the candidates' marks tell; where none does, the first stage's.
+/// The action that the candidates' marks show; where none does, the first stage's.
 fn action_in(candidates: &Columns, figures: &[Figure]) -> Action
     requires { length figures.now ≡ length candidates.now }
     ensures { (f : ℕ → Figure) → figures.now ≡ map f candidates.now → result ≡ action_shown f candidates.now }
