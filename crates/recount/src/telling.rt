@@ -1,4 +1,4 @@
-//! What is told on the outputs, and the status that the program ends with.
+//! What is printed on the outputs, and the status that the program ends with.
 
 ghost use Rattle.std.specs.Prelude.{◌≡◌, ◌⊎◌, ◌-◌, ◌^◌, ◌<◌};
 ghost use Rattle.recount.specs.Outputs.{BrokeOff, Tells, Took, broken_line, output_of, outputs_of};
@@ -36,7 +36,7 @@ fn tell_text<O: Sink, E: Sink>(text: &str, status: u8, out: &mut O, err: &mut E)
     }
 }
 
-/// Tells an outcome, and gives its status; where memory is wanting that is told in its place.
+/// Prints an outcome, and gives its status. Where memory is wanting, it prints that in its place.
 pub(crate) fn tell<O: Sink, E: Sink>(
     alloc: Global,
     outcome: &Outcome,
