@@ -107,12 +107,12 @@ abbrev pub next_stage : Option WardEntry → ℕ
 next_stage None = 1
 next_stage (Some w) = stage_after w.done
 
--- what is told of a poll: its valid papers, its rejected ones, and the quota
+-- what a reply says of a poll: its valid papers, its rejected ones, and the quota
 abbrev pub poll_told : Option PollEntry → List ℕ
 poll_told None = []
 poll_told (Some poll) = codes " sealed: " ++ (decimal poll.valid ++ (codes " valid, " ++ (decimal (all_rejected poll.rejected) ++ (codes " rejected, quota " ++ votes_text poll.quota))))
 
--- what is told of an action that comes next
+-- what a reply says of an action that comes next
 abbrev pub action_told : Option Due → List ℕ
 action_told None = []
 action_told (Some (Act action)) = action_text action

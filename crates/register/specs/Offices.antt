@@ -131,8 +131,8 @@ changed compared change xs = map (λ x. if is_eq (compared x) then change x else
 
 -- ---- the state
 
--- the wards by number, the candidates by ward and number, the batches by number, the third clerks by batch, the keyed papers by
--- batch, round, clerk and number, the judged papers by batch and number, the lots by ward and stage, the receipts by actor and id
+-- The state of an office: the wards by number; the candidates by ward and number; the batches by number, and the third clerks by batch; the keyed
+-- papers by batch, round, clerk and number; the judged papers by batch and number; the lots by ward and stage; and the receipts by actor and id.
 pub record OfficeState : Type 0 where
   pub wards : List WardEntry
   pub candidates : List CandidateEntry

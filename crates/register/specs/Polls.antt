@@ -135,7 +135,7 @@ ballots_by js =
       settled = true;
     }
 
--- what is told of a ward's papers: how many are valid, how many rejected by each code, the quota, and whether each batch is settled
+-- what a ward's papers come to: how many are valid, how many rejected by each code, the quota, and whether each batch is settled
 pub record PollEntry : Type 0 where
   pub valid : ℕ
   pub rejected : List ℕ

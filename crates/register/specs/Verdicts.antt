@@ -62,7 +62,7 @@ objections actor command part =
 unfoldable pub subject_of : VerdictCommand → List ℕ
 subject_of command = codes "judge " ++ (decimal command.batch ++ (codes " " ++ decimal command.paper))
 
--- what is told of a verdict
+-- what a reply says of a verdict
 abbrev pub verdict_word : Verdict → List ℕ
 verdict_word (Accept marks) = codes " accepted"
 verdict_word (Reject code) = codes " rejected " ++ decimal code

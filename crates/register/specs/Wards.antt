@@ -40,7 +40,7 @@ is_to_be_polled (Some w) candidates = is_contested w candidates
 abbrev pub closed_phase : PartEntries → Phase
 closed_phase part = if is_to_be_polled part.ward part.candidates then Keying else Sealed
 
--- what is told of a ward whose nominations are closed
+-- what a reply says of a ward whose nominations are closed
 abbrev pub closed_word : PartEntries → List ℕ
 closed_word part = if is_to_be_polled part.ward part.candidates then codes " polled" else codes " uncontested"
 

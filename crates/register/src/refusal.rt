@@ -169,7 +169,7 @@ impl Refusal {
         self.reason
     }
 
-    /// The number that stands for this reason wherever refusals are told.
+    /// The number of this reason, wherever a refusal is printed.
     pub fn number(&self) -> u32
         ensures { result ≡ reason_number self.now }
     {
