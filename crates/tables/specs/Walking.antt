@@ -28,7 +28,7 @@ module _ {S V X : Type 0} (g : Ghosts S) (t : Table) (row_of : X → Row) (HasTa
   Visits old new was is false = Advances g old new None × (is ≡ was)
 
 module _ {S : Type 0} (g : Ghosts S) (IsRow : Row → Type 0) (Stops : Fault → Type 0) where
-  -- why one more entry was not taken in: the store told no more rows, memory was wanting, the one that takes them in stopped, or the row is that of no entry
+  -- why one more entry was not taken in: the store gave no more rows; memory was wanting; the one that takes them in stopped; or the row is that of no entry
   abbrev pub FailsToVisit : Held S → Held S → Fault → Type 0
   FailsToVisit old new f =
       ((e : Error) × (f ≡ fault_of e) × FailsToAdvance g old new e)
