@@ -106,10 +106,9 @@ impl<S: Alter> Store<S> {
         Ok(found)
     }
 
-    /// The batch with this number, if there is one, whether it differs, and the numbers of the papers on which
-    /// keyings of its current round differ, in the order of the papers; those are told too where two keyings
-    /// of three are equal. It changes nothing, and adds nothing to what a stop may leave. `Memory` or `Store`
-    /// where a row can't be read.
+    /// The batch with this number, if there is one; whether it differs; and the numbers of the papers on which keyings of its
+    /// current round differ, in the order of the papers. These are given too where two keyings of three are equal. It changes
+    /// nothing, and adds nothing to what a stop may leave. `Memory` or `Store` where a row can't be read.
     pub fn load_differences(&mut self, batch: u32) -> Result<Option<Differences>, Fault>
         ensures { Loads S.Store self.old self.new result (λ s found. option_map differences_view found ≡ differences_at s batch) }
     {

@@ -69,10 +69,9 @@ impl<S: Alter> Store<S> {
         }
     }
 
-    /// The count of the ward of this number as it was kept, by what is tabulated of it and by its lots, and
-    /// no paper is read: where the ward is there and contested, once a stage is done, and else none. It
-    /// changes nothing, and adds nothing to what a stop may leave. `Memory` or `Store` where a row can't be
-    /// read.
+    /// The count of the ward of this number as it was kept, by what is tabulated of it and by its lots; no paper is read. There
+    /// is one where the ward is there and contested, once a stage is done; else there is none. It changes nothing, and adds
+    /// nothing to what a stop may leave. `Memory` or `Store` where a row can't be read.
     pub fn load_book(&mut self, ward: u32) -> Result<Option<Count>, Fault>
         ensures { Loads S.Store self.old self.new result (λ s found. IsBookFor (option_map (election_of s) (ward_at s ward)) found) }
     {

@@ -74,9 +74,9 @@ impl<S: Alter> Store<S> {
         }
     }
 
-    /// What the stage sheet of the ward of this number is written from, if it is there: what `load_counted`
-    /// tells, and how many of its papers are rejected, which is counted from the papers. It changes nothing,
-    /// and adds nothing to what a stop may leave. `Memory` or `Store` where a row can't be read.
+    /// What the stage sheet of the ward of this number is written from, if the ward is there. It is what `load_counted` gives,
+    /// and how many of its papers are rejected, which is counted from the papers. It changes nothing, and adds nothing to what a
+    /// stop may leave. `Memory` or `Store` where a row can't be read.
     pub fn load_sheet(&mut self, ward: u32) -> Result<Option<WardSheet>, Fault>
         ensures { Loads S.Store self.old self.new result (λ s found. IsSheetFor (option_map (election_of s) (ward_at s ward)) found) }
     {
