@@ -9,7 +9,7 @@ use Rattle.wire.specs.declared.denial.Verb.{Verb}
 use Rattle.wire.specs.declared.response.Content.{Content}
 use Rattle.wire.specs.declared.response.Content.TheVariants.{Json, Text}
 
--- an answer: its status; the verb that it tells to be the one served, if it does; and its body, with what kind of text that is
+-- an answer: its status; the verb that it names as the one served, if it does; and its body, with what kind of text that is
 pub record ResponseEntry : Type 0 where
   pub status : ℕ
   pub allowed : Option Verb
@@ -31,7 +31,7 @@ abbrev pub media_type : Content → List ℕ
 media_type Text = codes "text/plain; charset=utf-8"
 media_type Json = codes "application/json"
 
--- the line that tells the verb
+-- the line that names the verb
 abbrev pub allow_line : Option Verb → List ℕ
 allow_line None = []
 allow_line (Some verb) = codes "Allow: " ++ (verb_text verb ++ line_end)

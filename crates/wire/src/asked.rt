@@ -188,15 +188,13 @@ fn read_request<R: Source>(
 
 /// Reads what a request asks of an office to which pages of an origin may come through a proxy, if one was given.
 ///
-/// A request with a header which shows that a page from elsewhere sent it, or that it came by a foreign name, is
-/// `Forbidden`, whatever else it asks; every other one asks what it asks without such a check. What is denied is answered
-/// the same at every state of the office.
+/// A request with a header which shows that a page from elsewhere sent it, or that it came by a foreign name, is `Forbidden`, whatever
+/// else it asks. Every other one asks what it asks without such a check. What is denied is answered the same at every state of the office.
 ///
-/// `Broken` comes only from the source, which then counts one failure more, and only while what was read doesn't
-/// say yet what is asked: once it does, nothing more is read, for the client may wait for its answer. Of the
-/// bytes behind the request some may have been read.
+/// `Broken` comes only from the source, which then counts one failure more. It comes only while what was read doesn't say yet what is asked.
+/// Once it does, nothing more is read, for the client may wait for its answer. Of the bytes behind the request some may have been read.
 ///
-/// What is asked for hangs on the target alone, which names just what it is the path of: one of the four of this crate,
+/// What is asked for hangs on the target alone, which names just what it is the path of. It is one of the four of this crate,
 /// with numbers of 1 to 5 digits in it, the first not 0. Any other target names nothing.
 pub fn read_asked<R: Source>(
     alloc: Global,

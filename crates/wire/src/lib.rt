@@ -8,10 +8,9 @@
 //! A page from elsewhere in a browser of this machine asks nothing: each request with a header that shows one is
 //! denied. [`Origin`] is that of pages which may come through a proxy in front.
 //!
-//! `specs/Asking.antt` says what the bytes of a client ask, `specs/Lacking.antt` when they are whole,
-//! `specs/Origins.antt` what shows that a page from elsewhere sent them, `specs/Targets.antt` which targets name what,
-//! `specs/Responses.antt` which bytes an answer has, and `specs/Serving.antt` what is answered at a state of
-//! the office, and what each end of a connection leaves.
+//! `specs/Asking.antt` says what the bytes of a client ask, and `specs/Lacking.antt` when they are whole. `specs/Origins.antt` says
+//! what shows that a page from elsewhere sent them, and `specs/Targets.antt` which targets name what. `specs/Responses.antt` says which
+//! bytes an answer has. `specs/Serving.antt` says what is answered at a state of the office, and what each end of a connection leaves.
 //!
 //! ```text
 //! match serve_one(alloc, origin, &mut reader, &mut writer, &mut office) {
