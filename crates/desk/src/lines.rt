@@ -15,8 +15,7 @@ use store::{CopyFault, Fault, Migrated};
 use thiserror::Error;
 use votes::{Broken, Sink, put_all};
 
-/// What is told where the journal that was written doesn't make its office, as where its receipts and its other tables
-/// don't belong together.
+/// What is printed where the journal that was written doesn't make its office, as where its receipts and its other tables don't belong together.
 const NO_JOURNAL: &str = "no journal: what was written does not make this office";
 
 /// What an order came to.
@@ -26,13 +25,13 @@ pub(crate) enum Outcome {
     Ready,
     /// An office was brought over, or was at this program's version already.
     Migrated(Migrated),
-    /// This is replied to a request that was accepted, now or before; or it tells how a ward stands, or what comes next.
+    /// This is the reply to a request that was accepted, now or before; or it says how a ward stands, or what comes next.
     Replied(Reply),
-    /// This text is told as it is, its lines ended.
+    /// This text is printed as it is, its lines ended.
     Printed(String),
     /// No seat is left in a count.
     CountFinished,
-    /// A count waits for a lot, for which a request for one stage more was refused. That is told as a reply, not as a refusal.
+    /// A count waits for a lot, for which a request for one stage more was refused. That is printed as a reply, not as a refusal.
     LotNeeded(Refusal),
     /// A request was refused.
     Refused(Refusal),
@@ -40,15 +39,14 @@ pub(crate) enum Outcome {
     Unread(FileFault),
     /// The office gave up.
     Failed(Fault),
-    /// No copy is told.
+    /// No copy is reported.
     Uncopied(CopyFault),
     /// No journal of the office was found: the one that was written doesn't make it.
     Unjournalled,
 }
 
-/// Why the program gives up: a fault of the office, told by its number 101 to 106 or 108; an output that
-/// fails, 107; a copy that is there already, 109, or can't be written, 110; or an order that isn't for an office that is
-/// being served, 111.
+/// Why the program gives up: a fault of the office, by its number 101 to 106 or 108; 107, an output that fails; 109, a copy that
+/// is there already; 110, a copy that can't be written; or 111, an order that isn't for an office that is being served.
 #[derive(Clone, Copy, Debug, PartialEq, Eq, Drop, Error)]
 #[error("{}", self.text())]
 pub enum Failure {
@@ -96,8 +94,7 @@ fn put_pieces<W: Sink>(pieces: &[&str], sink: &mut W) -> Result<(), Broken>
     Ok(())
 }
 
-/// Tells a text in pieces on the output, and gives the status: 0, or 3 where the output fails, which is
-/// told on the error output.
+/// Prints a text in pieces on the output, and gives the status: 0, or 3 where the output fails, which the error output says.
 fn tell_text<O: Sink, E: Sink>(pieces: &[&str], out: &mut O, err: &mut E) -> u8
     requires out { O.failed out.old < 2 ^ 64 - 1 }
     requires err { E.failed err.old < 2 ^ 64 - 1 }
@@ -109,7 +106,7 @@ fn tell_text<O: Sink, E: Sink>(pieces: &[&str], out: &mut O, err: &mut E) -> u8
     }
 }
 
-/// Puts the front of what is told of a script's line, `line 3: `; nothing, where it is told of none.
+/// Puts the front of what is printed of a script's line, `line 3: `; nothing, where it is of none.
 fn put_front<W: Sink>(line: Option<usize>, sink: &mut W) -> Result<(), Broken>
     requires { W.failed sink.old < 2 ^ 64 - 1 }
     ensures { IsPut W.taken W.failed sink.old sink.new (line_front line) result }
@@ -129,8 +126,8 @@ fn put_line<W: Sink>(line: Option<usize>, pieces: &[&str], sink: &mut W) -> Resu
     put_pieces(pieces, sink)
 }
 
-/// Tells a line in pieces on the error output, and gives the status: this one, or 3 where the error output fails. If
-/// it is told of a script's line, the number of that stands in front.
+/// Prints a line in pieces on the error output, and gives the status: this one, or 3 where the error output fails. If it is about
+/// a script's line, the number of that stands in front.
 fn tell_error<E: Sink>(line: Option<usize>, pieces: &[&str], status: u8, err: &mut E) -> u8
     requires { E.failed err.old < 2 ^ 64 - 1 }
     ensures { IsErrorTold E.taken E.failed err.old err.new (line_front line ++ flat_map (λ piece. piece.now) pieces.now) status result }
@@ -248,7 +245,7 @@ fn tell_failure_at<E: Sink>(line: Option<usize>, failure: Failure, err: &mut E) 
 
 /// Tells a failure on the error output, and gives its status, 3.
 ///
-/// Where the error output fails too, nothing more can be told.
+/// Where the error output fails too, nothing more can be printed.
 pub fn tell_failure<E: Sink>(failure: Failure, err: &mut E) -> u8
     requires { E.failed err.old < 2 ^ 64 - 1 }
     ensures { IsErrorTold E.taken E.failed err.old err.new (failed failure).err 3 result }
@@ -256,7 +253,7 @@ pub fn tell_failure<E: Sink>(failure: Failure, err: &mut E) -> u8
     tell_failure_at(None, failure, err)
 }
 
-/// Why no copy was made, as the program tells it: want of memory is told as ever.
+/// Why no copy was made, as the program prints it; want of memory is reported as ever.
 fn failure_of(fault: CopyFault) -> Failure
     ensures { result ≡ failure_of fault }
 {
@@ -278,10 +275,10 @@ fn migrated_text(migrated: Migrated) -> &'static str
     }
 }
 
-/// Tells an outcome, and gives its status. The status is 0 where it is told on the output. On the error output it is 1
-/// for a refusal of a request or a file, and for an office without a journal, and 3 for a fault or a file that couldn't
-/// be read. Where one of the two fails it is 3, and that output has taken a beginning. If the outcome is that of a
-/// script's line, what goes to the error output begins with the number of that line.
+/// Prints an outcome, and gives its status. The status is 0 where the outcome goes to the output. On the error output it is 1 for
+/// a refusal of a request or a file, and for an office without a journal, and 3 for a fault or a file that couldn't be read.
+/// Where one of the two fails it is 3, and that output has taken a beginning. If the outcome is that of a script's line, what
+/// goes to the error output begins with the number of that line.
 pub(crate) fn tell<O: Sink, E: Sink>(
     line: Option<usize>,
     outcome: &Outcome,
