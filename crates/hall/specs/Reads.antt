@@ -1,4 +1,4 @@
--- Answers to reads that are kept, to be told again while nothing changes.
+-- Answers to reads that are kept, to be given again while nothing changes.
 use Rattle.std.specs.Prelude.{◌≡◌, List, [], Option, Some, map, ℕ}
 use Rattle.std.specs.List.{All}
 use Rattle.register.specs.Offices.{OfficeState}
@@ -12,7 +12,7 @@ use Rattle.wire.specs.declared.target.Reading.{Reading}
 use Rattle.hall.specs.declared.reads.Kept.{Kept}
 use Rattle.hall.specs.declared.reads.KeptAnswer.{KeptAnswer}
 
--- the bytes of a request, and those of the answer that was told to them
+-- the bytes of a request, and those of the answer to them
 pub record ReadEntry : Type 0 where
   pub got : List ℕ
   pub answer : List ℕ
@@ -30,7 +30,7 @@ pub record IsRead (given : Option (List ℕ)) (s : OfficeState) (got answer : Li
   pub status : ℕ
   pub told : IsServed (λ response. IsTold (reading_response s what) response) (Some []) (Some answer) (Answered status)
 
--- an answer was told whole, and it tells no fault (503)
+-- an answer was given whole, and it is no fault (503)
 abbrev pub TellsNoFault : Served → Type 0
 TellsNoFault (Answered status) = status ≡ 503 → ⊥
 TellsNoFault ReadFailed = ⊥

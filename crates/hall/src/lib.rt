@@ -2,20 +2,19 @@
 //! after the other.
 //!
 //! [`serve_hall`] lets in who comes to the [`Doors`](gathering::Doors), at most 512 at once. [`attend`] hears who goes on as far
-//! as his line lets him now. Once what he asks has come to its end, this is his turn: a client is served from what was
-//! gathered, and an order is followed in the open office. So nobody waits for another's line, and the office does one thing at
-//! a time. A read that is asked for again, while nothing has changed, is told from memory.
+//! as his line lets him now. Once what he asks has come to its end, this is his turn: a client is served from what was gathered,
+//! and an order is followed in the open office. So nobody waits for another's line, and the office does one thing at a time. A
+//! read that is asked for again, while nothing has changed, is answered from memory.
 //!
-//! `specs/Visits.antt` says what is kept of those who had their turns, `specs/Handings.antt` what an order asks and is told,
-//! `specs/Reads.antt` which answers are kept, `specs/Turns.antt` what a turn is, `specs/Guests.antt` how it went with each who came, and `specs/Halls.antt` what is promised
-//! of them all.
+//! `specs/Visits.antt` says what is kept of those who had their turns, and `specs/Handings.antt` what an order asks and what it prints. `specs/Reads.antt` says which
+//! answers are kept, and `specs/Turns.antt` what a turn is. `specs/Guests.antt` says how it went with each who came, and `specs/Halls.antt` what is promised of them all.
 //!
 //! ```text
 //! serve_hall(alloc, &clock, &mut doors, terms, &aside, connections, &mut office)?    // Broken: the doors or the clock failed
 //! ```
 #![tactic(auto)]
 
-// what an order asks, and what it is told
+// what an order asks, and what comes of it
 pub mod aside;
 mod handing;
 mod message;
