@@ -221,7 +221,7 @@ fn is_busy(error: &sqlite::Error) -> bool {
     matches!(error, sqlite::Error::SqliteFailure(ErrorCode::DatabaseBusy))
 }
 
-/// Why a copy can't be made: want of memory is told as ever.
+/// Why a copy can't be made; want of memory is reported as ever.
 fn failure_of(error: sqlite::Error) -> Failure {
     match fault_of(error) {
         Fault::Memory => Failure::Office(Fault::Memory),
@@ -242,8 +242,8 @@ fn why_not_begun(rt: &HostRuntime, fresh: &Fresh) -> Option<Failure> {
     }
 }
 
-/// Closes the files that were made for a copy, of which this is told and known. Where no copy is told they are removed while
-/// they are held. With status 0 the database file alone is the copy.
+/// Closes the files that were made for a copy, by what is known of it. Where no copy is reported it removes them while it holds
+/// them. With status 0 the database file alone is the copy.
 fn finish<D: Disk + Drop, E: Sink>(
     rt: &HostRuntime,
     fresh: &Fresh,
@@ -343,8 +343,7 @@ fn copy_served<S: Alter, O: Sink, E: Sink>(
     }
 }
 
-/// Closes a copy, so that it stands alone, and gives the status: 0, or 3 where its log can't be copied into it, which is
-/// told.
+/// Closes a copy, so that it stands alone, and gives the status: 0, or 3 where its log can't be copied into it, which it reports.
 fn closed_copy<D: Disk + Drop, E: Sink>(
     made: Connection<FileStore<D>>,
     err: &mut E,
@@ -443,8 +442,8 @@ fn hand_over_watched<O: Sink, E: Sink>(
     }
 }
 
-/// Hands an order on a database that another program holds over to it, and gives the status. Where that one doesn't serve it,
-/// it is told that it is held.
+/// Hands an order on a database that another program holds over to it, and gives the
+/// status. Where that program doesn't serve it, it reports that the file is held.
 fn hand_over_held<O: Sink, E: Sink>(
     rt: &HostRuntime,
     database: &str,
@@ -516,7 +515,7 @@ fn follow<O: Sink, E: Sink>(rt: &HostRuntime, words: &[&str], out: &mut O, err: 
     }
 }
 
-/// Tells the help of an order. A word that names no order is DB, and the help of all orders is told.
+/// Prints the help of an order. A word that names no order is DB, and then it prints the help of all orders.
 fn tell_help_of<O: Sink, E: Sink>(rt: &HostRuntime, name: &str, out: &mut O, err: &mut E) -> u8
     requires out { O.failed out.old < 2 ^ 64 - 1 }
     requires err { E.failed err.old < 2 ^ 64 - 1 }
@@ -530,8 +529,7 @@ fn tell_help_of<O: Sink, E: Sink>(rt: &HostRuntime, name: &str, out: &mut O, err
     }
 }
 
-/// Does what the program's words ask, and gives the status. Help and the version are told without a database too,
-/// also the help of an order.
+/// Does what the program's words ask, and gives the status. It prints help and the version without a database too, also the help of an order.
 fn run<O: Sink, E: Sink>(rt: &HostRuntime, out: &mut O, err: &mut E) -> u8
     requires out { O.failed out.old < 2 ^ 64 - 1 }
     requires err { E.failed err.old < 2 ^ 64 - 1 }
