@@ -112,9 +112,9 @@ impl<S: Alter> Office<S> {
         }
     }
 
-    /// Plays requests over an empty office, which it makes in a connection's database. It answers whether they lead to the office
-    /// of these rows: each is accepted, and the entries are the same in the end, receipts too. The clauses say so where the
-    /// database had nothing in it. The connection is handed back, with whatever the trial left there.
+    /// Plays requests over an empty office, and answers whether they lead to the office of these rows: each is accepted, and the
+    /// entries are the same in the end, receipts too. It makes the empty office in a connection's database. The clauses say so
+    /// where that database had nothing in it. The connection is handed back, with whatever the trial left there.
     ///
     /// `Memory` or `Store` where the trial couldn't be ended: memory was wanting, or the trial's store gave up. No clause says
     /// why. The rows are an argument, so no other database is read or changed.

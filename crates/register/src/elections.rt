@@ -78,8 +78,8 @@ pub fn elections_are_fair()
         → length (election_of s w).ballots.papers + all_rejected (election_of s w).ballots.rejected ≡ sum_by (λ b. b.size) (batches_of s w.number) }
 {}
 
-/// The law of the papers of a ward that is in count. At a state each of its batches is settled. So its papers come to what one
-/// keying of each batch comes to; where two clerks key it, to what that of the lower number comes to.
+/// The law of the papers of a ward that is in count: they come to what one keying of each batch comes to. At a state each of the
+/// ward's batches is settled. Where two clerks key a batch, it is the keying of the lower number.
 pub fn settled_papers_suffice()
     ensures { (s : OfficeState) (w : WardEntry) (columns : List ℕ) → IsState s → ward_at s w.number ≡ Some w → is_in_count (election_of s w) ≡ true
         → ballots_in columns (piles_of s w.number) ≡ ballots_by (settled_judgements s columns (batches_of s w.number)) }

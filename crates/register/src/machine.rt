@@ -197,8 +197,8 @@ pub fn decide(alloc: Global, view: &View<'_>, command: &Command) -> Result<Decis
     decided(alloc, view, command)
 }
 
-/// What any list of requests leads to. From the office where nothing has happened yet it leads to a state, and from a state to a
-/// state again. Those alone that are accepted, each where its turn comes, lead to the same.
+/// Any list of requests leads from the office where nothing has happened yet to a state, and from a state to a state again. Those
+/// alone that are accepted, each where its turn comes, lead to the same.
 pub fn lists_make_states()
     ensures from_empty { (requests : List Request) → IsState (after empty_office requests) }
     ensures from_state { (s : OfficeState) (requests : List Request) → IsState s → IsState (after s requests) }

@@ -39,8 +39,8 @@ pub struct CountedPapers {
     pub papers: Vec<CountedPaper>,
 }
 
-/// The law of papers that are shown as they count, for their readers. Those of a ward's batches, one after the other, have the
-/// judgements on which the ward's count rests.
+/// The law of papers that are shown as they count: those of a ward's batches, one after the other, have the judgements on which
+/// the ward's count rests. It is for their readers.
 pub fn papers_told_are_counted()
     ensures { (s : OfficeState) (ward : ℕ) → flat_map (judgements_told s) (batches_of s ward) ≡ judgements (columns_of (candidates_of s ward)) (piles_of s ward) }
 {}
