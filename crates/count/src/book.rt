@@ -59,9 +59,8 @@ pub trait CountBook {
     fn elected(&self) -> Columns
         ensures { result ≡ elected_after (contest self.now) (history self.now) };
 
-    /// The action that comes next, with the lot where one is needed; else the lot is ignored. Answers 1
-    /// where the count is finished, 2 and 3 where a lot is due and none, or one for a candidate who isn't
-    /// tied, is handed. Moves no paper, and takes no memory.
+    /// The action that comes next, with the lot where one is needed; else the lot is ignored. Answers 1 where the count is finished. Answers 2
+    /// where a lot is due and none is handed, and 3 where one is handed for a candidate who isn't tied. Moves no paper, and takes no memory.
     fn action_by(&self, lot: Option<u8>) -> Result<Action, AdvanceError>
         ensures ok { IfOk result (λ action. drawn (contest self.now) (history self.now) lot (due_after (contest self.now) (history self.now)) ≡ Some action) }
         ensures err { IfErr result (λ e. refusal lot (due_after (contest self.now) (history self.now)) ≡ Some e) };

@@ -69,7 +69,7 @@ fn standing_mark(stages: &[Stage], c: u8) -> u32
     CONTINUING
 }
 
-/// The mark of a candidate at a stage of an action, where he would have another if it weren't on him.
+/// The mark of a candidate at a stage of an action: that of the action, where it is on him; else the other mark.
 fn mark_by(action: &Action, c: u8, other: u32) -> u32
     ensures { result ≡ mark_by_of action.now c other }
 {
@@ -211,10 +211,9 @@ fn push_stage(
     Ok(())
 }
 
-/// The stages whose figures these are, from the first one's on: each has as many figures as there are
-/// candidates, and two. None where they are too few or too many for that. Of the figures of a count whose
-/// candidates these are, all its stages; of others, what their marks and units come to. An error is want of
-/// memory.
+/// The stages whose figures these are, from those of the first stage on. Each stage has as many figures as there are candidates,
+/// and two more. None where there are too few or too many figures for that. The figures of a count with these candidates give all
+/// its stages; others give what their marks and units come to. An error is want of memory.
 pub fn stages_of_figures(
     alloc: Global,
     candidates: &Columns,
