@@ -91,7 +91,7 @@ abbrev pub objections : ℕ → CountCommand → PartEntries → List (Option Re
 objections actor command part =
     objection (not (is_in_range actor command)) NumberOutOfRange ∷ phase_objections (phase_for command) part.ward ++ own_objections command part
 
--- what the receipt is about: the same for two commands that an id may stand for only once
+-- what the receipt is about: by it a command that comes again under its id is known as the same
 unfoldable pub subject_of : CountCommand → List ℕ
 subject_of (Seal ward) = codes "seal " ++ decimal ward
 subject_of (Advance ward) = codes "advance " ++ decimal ward

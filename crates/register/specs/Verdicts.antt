@@ -58,7 +58,7 @@ objections actor command part =
     ∷ []
     )
 
--- what the receipt is about: the same for two commands that an id may stand for only once
+-- what the receipt is about: by it a command that comes again under its id is known as the same
 unfoldable pub subject_of : VerdictCommand → List ℕ
 subject_of command = codes "judge " ++ (decimal command.batch ++ (codes " " ++ decimal command.paper))
 
