@@ -13,11 +13,11 @@ use Rattle.tables.specs.Rows.{at, column_places}
 use Rattle.tables.specs.Contents.{Contents}
 use Rattle.tables.specs.Reading.{Finds}
 
--- whatever entries were taken in before, this one was taken in after them
+-- whatever entries came before, this one was taken in after them
 abbrev pub TakesNext : {V X : Type 0} → (V → List X → Type 0) → V → V → X → Type 0
 TakesNext {V} {X} HasTaken old new entry = (before : List X) → HasTaken old before → HasTaken new (before ++ entry ∷ [])
 
--- whatever entries were taken in before, those whose rows pass the test were taken in after them, in the order of the key
+-- whatever entries came before, those whose rows pass the test were taken in after them, in the order of the key
 abbrev pub TakesFound : {V X : Type 0} → (V → List X → Type 0) → (X → Row) → Table → (Row → Bool) → Contents → V → V → Type 0
 TakesFound {V} {X} HasTaken row_of t test c old new = (found : List X) × Finds t test c (map row_of found) × ((before : List X) → HasTaken old before → HasTaken new (before ++ found))
 
