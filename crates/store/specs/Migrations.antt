@@ -115,7 +115,7 @@ FailsToMigrate db old new f = FailsToList db old new f ⊎ ((form : OlderForm) �
 
 -- ---- the parts of a migration
 
--- what was read is beside maps that have no third clerk; and of a form without counts nothing tabulated
+-- the maps that were read have no third clerk; and in a form without counts nothing was tabulated
 pub record IsBare (form : OlderForm) (s : OfficeState) (t : TabulationEntries) : Type 0 where
   pub no_thirds : s.thirds ≡ []
   pub no_counts : form ≡ WithoutCounts → t ≡ no_tabulation

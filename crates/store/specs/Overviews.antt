@@ -199,7 +199,7 @@ is_apart others k = list_any (λ keying. not (has_alike k keying)) others
 abbrev pub apart_among : List (List KeyedEntry) → List KeyedEntry → List ℕ
 apart_among others keying = map (λ (k : KeyedEntry). k.paper) (filter (is_apart others) keying)
 
--- the numbers of the papers on which some keyings of a round differ: those of the first that another one has with other marks
+-- the numbers of the papers on which some keyings of a round differ: those that the first keying has with other marks than another one
 abbrev pub papers_apart : List (List KeyedEntry) → List ℕ
 papers_apart [] = []
 papers_apart (keying ∷ others) = apart_among others keying

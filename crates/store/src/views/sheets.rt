@@ -46,8 +46,8 @@ impl<S: Alter> Store<S> {
         Ok(ballots.rejected)
     }
 
-    /// The count of a ward in count that has a stage, of which this was found, by what is tabulated alone; and how
-    /// many of its papers are rejected. None where what is tabulated is of no count, as in no office.
+    /// The count of a ward in count that has a stage, by what is tabulated alone; and how many of its papers are rejected. None
+    /// where what is tabulated is of no count, as in no office.
     fn resumed_sheet(&mut self, contest: CountedWard) -> Result<Option<WardSheet>, Fault>
         ensures { Loads S.Store self.old self.new result
             (λ s found. IsThere s contest → is_in_count_of (election_in s contest) ≡ true → (contest.ward.done ≡ 0 → ⊥) → IsSheet (election_in s contest) found) }
