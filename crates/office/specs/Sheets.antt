@@ -84,7 +84,7 @@ lots_shown e = if has_count e then e.lots else []
 abbrev pub ballots_of : ElectionEntry → List ℕ
 ballots_of e = ballots (election_shown e) (bundles_shown e) (lots_shown e)
 
--- the result as a page to print and sign, under a title, where declared; before, how far the count is
+-- the result as a page to print and sign, under a title, where it is declared; before that, how far the count is
 abbrev pub result_page_of : List ℕ → ElectionEntry → List ℕ
 result_page_of title e = page (election_shown e) title (is_declared e.ward.phase) (stages_shown e) (lots_shown e)
 

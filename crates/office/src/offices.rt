@@ -137,9 +137,8 @@ impl<S: Alter> Office<S> {
     /// A request that met a fault may be sent again after the office was opened again. Where the old tables were found it is
     /// `Done`, and `Kept` where the new ones were, with the same reply and state after.
     ///
-    /// A clerk is answered by what he sees of the state alone: the wards and their phases, the candidates,
-    /// the batches, his own keyings and receipts. Whatever his request leaves, another clerk sees of it
-    /// what he saw before.
+    /// A clerk is answered by what he sees of the state alone: the wards and their phases, the candidates, the batches, his own
+    /// keyings and receipts. Whatever his request leaves, another clerk sees what he saw before.
     pub fn handle(&mut self, actor: u32, id: &str, command: &Command) -> Result<Answer, Fault>
         ensures handled { WhenOpenAt (state S.Store) self.old self.new
             (λ s. Handled s (step s actor id.now command.now) result self.new.closed (state S.Store self.new.held)) }

@@ -82,7 +82,7 @@ impl<S: Alter> Office<S> {
         None
     }
 
-    /// Tells a fault that a read met. Any but want of memory closes the office.
+    /// Gives a fault that a read met. Any but want of memory closes the office.
     pub(crate) fn stopped_by(&mut self, fault: Fault) -> Stop
         ensures told { result ≡ Stop.Fault fault }
         ensures held { self.new.held ≡ self.old.held }
@@ -198,7 +198,7 @@ impl<S: Alter> Office<S> {
         read!(self, is_ward_number(ward) => load_counted(ward), Reason::NoSuchWard, counted => self.declaration_of(&counted))
     }
 
-    /// Tells a text as it was written. Where it can't be written, the rows are those of no office, which is closed then.
+    /// Gives a text as it was written. Where it can't be written, the rows are those of no office, which is closed then.
     fn told(&mut self, written: Result<Option<String>, AllocError>) -> Result<String, Stop>
         ensures told { IfOk result (λ text. written ≡ Ok (Some text)) }
         ensures stopped { self.old.closed ≡ false → IfErr result (StopsWriting self.new.closed) }

@@ -101,8 +101,8 @@ fn poll_of(sheet: &WardSheet) -> Option<Poll>
     }
 }
 
-/// A ward that was counted, as the texts show it, with these lines of its candidates and its papers. `None` where a
-/// number is out of range, so that it can't be printed. No ward of an office has such a number.
+/// A ward that was counted, as the texts show it, with these lines of its candidates and its papers. `None` where a number is out
+/// of range, so that the ward can't be printed. No ward of an office has such a number.
 fn ward_of<'a>(
     counted: &'a CountedWard,
     candidates: &'a [(u8, String)],
@@ -143,7 +143,7 @@ fn stages_of(counted: &CountedWard) -> &[Stage]
     }
 }
 
-/// The bundles of equal valid papers of a ward in count; of an uncontested ward `none`, which has no bundle.
+/// The bundles of equal valid papers of a ward in count; an uncontested ward has no bundle, and gives `none`.
 fn bundles_of<'a>(counted: &'a CountedWard, none: &'a Bundles) -> &'a Bundles
     requires { none.now ≡ [] }
     ensures { (e : ElectionEntry) → IsCountedWard e counted.now → is_counted e.ward.phase ≡ true → result.now ≡ bundles_shown e }
