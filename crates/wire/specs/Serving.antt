@@ -67,7 +67,7 @@ pub record IsHandedOn (clerk batch : ℕ) (entry : KeyingEntry) (request : Reque
   pub round : handed.round ≡ entry.round
   pub papers : map string_bytes handed.papers.items ≡ entry.papers
 
--- the outcome of a clerk's keying at a state: that of each request which it can be handed on as
+-- the outcome of a clerk's keying at a state: that of each request as which the keying may be handed on
 pub record IsOutcome (s : OfficeState) (clerk batch : ℕ) (entry : KeyingEntry) (outcome : Outcome) : Type 0 where
   pub request : Request
   pub is : IsHandedOn clerk batch entry request
