@@ -126,7 +126,7 @@ page_told (no why) = refused why
 abbrev pub page_for : Request → Told → Page
 page_for r told = page_told told
 
--- why a count goes no further: that no seat is left, and that a lot is needed, are replies; so it is behind the first request that the ward was declared since
+-- why a count goes no further. That no seat is left, and that a lot is needed, are replies. So is, behind the first request, that the ward was declared since.
 abbrev pub page_at_rest : Bool → Reason → Page
 page_at_rest is_first CountFinished = replied (codes "count finished")
 page_at_rest is_first (LotNeeded stage tied) = replied (reason_text (LotNeeded stage tied))

@@ -200,7 +200,7 @@ names_order (Some found) = is_order_name found.0
 abbrev pub wrong_with : List Text → Kinds
 wrong_with words = fault_of office_words words
 
--- the status that words end with which ask for help or the version, or are not understood
+-- the status with which words end that ask for help or the version, or aren't understood
 abbrev pub status_of_kind : ErrorKind → ℕ
 status_of_kind DisplayHelp = 0
 status_of_kind DisplayVersion = 0
@@ -231,7 +231,7 @@ bad_origin = codes "error: an origin is http:// or https://, a host in small let
 abbrev pub bad_digest : Text
 bad_digest = codes "error: a digest is 64 hexadecimal digits, as sha256sum prints them\n"
 
--- the text is the own one of what displays itself, where that is known and not empty
+-- the text is what something displays of itself, where that is known and not empty
 abbrev pub IsOwnText : Option Text → Text → Type 0
 IsOwnText own text = IfSome own (λ bytes. bytes ≢ [] → text ≡ bytes)
 

@@ -98,7 +98,7 @@ fn copied_open<S: Alter, T: Alter>(
     }
 }
 
-/// Copies an open office, which goes on, into the database of another connection, which has nothing in it. Tells how much
+/// Copies an open office, which goes on, into the database of another connection, which has nothing in it. Prints how much
 /// the copy has, and gives the status and what the other database holds. The connection isn't closed.
 ///
 /// It is made as by `copy_office`, but the office is open already: no other is
@@ -129,7 +129,7 @@ pub fn copy_open<S: Alter, T: Alter, O: Sink, E: Sink>(
     (tell(None, &outcome, out, err), state)
 }
 
-/// Copies the office that an opened connection has into the database of another one, which has nothing in it. Tells how
+/// Copies the office that an opened connection has into the database of another one, which has nothing in it. Prints how
 /// much the copy has, and gives the status and what the other database holds. Neither connection is closed.
 ///
 /// The copy is made whole in one transaction. After its reply it keeps the very state of the office, with every receipt. Whatever

@@ -138,8 +138,7 @@ fn tell_error<E: Sink>(line: Option<usize>, pieces: &[&str], status: u8, err: &m
     }
 }
 
-/// Tells a kind, a number and a text in a line on the error output, and gives the status: this one, or 3 where the
-/// error output fails.
+/// Prints a kind, a number and a text in a line on the error output, and gives the status: this one, or 3 where the error output fails.
 fn tell_numbered<E: Sink>(
     line: Option<usize>,
     kind: &str,
@@ -156,7 +155,7 @@ fn tell_numbered<E: Sink>(
     tell_error(line, &pieces, status, err)
 }
 
-/// Tells a refusal, and gives the status: 1, or 3 where the error output fails.
+/// Prints a refusal, and gives the status: 1, or 3 where the error output fails.
 fn tell_refusal<E: Sink>(line: Option<usize>, refusal: &Refusal, err: &mut E) -> u8
     requires { E.failed err.old < 2 ^ 64 - 1 }
     ensures { IsErrorTold E.taken E.failed err.old err.new (line_front line ++ (refused refusal.now).err) 1 result }
@@ -204,8 +203,7 @@ fn clerk_of(flaw: Flaw, digits: &mut Buffer) -> &str
     }
 }
 
-/// Tells why a file isn't taken, and gives the status: 1, or 3 where its reading was stopped or the error
-/// output fails.
+/// Prints why a file isn't taken, and gives the status: 1, or 3 where its reading was stopped or the error output fails.
 fn tell_file_fault<E: Sink>(line: Option<usize>, fault: FileFault, err: &mut E) -> u8
     requires { E.failed err.old < 2 ^ 64 - 1 }
     ensures { IsErrorTold E.taken E.failed err.old err.new (line_front line ++ (unread fault).err) (status_of_file fault) result }
@@ -227,7 +225,7 @@ fn tell_file_fault<E: Sink>(line: Option<usize>, fault: FileFault, err: &mut E) 
     tell_error(line, &pieces, status_of_file(fault), err)
 }
 
-/// Tells that an office has no journal, and gives the status: 1, or 3 where the error output fails.
+/// Prints that an office has no journal, and gives the status: 1, or 3 where the error output fails.
 fn tell_no_journal<E: Sink>(line: Option<usize>, err: &mut E) -> u8
     requires { E.failed err.old < 2 ^ 64 - 1 }
     ensures { IsErrorTold E.taken E.failed err.old err.new (line_front line ++ unjournalled.err) 1 result }
@@ -235,7 +233,7 @@ fn tell_no_journal<E: Sink>(line: Option<usize>, err: &mut E) -> u8
     tell_error(line, &[NO_JOURNAL, "\n"], 1, err)
 }
 
-/// Tells a failure, and gives its status, 3.
+/// Prints a failure, and gives its status, 3.
 fn tell_failure_at<E: Sink>(line: Option<usize>, failure: Failure, err: &mut E) -> u8
     requires { E.failed err.old < 2 ^ 64 - 1 }
     ensures { IsErrorTold E.taken E.failed err.old err.new (line_front line ++ (failed failure).err) 3 result }
@@ -243,7 +241,7 @@ fn tell_failure_at<E: Sink>(line: Option<usize>, failure: Failure, err: &mut E) 
     tell_numbered(line, "fault ", failure.number(), failure.text(), 3, err)
 }
 
-/// Tells a failure on the error output, and gives its status, 3.
+/// Prints a failure on the error output, and gives its status, 3.
 ///
 /// Where the error output fails too, nothing more can be printed.
 pub fn tell_failure<E: Sink>(failure: Failure, err: &mut E) -> u8
@@ -304,8 +302,8 @@ pub(crate) fn tell<O: Sink, E: Sink>(
     }
 }
 
-/// Tells why a text is no script, and gives the status: 2 for a line that isn't understood, and 3 for want of memory or
-/// where the error output fails.
+/// Prints why a text is no script, and gives the status: 2 for a line that
+/// isn't understood, and 3 for want of memory or where the error output fails.
 pub(crate) fn tell_script_fault<E: Sink>(fault: &ScriptFault, err: &mut E) -> u8
     requires { E.failed err.old < 2 ^ 64 - 1 }
     ensures { IsErrorTold E.taken E.failed err.old err.new (script_page fault.now).err (script_page fault.now).status result }
@@ -316,7 +314,7 @@ pub(crate) fn tell_script_fault<E: Sink>(fault: &ScriptFault, err: &mut E) -> u8
     }
 }
 
-/// Tells why the words are no order, and gives the status: 0 with help on the output, 2 with a text on the error
+/// Prints why the words are no order, and gives the status: 0 with help on the output, 2 with a text on the error
 /// output, and 3 for want of memory. Where one of the two fails it is 3, and that output has taken a beginning.
 pub fn tell_words<O: Sink, E: Sink>(fault: &WordsFault, out: &mut O, err: &mut E) -> u8
     requires out { O.failed out.old < 2 ^ 64 - 1 }

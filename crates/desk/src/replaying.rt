@@ -218,8 +218,7 @@ fn replay<S: Alter, F: Folder, O: Sink, E: Sink>(
 
 /// Does a job in an opened office, prints what comes of it, and gives the status.
 ///
-/// So `perform` does, which opens the office for it. An office that is served is open already: an order that is handed over
-/// to it is followed here.
+/// `perform` opens an office, and then does the same. An office that is served is open already: an order that is handed over to it is followed here.
 pub fn follow<S: Alter, F: Folder, O: Sink, E: Sink>(
     alloc: Global,
     office: &mut Office<S>,
