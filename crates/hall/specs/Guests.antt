@@ -19,7 +19,7 @@ pub record Guest (L : Type 0) : Type 0 where
 abbrev pub visits_of : ℕ → List Visit → List Visit
 visits_of number visits = filter (λ visit. visit.number == number) visits
 
--- What was gathered for a turn are his own bytes who came in at this door, from the first one on, until they came to their end.
+-- What was gathered for a turn are the own bytes of him who came in at this door, from the first one on, until they came to their end.
 pub record IsGathered {L : Type 0} (given : Given) (line : Line L) (came : Comer L) (visit : Visit) : Type 0 where
   pub door : visit.door ≡ came.door
   pub heard : L

@@ -31,7 +31,7 @@ most_bytes = 67108864
 abbrev pub IsWithin : {L : Type 0} → Room L → Type 0
 IsWithin room = (length room.clients.items ≤ most_clients) × (bytes_held room.clients.items ≤ most_bytes)
 
--- one who was in at a place is let go: he had waited longest, and so long at least
+-- one who was in at a place is let go: he had waited longest, and at least so long
 pub record IsLetGo {L : Type 0} (least now : ℕ) (old : List (Client L)) (place : ℕ) (new : List (Client L)) : Type 0 where
   pub within : place < length old
   pub longest : (client : Client L) → IsLongest old (slice_index_or old place client)

@@ -6,7 +6,7 @@ use Rattle.gathering.specs.declared.client.Answer.{Answer}
 use Rattle.handover.specs.Frames.{AreWhole, IsOver, Place, at_kind, hear, in_bytes, in_length, nothing_heard, said_by}
 use Rattle.hall.specs.declared.outlet.Outlet.{Outlet}
 
--- An answer is whole frames, of which the line took the first bytes, so many, and nothing else.
+-- An answer is whole frames. Of these the line took the first bytes, so many, and nothing else.
 pub record IsGoingOut {L : Type 0} (line : Line L) (now : L) (answer : Answer) : Type 0 where
   pub whole : AreWhole answer.bytes.items
   pub told : IsTold line now answer.bytes.items answer.sent

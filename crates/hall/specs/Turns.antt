@@ -17,7 +17,7 @@ use Rattle.hall.specs.Visits.{ServesVisit, Visit}
 abbrev pub HasCome : Option (List ℕ) → Option (List ℕ) → List ℕ → Type 0
 HasCome given held got = IsWhole given got ⊎ IsAtEnd held
 
--- so it is of who came in at a door: the message of an order came whole
+-- the same of who came in at a door; for an order, that its message came whole
 abbrev pub HasComeAt : Door → Given → Option (List ℕ) → List ℕ → Type 0
 HasComeAt Clients given held got = HasCome given.origin held got
 HasComeAt Orders given held got = HasCameWhole got

@@ -225,7 +225,7 @@ fn answer_to<L: Line, A: Aside, S: Alter>(
     }
 }
 
-/// Tells a client more of his answer, if he has one.
+/// Puts out more of his answer to a client, if he has one.
 fn tell_more<L: Line>(client: &mut Client<L>) -> Attended
     ensures is { (start : L) → IsOf (line_of L.held L.taken) start client.old → IsOf (line_of L.held L.taken) start client.new }
     ensures same { IsSameClient client.old client.new }
