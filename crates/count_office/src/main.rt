@@ -189,8 +189,8 @@ fn copy<S: Alter, O: Sink, E: Sink>(
     }
 }
 
-/// Prints the journal of the office, once it was played over an empty one that is kept in memory alone. The office is
-/// only read. Of the memory nothing is asked: what is printed with status 0 makes the very office.
+/// Prints the journal of the office, once it was played over an empty one that is kept in memory alone. The office is only read.
+/// Nothing is asked of that memory: what is printed with status 0 makes the very office.
 fn journal<S: Alter, O: Sink, E: Sink>(
     rt: &HostRuntime,
     mut conn: Connection<S>,
@@ -229,8 +229,8 @@ fn failure_of(error: sqlite::Error) -> Failure {
     }
 }
 
-/// Why no copy is begun in files that were made for it, if it isn't: another program has made an office there before, which
-/// is left; or they can't be looked at.
+/// Why no copy is begun in files that were made for it, if none is: another program
+/// has made an office in them before, which is left; or they can't be looked at.
 fn why_not_begun(rt: &HostRuntime, fresh: &Fresh) -> Option<Failure> {
     match fresh.hold_none(rt) {
         Ok(true) => None,
@@ -310,8 +310,8 @@ fn fill_open<S: Alter, D: Disk + Drop, O: Sink, E: Sink>(
     finish(rt, fresh, made, status, state, err)
 }
 
-/// Makes a copy of the open office whose database is at a path, at another one where there is nothing yet. It goes on, and is
-/// only read.
+/// Makes a copy of the open office whose database is at a path; the copy comes to
+/// another path, where there is nothing yet. The office goes on, and is only read.
 fn copy_served<S: Alter, O: Sink, E: Sink>(
     rt: &HostRuntime,
     office: &mut Office<S>,
@@ -375,8 +375,8 @@ fn close<D: Disk + Drop>(conn: Connection<FileStore<D>>) -> Option<Files<D>>
 /// Opens the database at a path, which is held, does an order over it, and closes it. Where the order failed, nothing is
 /// left that wasn't there.
 ///
-/// Two stretches of writing rest on what `sqlite` states: `Connection::open_from` makes the log where it is
-/// missing and takes up what it holds, and `close` copies it; `perform` speaks of all between.
+/// Two stretches of writing rest on what `sqlite` states: `Connection::open_from` makes the log where it is missing and takes up
+/// what it holds, and `close` copies it. `perform` speaks of all between.
 fn perform_in<O: Sink, E: Sink>(
     rt: &HostRuntime,
     place: Place<'_>,
