@@ -27,7 +27,7 @@ const NOTHING: Case<'static> = (
 );
 
 /// Copies an office onto files that may stop, and judges what is found of the copy: the whole, or nothing where it wasn't
-/// answered. Tells whether it was.
+/// answered. Answers whether it was.
 fn copy_once<M: Machine + Drop>(
     rt: &(impl Abort + AllocGlobal),
     office: M,

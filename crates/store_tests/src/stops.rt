@@ -90,7 +90,7 @@ fn stop_under<M: Machine + Drop>(
 
 /// Does an order over disks of which one stops after so many calls, restarts them, and judges what is
 /// found: the rows before it, or those after it if it was answered or may have been. Sent again it ends as without
-/// the stop, and so does the ward's sheet. Tells whether the order was answered.
+/// the stop, and so does the ward's sheet. Answers whether the order was answered.
 fn stop_once<M: Machine + Drop>(
     rt: &(impl Abort + AllocGlobal),
     machine: M,
