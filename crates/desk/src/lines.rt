@@ -45,8 +45,8 @@ pub(crate) enum Outcome {
     Unjournalled,
 }
 
-/// Why the program gives up: a fault of the office, by its number 101 to 106 or 108; 107, an output that fails; 109, a copy that
-/// is there already; 110, a copy that can't be written; or 111, an order that isn't for an office that is being served.
+/// Why the program gives up. 101 to 106 and 108 are faults of the office. 107 is an output that fails, 109 a copy that is there
+/// already, 110 a copy that can't be written, and 111 an order that isn't for an office that is being served.
 #[derive(Clone, Copy, Debug, PartialEq, Eq, Drop, Error)]
 #[error("{}", self.text())]
 pub enum Failure {

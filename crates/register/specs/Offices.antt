@@ -130,8 +130,9 @@ changed compared change xs = map (λ x. if is_eq (compared x) then change x else
 
 -- ---- the state
 
--- The state of an office: the wards by number; the candidates by ward and number; the batches by number, and the third clerks by batch; the keyed
--- papers by batch, round, clerk and number; the judged papers by batch and number; the lots by ward and stage; and the receipts by actor and id.
+-- The state of an office, in maps. Wards are found by number, and candidates by ward and number. Batches are found by number, third clerks by batch,
+-- keyed papers by batch, round, clerk and number, and judged papers by batch and number. Lots are found by ward and stage, and receipts by actor and
+-- id.
 pub record OfficeState : Type 0 where
   pub wards : List WardEntry
   pub candidates : List CandidateEntry
