@@ -1,6 +1,6 @@
 -- What the queries by rowids show of a table, and why they fail.
 use Rattle.std.proofs.Common.{◌≡◌, inl, inr, ℕ, zero, suc, ℤ, ◌+◌, List, [], ◌∷◌, map, filter, drop, length, Bool, true, ◌&&◌, Option, Some, None, IfSome, Ok, Err, Result, IfOk, IfErr, IsTrue, refl, sym, ap, subst, ◌∙◌}
-use Rattle.std.specs.List.{AllByRecursion}
+use Rattle.std.specs.List.{AllByRecursion, list_all}
 use Rattle.std.specs.List.Sorted.{IsPermutation}
 use Rattle.std.proofs.lemmas.List.Sorted.{IsPermutation-sym, IsPermutation-map}
 use Rattle.std.proofs.Math.Bool.{and-true}
@@ -9,6 +9,7 @@ use Rattle.sqlite_rules.proofs.ListLemmas.{all_has, has_filtered}
 use Rattle.sqlite_typing.specs.Types.{accepts_program}
 use Rattle.sqlite.specs.declared.types.Value.TheVariants.{Int}
 use Rattle.sqlite.specs.Order.{Row}
+use Rattle.sqlite.specs.Term.{holds}
 use Rattle.sqlite.specs.Tree.{rowid}
 use Rattle.sqlite.specs.Effect.{Database}
 use Rattle.sqlite.specs.State.{State, HasCleanDisk, Shown}
@@ -27,7 +28,7 @@ use Rattle.tables.proofs.SelectLemmas.{reads_rows, shows_columns, tests_agree}
 use Rattle.tables.proofs.ListingLemmas.{begins_to, office_of}
 use Rattle.tables.proofs.QueriedRowsLemmas.{itself}
 use Rattle.tables.proofs.CauseLemmas.{if_fails, begun, either_way, places_length}
-use Rattle.tables.proofs.RunQueries.{selects_rowid, accepts_rowid, selects_between, accepts_between}
+use Rattle.tables.proofs.RunQueries.{selects_rowid, accepts_rowid, between_tests, selects_between, accepts_between}
 
 -- ---- the rowid of the row with a key
 
@@ -74,6 +75,9 @@ rowid_fails {X} t key many kinds c old new (Err f) clean at tells =
 
 -- ---- the rows whose rowids lie between two
 
+between_tested : (low high : ℤ) (r : Row) → list_all (holds ((Int low ∷ Int high ∷ []) ∷ r ∷ [])) between_tests ≡ lies_between low high r
+between_tested low high r = rw (and-true _) refl
+
 pub between_shown : (t : Table) (low high : ℤ) (db : Database) → BeginsTo t db.schema → (old new : State) (rows : List Row) → RestsAt db old
     → Shown (select_between_text t) (Int low ∷ Int high ∷ []) old new rows → IsPermutation (map (at (column_places t)) (run_of t low high db.trees)) rows
 between_shown t low high db begins old new rows rests shown =
@@ -83,15 +87,12 @@ between_shown t low high db begins old new rows rests shown =
     let has : old.now.schema ≡ schema_from (1 + place_of t) begins.rest begins.others begins.views = ap (λ (d : Database). d.schema) rests.now ∙ begins.is in
     let got = reads_rows (schema_from (1 + place_of t) begins.rest begins.others begins.views) (select_between_text t) (tree_of t) _ _ _ _
     ((selects_between t).select begins.rest begins.others begins.views)
-    (λ r. r) params test (λ _. []) (λ r. at (places_from 0 n) (drop 1 r)) (λ r. tested r) (λ r. refl) (λ r. shows_columns 0 n params r) old new rows has shown in
+    (λ r. r) params test (λ _. []) (λ r. at (places_from 0 n) (drop 1 r)) (between_tested low high) (λ r. refl) (λ r. shows_columns 0 n params r) old new rows has shown in
     let same : IsPermutation (map (λ r. at (places_from 0 n) (drop 1 r)) (filter test (old.now.trees (tree_of t)))) rows =
     subst (IsPermutation (map (λ r. at (places_from 0 n) (drop 1 r)) (filter test (old.now.trees (tree_of t))))) (sym got.shown)
     (subst (λ l. IsPermutation (map (λ r. at (places_from 0 n) (drop 1 r)) (filter test l)) (map (λ r. at (places_from 0 n) (drop 1 r)) got.ordered)) (mapped_itself (old.now.trees (tree_of t))) (IsPermutation-map (λ r. at (places_from 0 n) (drop 1 r)) _ _ got.same)) in
     subst (λ (d : Database). IsPermutation (map (at (column_places t)) (run_of t low high d.trees)) rows) rests.now
     (subst (λ l. IsPermutation l rows) (sym (mapped_twice (drop 1) (at (column_places t)) (filter test (old.now.trees (tree_of t))))) same)
-  where
-    tested : (r : Row) → _ ≡ lies_between low high r
-    tested r = rw (and-true _) refl
 
 pub if_between_shown : {X F : Type 0} (t : Table) (low high : ℤ) (db : Database) → BeginsTo t db.schema → (old new : State) (rows : X → List Row) (r : Result X F) → RestsAt db old
     → IfOk r (λ x. Shown (select_between_text t) (Int low ∷ Int high ∷ []) old new (rows x)) → IfOk r (λ x. IsPermutation (map (at (column_places t)) (run_of t low high db.trees)) (rows x))

@@ -19,7 +19,7 @@ ghost use Rattle.tables.specs.Contents.{Contents, RestsAt, RestsIfOpen};
 ghost use Rattle.tables.specs.Reading.{OnlyReads, FailsBy, alone};
 ghost use Rattle.tables.specs.Runs.{run_of, StandsAt};
 
-use crate::cells::integer_at;
+use crate::cells::{integer, integer_at};
 use crate::entry::Entries;
 use crate::fault::Fault;
 use crate::listing::entries_of;
@@ -98,8 +98,8 @@ pub fn rows_between<S: Alter>(
     ensures outside { conn.new.in_transaction ≡ false }
     ensures fails { HasCleanDisk (state S.Store conn.new) → (c : Contents) → RestsIfOpen c (state S.Store conn.old) → IfErr result (FailsBy (state S.Store conn.old) (state S.Store conn.new)) }
 {
-    let params = [ValueRef::Int(low), ValueRef::Int(high)];
-    query(conn, select_between_text(table), &params)
+    let bounds = [integer(low), integer(high)];
+    query(conn, select_between_text(table), &bounds)
 }
 
 /// The entries whose rows have rowids between two, both among them, in whatever order; `Damaged` where a row is

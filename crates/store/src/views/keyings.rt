@@ -89,11 +89,11 @@ impl<S: Alter> Store<S> {
         ensures { Loads S.Store self.old self.new result (λ s found. AllByRecursion (Has s.keyings) (map keyed_entry found.items)) }
     {
         let first = self.find_first(batch.number, round, clerk)?;
-        let Some(first) = first else {
+        let Some(place) = first else {
             return Ok(Vec::new(self.allocator()));
         };
-        let last = first.saturating_add(i64::from(batch.size.saturating_sub(1)));
-        let papers = self.list_between(first, last)?;
+        let last = place.saturating_add(i64::from(batch.size.saturating_sub(1)));
+        let papers = self.list_between(place, last)?;
         Ok(papers)
     }
 
@@ -107,11 +107,11 @@ impl<S: Alter> Store<S> {
         ensures { Loads S.Store self.old self.new result (λ s found. IfSome found (λ papers. map keyed_entry papers.items ≡ keying_of s batch round clerk)) }
     {
         let found = self.find_batch(batch)?;
-        let Some(found) = found else {
+        let Some(given) = found else {
             return Ok(None);
         };
-        let papers = self.list_run(&found, round, clerk)?;
-        if !is_keying(batch, round, clerk, found.size, &papers) {
+        let papers = self.list_run(&given, round, clerk)?;
+        if !is_keying(batch, round, clerk, given.size, &papers) {
             return Ok(None);
         }
         Ok(Some(papers))
@@ -127,8 +127,8 @@ impl<S: Alter> Store<S> {
         ensures { Loads S.Store self.old self.new result (λ s found. map keyed_entry found.items ≡ keying_of s batch round clerk) }
     {
         let found = self.find_run(batch, round, clerk)?;
-        if let Some(papers) = found {
-            return Ok(papers);
+        if let Some(run) = found {
+            return Ok(run);
         }
         let papers = self.list_by_key(batch, round, clerk)?;
         Ok(papers)
