@@ -1,12 +1,11 @@
 -- What the queries by rowids show of a table, and why they fail.
-use Rattle.std.proofs.Common.{◌≡◌, inl, inr, ℕ, zero, suc, ℤ, ◌+◌, List, [], ◌∷◌, map, filter, drop, length, Bool, true, ◌&&◌, Option, Some, None, IfSome, Ok, Err, Result, IfOk, IfErr, IsTrue, refl, sym, ap, subst, ◌∙◌}
+use Rattle.std.proofs.Common.{◌≡◌, ℤ, ◌+◌, List, [], ◌∷◌, map, filter, drop, length, true, Option, Some, None, IfSome, Ok, Err, Result, IfOk, IfErr, refl, sym, ap, subst, ◌∙◌}
 use Rattle.std.specs.List.{AllByRecursion, list_all}
 use Rattle.std.specs.List.Sorted.{IsPermutation}
 use Rattle.std.proofs.lemmas.List.Sorted.{IsPermutation-sym, IsPermutation-map}
 use Rattle.std.proofs.Math.Bool.{and-true}
 use Rattle.sqlite_rules.specs.Lists.{Has}
 use Rattle.sqlite_rules.proofs.ListLemmas.{all_has, has_filtered}
-use Rattle.sqlite_typing.specs.Types.{accepts_program}
 use Rattle.sqlite.specs.declared.types.Value.TheVariants.{Int}
 use Rattle.sqlite.specs.Order.{Row}
 use Rattle.sqlite.specs.Term.{holds}
@@ -23,9 +22,8 @@ use Rattle.tables.specs.Reading.{FailsBy, HasOther, alone}
 use Rattle.tables.specs.Runs.{lies_between, run_of, StandsAt}
 use Rattle.tables.specs.Faults.{TellsQuery}
 use Rattle.tables.proofs.ListLemmas.{mapped_has, has_mapped, mapped_same, mapped_twice, mapped_itself, permuted_has, all_from, has_at}
-use Rattle.tables.proofs.ReadLemmas.{rests_at}
 use Rattle.tables.proofs.SelectLemmas.{reads_rows, shows_columns, tests_agree}
-use Rattle.tables.proofs.ListingLemmas.{begins_to, office_of}
+use Rattle.tables.proofs.ListingLemmas.{office_of}
 use Rattle.tables.proofs.QueriedRowsLemmas.{itself}
 use Rattle.tables.proofs.CauseLemmas.{if_fails, begun, either_way, places_length}
 use Rattle.tables.proofs.RunQueries.{selects_rowid, accepts_rowid, between_tests, selects_between, accepts_between}
