@@ -5,7 +5,7 @@
 //! whether they are the keying. Where they aren't, as in an office whose rows came in another order, each is looked
 //! up.
 
-ghost use Rattle.std.specs.Prelude.{◌≡◌, ◌&&◌, map, IfSome};
+ghost use Rattle.std.specs.Prelude.{◌≡◌, ◌&&◌, ⊤, map, IfSome};
 ghost use Rattle.std.specs.List.{AllByRecursion, list_all};
 ghost use Rattle.sqlite_rules.specs.Lists.{Has};
 ghost use Rattle.register.specs.Offices.{keyed_entry, keying_of};
