@@ -12,7 +12,7 @@ ask() {
     curl --silent --show-error --max-time 60 --write-out '\nstatus %{http_code}, %{content_type}\n' "$@" "http://127.0.0.1:$port$target"
 }
 
-# The lines that an answer has beside its type, its length and its body.
+# The lines that an answer has besides its length and its body.
 look() {
     local target=$1
     shift

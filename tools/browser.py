@@ -182,7 +182,7 @@ class Window:
         self.send("Page.close")
 
     def labels(self, role):
-        """The names by which a screen reader tells what has a role."""
+        """The names that a screen reader reads out of what has a role."""
         nodes = self.call("Accessibility.getFullAXTree")["nodes"]
         return [node["name"]["value"] for node in nodes if not node["ignored"] and node["role"]["value"] == role]
 
@@ -236,7 +236,7 @@ class Browser(Window):
         raise Wrong("Chromium doesn't start")
 
     def told(self, method, target):
-        """What the browser tells of its windows."""
+        """What the browser says of its windows."""
         line = http.client.HTTPConnection(HERE, self.port, timeout=SECONDS)
         line.request(method, target)
         said = json.loads(line.getresponse().read())

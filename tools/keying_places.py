@@ -173,7 +173,7 @@ def let_in(process, port):
 
 
 class Line:
-    """What stands between browsers and the office: it notes what is asked, and may break behind an answer."""
+    """What stands between browsers and the office: it notes what is asked, and may break once an answer is there."""
 
     def __init__(self, office):
         self.office, self.asked, self.cuts = office, [], 0

@@ -86,7 +86,7 @@ pub record IsLetIn {S : Type 0} (given : GivenEntry) (state_of : Held S → Stat
 abbrev pub MeetsClient : {S : Type 0} → GivenEntry → (Held S → State) → Desk S → Visit → Desk S → Type 0
 MeetsClient given state_of old visit new = IsKeptWaiting given old visit new ⊎ IsLetIn given state_of old visit new
 
--- who came in at a door had his turn: a client's; or an order is followed, and no answer is kept behind it
+-- who came in at a door had his turn: a client so; or an order is followed, no answer is kept behind it, and no wrong code is noted
 abbrev pub ServesAt : {S : Type 0} → Door → Given → (Held S → State) → Desk S → Visit → Desk S → Type 0
 ServesAt Clients given state_of old visit new = MeetsClient given.clients state_of old visit new
 ServesAt Orders given state_of old visit new =

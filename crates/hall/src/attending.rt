@@ -120,8 +120,10 @@ fn served<S: Alter>(
 ) -> (Vec<u8>, bool)
     ensures served { HasServed (given_entry given.entry) (state S.Store) office.old got.now result.0.items office.new }
     ensures read { result.1 ≡ true → WhenOpenAt (state S.Store) office.old office.new
-        (λ s. (what : Reading) → Asks (given_entry given.entry) got.now (reading what) → IsRead (given_entry given.entry) s got.now result.0.items × IsOpenAt s office.new.closed (state S.Store office.new.held)) }
-    ensures asked { WhenOpenAt (state S.Store) office.old office.new (λ s. (what : Reading) → Asks (given_entry given.entry) got.now (reading what) → IsReadAt s office.new.closed (state S.Store office.new.held)) }
+        (λ s. (what : Reading) → Asks (given_entry given.entry) got.now (reading what)
+        → IsRead (given_entry given.entry) s got.now result.0.items × IsOpenAt s office.new.closed (state S.Store office.new.held)) }
+    ensures asked { WhenOpenAt (state S.Store) office.old office.new
+        (λ s. (what : Reading) → Asks (given_entry given.entry) got.now (reading what) → IsReadAt s office.new.closed (state S.Store office.new.held)) }
 {
     let mut reader = Gathered::new(got);
     let mut writer = Writing::new(alloc);

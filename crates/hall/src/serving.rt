@@ -96,7 +96,8 @@ fn go_on<L: Line, C: Clock, A: Aside, S: Alter>(
     requires untold { IsUntold (line_of L.held L.taken) client }
     ensures is { (start : L) → IsOf (line_of L.held L.taken) start client → IsOf (line_of L.held L.taken) start result.0 }
     ensures same { (result.0.door ≡ client.door) × (result.0.number ≡ client.number) }
-    ensures turn { (now : ℕ) × MayHaveTurn (given_in terms.entry) (line_of L.held L.taken) (state S.Store) now client result.0 (desk_at office.old (kept_in kept.old)) (desk_at office.new (kept_in kept.new)) }
+    ensures turn { (now : ℕ) × MayHaveTurn (given_in terms.entry) (line_of L.held L.taken) (state S.Store) now client result.0
+        (desk_at office.old (kept_in kept.old)) (desk_at office.new (kept_in kept.new)) }
 {
     match moment_at_gate(clock, terms) {
         Ok(now) => go_on_now(alloc, clock, terms, now, aside, client, office, kept),
@@ -127,7 +128,8 @@ fn go_on_at<L: Line + Drop, C: Clock, A: Aside, S: Alter>(
 ) -> Result<(), Broken>
     requires place { place < length room.old.clients.items }
     requires sound { IsSound (given_in terms) (line_of L.held L.taken) room.old }
-    ensures goes_on { (let_in : Option (List (Comer L))) → GoesOnServing (given_in terms.entry) (line_of L.held L.taken) (state S.Store) let_in let_in room.old room.new (desk_at office.old (kept_in kept.old)) (desk_at office.new (kept_in kept.new)) }
+    ensures goes_on { (let_in : Option (List (Comer L))) → GoesOnServing (given_in terms.entry) (line_of L.held L.taken) (state S.Store) let_in let_in room.old room.new
+        (desk_at office.old (kept_in kept.old)) (desk_at office.new (kept_in kept.new)) }
     ensures came { room.new.came ≡ room.old.came }
     ensures counted { room.new.counted ≡ room.old.counted }
     ensures within { IsWithin room.old → OnOk result (IsWithin room.new) }
@@ -154,7 +156,8 @@ fn go_on_numbered<L: Line + Drop, C: Clock, A: Aside, S: Alter>(
     kept: &mut Remembered,
 ) -> Result<(), Broken>
     requires { IsSound (given_in terms) (line_of L.held L.taken) room.old }
-    ensures goes_on { (let_in : Option (List (Comer L))) → GoesOnServing (given_in terms.entry) (line_of L.held L.taken) (state S.Store) let_in let_in room.old room.new (desk_at office.old (kept_in kept.old)) (desk_at office.new (kept_in kept.new)) }
+    ensures goes_on { (let_in : Option (List (Comer L))) → GoesOnServing (given_in terms.entry) (line_of L.held L.taken) (state S.Store) let_in let_in room.old room.new
+        (desk_at office.old (kept_in kept.old)) (desk_at office.new (kept_in kept.new)) }
     ensures came { room.new.came ≡ room.old.came }
     ensures counted { room.new.counted ≡ room.old.counted }
     ensures within { IsWithin room.old → OnOk result (IsWithin room.new) }
@@ -177,7 +180,8 @@ fn go_on_all<D: Doors, C: Clock, A: Aside, S: Alter>(
     kept: &mut Remembered,
 ) -> Result<(), Broken>
     requires { IsSound (given_in terms) (line_of D.Line.held D.Line.taken) room.old }
-    ensures goes_on { GoesOnServing (given_in terms.entry) (line_of D.Line.held D.Line.taken) (state S.Store) (D.came doors.old) (D.came doors.new) room.old room.new (desk_at office.old (kept_in kept.old)) (desk_at office.new (kept_in kept.new)) }
+    ensures goes_on { GoesOnServing (given_in terms.entry) (line_of D.Line.held D.Line.taken) (state S.Store) (D.came doors.old) (D.came doors.new) room.old room.new
+        (desk_at office.old (kept_in kept.old)) (desk_at office.new (kept_in kept.new)) }
     ensures came { room.new.came ≡ room.old.came }
     ensures counted { room.new.counted ≡ room.old.counted }
     ensures within { IsWithin room.old → OnOk result (IsWithin room.new) }
@@ -271,7 +275,8 @@ fn go_round<D: Doors, C: Clock, A: Aside, S: Alter>(
     kept: &mut Remembered,
 ) -> Result<bool, Broken>
     requires { IsSound (given_in terms) (line_of D.Line.held D.Line.taken) room.old }
-    ensures goes_on { GoesOnServing (given_in terms.entry) (line_of D.Line.held D.Line.taken) (state S.Store) (D.came doors.old) (D.came doors.new) room.old room.new (desk_at office.old (kept_in kept.old)) (desk_at office.new (kept_in kept.new)) }
+    ensures goes_on { GoesOnServing (given_in terms.entry) (line_of D.Line.held D.Line.taken) (state S.Store) (D.came doors.old) (D.came doors.new) room.old room.new
+        (desk_at office.old (kept_in kept.old)) (desk_at office.new (kept_in kept.new)) }
     ensures few { room.old.counted ≤ most → room.new.counted ≤ most }
     ensures within { IsWithin room.old → OnOk result (IsWithin room.new) }
     ensures all { result ≡ Ok true → (most ≤ room.new.counted) × (room.new.clients.items ≡ []) }
@@ -287,15 +292,15 @@ fn go_round<D: Doors, C: Clock, A: Aside, S: Alter>(
     Ok(false)
 }
 
-/// Serves those who come to the doors of an office, by what it was given, the origin of a proxy and the gate, if any: until so many
-/// clients came in and all who are in left, or without end, where no number is given. Orders that are handed over come in too, before
-/// clients, and don't count.
+/// Serves those who come to the doors of an office, by what it was given, the origin of a proxy and the gate, if any: until so
+/// many clients came in and all who are in left, or without end, where no number is given. Orders that are handed over come in
+/// too, before clients, and don't count.
 ///
 /// All are heard side by side, and so they are told their answers. Each has his turn once what he asks has come to its
-/// end: a client is served whole in it, and an order is followed whole, in the very office. At most 512 are in at once, with 64 MiB of what they sent and are to take. Past that the
-/// next waits at the doors, and who has waited longest is let go for him, if that is a second at least. One has half a minute
-/// for what he asks, and half a minute more to take his answer. Who is let go gets no answer. Who can't be let in now is
-/// let in later.
+/// end: a client is served whole in it, and an order is followed whole, in the very office. At most 512 are in at once, with
+/// 64 MiB of what they sent and are to take. Past that the next waits at the doors, and who has waited longest is let go for
+/// him, if that is a second at least. One has half a minute for what he asks, and half a minute more to take his answer. Who is
+/// let go gets no answer. Who can't be let in now is let in later.
 ///
 /// At the gate ten wrong codes under a clerk's number within a minute make everyone wait who asks there, for a minute: they
 /// are told so, and nothing else. The moments are those that the clock shows, and `tries` are the wrong codes that came before.
@@ -316,7 +321,8 @@ pub fn serve_hall<D: Doors, C: Clock, A: Aside, S: Alter>(
     connections: Option<u64>,
     office: &mut Office<S>,
 ) -> Result<(), Broken>
-    ensures served { ServesHall (given_in terms.entry) (line_of D.Line.held D.Line.taken) (state S.Store) (D.came doors.old) (D.came doors.new) connections (entries_of tries) office.old office.new result }
+    ensures served { ServesHall (given_in terms.entry) (line_of D.Line.held D.Line.taken) (state S.Store)
+        (D.came doors.old) (D.came doors.new) connections (entries_of tries) office.old office.new result }
     ensures closed { office.old.closed ≡ true → office.new ≡ office.old }
     ensures clean { HasCleanDisk (state S.Store office.new.held) → HasCleanDisk (state S.Store office.old.held) }
 {

@@ -8,7 +8,7 @@ use super::machine::{Machine, hear, hear_unchanged, play_acts};
 use super::steps::Step;
 use office::texts_are_there;
 use register::elections::elections_are_fair;
-use std::alloc::Global;
+use std::alloc::{AllocError, Global};
 use std::process::Abort;
 use std::test::Fail;
 
@@ -288,41 +288,59 @@ const UNAUTHORIZED: &str =
 const MUST_WAIT: &str =
     "HTTP/1.1 429 Too Many Requests\r\nContent-Type: application/json\r\nContent-Length: 32\r\nRetry-After: 60\r\nConnection: close\r\n\r\n{\"error\":\"too many wrong codes\"}";
 
-/// Clerk 4's work is told by his code alone, also where it was kept; and behind ten wrong codes nobody is told it. The wards are
-/// everyone's.
+/// What comes, and what is told: clerk 4's work by his code alone, also where it was kept; behind ten wrong codes nobody is told
+/// it. A sheet is everyone's.
+const AT_THE_GATE: [(&[u8], &str); 18] = [
+    (BY_HIS_CODE, FOUR_TO_KEY),
+    (BY_HIS_CODE, FOUR_TO_KEY),
+    (FOUR, UNAUTHORIZED),
+    (BY_HIS_CODE, FOUR_TO_KEY),
+    (SHEET, WRONG_PHASE),
+    (BY_A_WRONG_ONE, UNAUTHORIZED),
+    (BY_A_WRONG_ONE, UNAUTHORIZED),
+    (BY_A_WRONG_ONE, UNAUTHORIZED),
+    (BY_A_WRONG_ONE, UNAUTHORIZED),
+    (BY_A_WRONG_ONE, UNAUTHORIZED),
+    (BY_A_WRONG_ONE, UNAUTHORIZED),
+    (BY_A_WRONG_ONE, UNAUTHORIZED),
+    (BY_A_WRONG_ONE, UNAUTHORIZED),
+    (BY_A_WRONG_ONE, UNAUTHORIZED),
+    (BY_A_WRONG_ONE, UNAUTHORIZED),
+    (BY_HIS_CODE, MUST_WAIT),
+    (FOUR, MUST_WAIT),
+    (SHEET, WRONG_PHASE),
+];
+
+/// Those who come to the gate.
+fn knocking<'a>(alloc: Global) -> Result<Vec<Option<Client<'a>>>, AllocError> {
+    let mut comers = Vec::new(alloc);
+    for (sends, _) in &AT_THE_GATE {
+        comers.push(Some(Client::whole(*sends)))?;
+    }
+    Ok(comers)
+}
+
+/// What they are told.
+fn told_at_the_gate(alloc: Global) -> Result<Vec<&'static str>, AllocError> {
+    let mut texts = Vec::new(alloc);
+    for (_, told) in &AT_THE_GATE {
+        texts.push(*told)?;
+    }
+    Ok(texts)
+}
+
+/// An evening with codes: each is told by his own alone.
 fn come_with_codes<M: Machine + Drop>(
     rt: &(impl Abort + AllocGlobal),
     machine: M,
 ) -> Result<M, Fail> {
-    let mut comers = Vec::new(rt.alloc());
-    let mut texts = Vec::new(rt.alloc());
-    for (sends, told) in [
-        (BY_HIS_CODE, FOUR_TO_KEY),
-        (BY_HIS_CODE, FOUR_TO_KEY),
-        (FOUR, UNAUTHORIZED),
-        (BY_HIS_CODE, FOUR_TO_KEY),
-        (SHEET, WRONG_PHASE),
-    ] {
-        comers.push(Some(Client::whole(sends)))?;
-        texts.push(told)?;
-    }
-    for _ in 0..10 {
-        comers.push(Some(Client::whole(BY_A_WRONG_ONE)))?;
-        texts.push(UNAUTHORIZED)?;
-    }
-    for (sends, told) in [
-        (BY_HIS_CODE, MUST_WAIT),
-        (FOUR, MUST_WAIT),
-        (SHEET, WRONG_PHASE),
-    ] {
-        comers.push(Some(Client::whole(sends)))?;
-        texts.push(told)?;
-    }
+    let comers = knocking(rt.alloc())?;
+    let texts = told_at_the_gate(rt.alloc())?;
     let evening = Evening {
         codes: Some(CODES),
-        ..Evening::of(comers.as_slice())
+        ..Evening::of(&comers)
     };
-    serve_all(rt, machine, evening, texts.as_slice())
+    serve_all(rt, machine, evening, &texts)
 }
 
 /// Of bodies of a megabyte each, 63 may be held at once. Where one more comes, who has waited longest is let go, and nobody else.
