@@ -4,8 +4,8 @@
     bench/bundles.py [PAPERS ...]        1000000 where none is given
 
 The papers come from the program `made_up_ward`, whose generator is fixed: each made up for itself, or drawn from 2000 lists, as
-a ward's papers usually look. Counted is to the end. What a stage takes is told by the count to the end less the one to the first
-stage, by the stages between. Times are the shortest of three runs, in one process each, and peaks of memory those of the process.
+a ward's papers usually look. The program counts them to the end. What a stage takes is the time of that count, less the one to the
+first stage, divided by the stages between. Times are the shortest of three runs, in one process each, and peaks of memory those of the process.
 The program is proved and built first where it has to be.
 """
 

@@ -4,7 +4,7 @@
     bench/cost.py [--write] [PAPERS ...]        1000 10000 100000 where none is given; a multiple of 500 each
 
 With --write the table is put into docs/COST.md, in the place of the one that stands there. The wards are those of keying.py and
-counting.py, which tell how each is made and timed; keyings over HTTP are those of serving.py, of wards of up to 10000 papers.
+counting.py, which say how each is made and timed; keyings over HTTP are those of serving.py, of wards of up to 10000 papers.
 Nothing else should run: take the machine for a quarter of an hour.
 """
 
@@ -39,20 +39,20 @@ def measured(count):
     with tempfile.TemporaryDirectory() as folder:
         anew, again, _ = serving.sheets(folder, count)
         rows.append(("a sheet of 3 stages over HTTP, the office open", anew, None))
-        rows.append(("the same asked again, told from memory", again, None))
+        rows.append(("the same asked again, answered from memory", again, None))
     with tempfile.TemporaryDirectory() as folder:
         rows += others.measure(folder, count)[others.COMPARED:]
     return rows
 
 
 def all_orders():
-    """The orders that the program tells of."""
+    """The orders that the program's help lists."""
     told = subprocess.run([keying.PROGRAM, "--help"], capture_output=True, text=True, check=True).stdout
     return set(re.findall(r"^  ([a-z]+(?:-[a-z]+)?)(?: \[?[A-Z]+\]?)?  +[A-Z]", told, re.M))
 
 
 def label(name):
-    """What a reader of the page is told of an order."""
+    """What the page says of an order."""
     name = re.sub(r"all [0-9]+ stages", "all stages", name).replace("ward 8 2 Quay", "ward of another ward")
     name = re.sub(r"its [0-9]+ rows", "its rows", name)
     return re.sub(r"^([a-z]+(-[a-z]+)?(?= |,|$))(?! keying of| sheet of| rows (read|added))", r"`\1`", name)
@@ -65,7 +65,7 @@ def cell(seconds, peak):
 
 
 def processor():
-    """The name of the machine's processor, as Linux tells it."""
+    """The name of the machine's processor, as Linux gives it."""
     try:
         with open("/proc/cpuinfo", encoding="utf-8") as file:
             names = re.findall(r"^model name\s*: (.*)$", file.read(), re.M)

@@ -5,7 +5,7 @@
 
 The ward is that of keying.py, with one more ward that takes nominations, and one more batch, whose two keyings differ. Each
 order is timed on a copy of the file, as the shortest of several runs. `migrate` is given to an office of version 1 with the same
-rows, `serve` answers one request. The last line tells what the script `count-office` takes beyond the program.
+rows, `serve` answers one request. The last line says what the script `count-office` takes beyond the program.
 """
 
 import os

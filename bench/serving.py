@@ -5,7 +5,8 @@
 
 Keyings: the batches of a ward, 500 papers each, are keyed by a clerk over loopback to one `serve`, a connection each, and on a
 copy of the file by one order each. Sheets: of a ward of so many papers with three stages done, over loopback, a connection
-each; read anew for each, and told again from memory. Both are told a second; the times of `serve` don't have its opening in them.
+each; read anew for each, and answered again from memory. The script prints how many of each come a second; the opening of `serve`
+isn't in its times.
 """
 
 import http.client
@@ -104,7 +105,7 @@ def advance_to_sheet(folder, count):
 
 
 def asked_again(serve, target):
-    """Seconds for what is asked, read anew each time, and told from memory."""
+    """Seconds for what is asked, read anew each time, and answered from memory."""
     def seconds():
         began = time.perf_counter()
         serve.ask("GET", target)
@@ -112,7 +113,7 @@ def asked_again(serve, target):
 
     anew = []
     for _ in range(SHEETS):
-        # What is no read ends what is told from memory.
+        # What is no read ends the answers from memory.
         with socket.create_connection(("127.0.0.1", serve.port), timeout=60) as line:
             line.sendall(b"GET /nothing HTTP/1.1\r\n\r\n")
             while line.recv(65536):
@@ -123,7 +124,7 @@ def asked_again(serve, target):
 
 
 def sheets(folder, count):
-    """Seconds for a stage sheet over HTTP, read anew and told from memory, and by an order."""
+    """Seconds for a stage sheet over HTTP, read anew and answered from memory, and by an order."""
     town = advance_to_sheet(folder, count)
     serve = Serve(town, 3 * SHEETS + 1)
     serve.wait_for("/clerks/4/work")
@@ -141,7 +142,7 @@ def main():
         over_http, by_orders = keyings(folder, count)
         print(f"{count} papers keyed: {count / over_http:8.0f} papers a second over HTTP, {count / by_orders:8.0f} by orders")
         anew, again, by_order = sheets(folder, count)
-        print(f"stage sheet of {count} papers: {1 / anew:6.1f} a second over HTTP, read anew, {1 / again:6.1f} told from memory, {1 / by_order:6.1f} by orders")
+        print(f"stage sheet of {count} papers: {1 / anew:6.1f} a second over HTTP, read anew, {1 / again:6.1f} answered from memory, {1 / by_order:6.1f} by orders")
 
 
 if __name__ == "__main__":

@@ -6,8 +6,8 @@
 Keyings: twenty clerks key batches of 500 papers, while 300 connections say nothing; before it one at a time. They key as
 fast as they are answered, or with a pause of a second on average. Requests: how many a second are answered to 1, 20 and 200 clients,
 each of whom asks again and again for a clerk's work; beside it what `ab` counts, where it is there. Sheets: of a ward of a tenth of
-the papers, read anew each time, and told again. Orders: of a ward of so many papers, each given alone, and handed over to an office
-that is served. Each is timed on a copy of the file, as the shortest of several runs. Memory: what `serve` takes before anybody has
+the papers, read anew each time, and answered from memory. Orders: of a ward of so many papers, each given alone, and handed over to an
+office that is served. Each is timed on a copy of the file, as the shortest of several runs. Memory: what `serve` takes before anybody has
 come, and with 512 connections, each of which has sent half of a body of 1 MiB.
 
 With --write the tables are put into docs/COST.md, in the place of those that stand there. Where PAPERS are fewer than 10000 all
@@ -131,7 +131,7 @@ def keyings(folder, sizes):
             (f"{CLERKS} clerks beside {SILENT} silent connections", keyed_beside_silent(serve, part[1], 0)),
             ("the same, each with a pause of a second on average", keyed_beside_silent(serve, part[2], 1))]
     ended(serve)
-    lines = [f"| Keyings of {BATCH} papers | keyings | the middle one, ms | the slowest, ms | as the slowest of one clerk | a second |", "|---|" + "---|" * 5]
+    lines = [f"| Keyings of {BATCH} papers | keyings | the middle one, ms | the slowest, ms | beside the slowest of one clerk | a second |", "|---|" + "---|" * 5]
     for what, (times, seconds) in rows:
         lines.append(f"| {what} | {len(times)} | {1000 * times[len(times) // 2]:.1f} | {1000 * times[-1]:.1f} | {times[-1] / lone[0][-1]:.1f} times | {len(times) / seconds:.0f} |")
     return lines
@@ -197,7 +197,7 @@ def sheets(folder, sizes):
     ended(serve)
     return [f"| A sheet of {sizes.sheet:,} papers over HTTP, 3 stages done | a second | ms |", "|---|---|---|",
             f"| read anew each time | {1 / anew:.0f} | {1000 * anew:.1f} |",
-            f"| told from memory, since nothing has changed | {1 / again:,.0f} | {1000 * again:.1f} |"]
+            f"| answered from memory, since nothing has changed | {1 / again:,.0f} | {1000 * again:.1f} |"]
 
 
 def with_differing_batch(folder, count):
@@ -282,7 +282,7 @@ def orders_in_count(folder, count, runs):
 
 def orders(folder, sizes):
     """The lines of the table of orders."""
-    lines = [f"| Order, {sizes.orders:,} papers | alone | while it is served | of that |", "|---|---|---|---|"]
+    lines = [f"| Order, {sizes.orders:,} papers | alone | while it is served | as a part of alone |", "|---|---|---|---|"]
     for number, part in enumerate((orders_in_keying, orders_in_count)):
         here = os.path.join(folder, str(number))
         os.makedirs(here)

@@ -17,7 +17,7 @@ mute_office() {
     "$here/launch" "$@" >/dev/full
 }
 
-# Tells which files there are.
+# Shows which files there are.
 list_files() {
     echo "files: $(ls -x "$folder" --ignore=output --ignore=errors --ignore=played)"
 }
@@ -46,7 +46,7 @@ list_files() {
     office=cramped_office play town.db copy evening.db
     list_files
 
-    # where the reply can't be told, the copy stands
+    # where the reply can't be printed, the copy stands
     office=mute_office play town.db copy noon.db
     play noon.db receipts 4
 

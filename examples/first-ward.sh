@@ -10,7 +10,7 @@ cramped_office() {
     (ulimit -f 1 && "$here/launch" "$@")
 }
 
-# Tells which files there are.
+# Shows which files there are.
 list_files() {
     echo "files: $(ls -x "$folder" --ignore=output --ignore=errors --ignore=played)"
 }

@@ -28,7 +28,7 @@ await_office() {
     done
 }
 
-# Types a line, and tells what it printed and its status.
+# Types a line, and shows what it printed and its status.
 type_line() {
     local line=$1 status=0
     eval "${line//8080/$port}" >output 2>errors </dev/null || status=$?

@@ -1,6 +1,6 @@
 #!/usr/bin/env bash
-# Plays a keying over HTTP: two clerks ask for their work, key a batch from a client, and the sheet is asked for; pages from elsewhere
-# are told nothing.
+# Plays a keying over HTTP: two clerks ask for their work, key a batch from a client, and a client asks for the sheet. Pages from
+# elsewhere get nothing.
 source "$(dirname "$(readlink -f "${BASH_SOURCE[0]}")")/play.bash"
 
 # Asks the office that serves: a target, for a keying its body, and headers.
@@ -38,7 +38,7 @@ serve_too() {
 
 key() {
     local port=$1 keyed='{"id":"k1","round":1,"papers":["1,2,","D"]}'
-    # a database of no office is told before the port is
+    # the program reports a database of no office before it reports the port
     serve_too "$port"
     play other.db init
     serve_too "$port"

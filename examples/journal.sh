@@ -1,5 +1,5 @@
 #!/usr/bin/env bash
-# Plays an evening that is put right from its journal alone. A bundle was given out twice, a verdict was mistyped, and the tellers
+# Plays an evening that is put right from its journal alone. A pile of papers was given out twice, a verdict was mistyped, and the tellers
 # wrote their files over. Then names that look like words of a script, and journals that were cut, doubled and mixed up.
 source "$(dirname "$(readlink -f "${BASH_SOURCE[0]}")")/play.bash"
 
@@ -22,13 +22,13 @@ mute_office() {
     "$here/launch" "$@" >/dev/full
 }
 
-# Tells which orders differ between a text and the journal of an office, as the guide has it.
+# Shows which orders differ between a text and the journal of an office, as the guide has it.
 tell_beside() {
     echo "$1 beside the journal of $2:"
     (cd "$folder" && "$office" "$2" journal | diff -B -I '^#' "$1" -) || true
 }
 
-# Tells what differs between two files.
+# Shows what differs between two files.
 tell_changes() {
     echo "changes:"
     (cd "$folder" && diff "$1" "$2") || true
@@ -46,7 +46,7 @@ printf '%s\n' ward,candidate,name 7,1,Ann 7,2,Bob 7,3,Cy 7,4,Dee >"$folder/names
     key_batch 12 k1 paper,1,2,3 1,1,2, 2,1,2, 3,,1, 4,D,,
     play town.db batch 13 7 3 4 9 --id b2
     key_batch 13 k2 paper,1,2,3 1,,,1 2,,,1 3,1,,
-    # the bundle of batch 12 once more
+    # the papers of batch 12 once more
     play town.db batch 14 7 4 4 9 --id b3
     key_batch 14 k3 paper,1,2,3 1,1,2, 2,1,2, 3,,1, 4,D,,
     # paper 4 was accepted for Cy, and is typed as rejected
@@ -92,7 +92,7 @@ printf '%s\n' ward,candidate,name 7,1,Ann 7,2,Bob 7,3,Cy 7,4,Dee >"$folder/names
     play new.db declare 7 --id d1
     play new.db wards
 
-    # a line that is gone takes with it what rests on it: told line by line, or all at once by a script that keeps going
+    # a line that is gone takes with it what rests on it: printed line by line, or all at once by a script that keeps going
     grep -v '^batch 13 ' "$folder/evening.txt" >"$folder/without.txt"
     play less.db init
     play less.db replay without.txt

@@ -1,11 +1,11 @@
 #!/usr/bin/env python3
-"""Plays the transcripts in examples/transcripts/: what is asked of the office is asked of the program, and what it tells compared.
+"""Plays the transcripts in examples/transcripts/: asks the program what each transcript asks, and compares what it prints.
 
 usage: examples/play_transcripts.py [NAME..]        the transcripts of these names, or all; prints a line for each
        COUNT_OFFICE names the program, and CHECK_COUNT the checker, or they are those of `./count-office`
 
 transcript.py says what a transcript is. Where a play left an office that orders made, its journal is then sent to a new file: it makes
-the same rows there. Ends with status 1 where anything else is told.
+the same rows there. Ends with status 1 where the program prints anything else.
 """
 import contextlib
 import json
@@ -31,7 +31,7 @@ from transcript import read  # noqa: E402
 
 
 class Wrong(Exception):
-    """Something else was told than a transcript has, or it can't be read."""
+    """The program printed something else than the transcript has, or the transcript can't be read."""
 
 
 def program(named, *words):
@@ -163,22 +163,22 @@ def work_of(folder, clerk):
     if "refusal" in told:
         return f"refused {told['refusal']}: {told['text']}\n"
     if told.get("clerk") != int(clerk):
-        raise Wrong(f"is told {told}")
+        raise Wrong(f"prints {told}")
     return "".join(
         f"batch {one['batch']} ward {one['ward']} {one['columns']} size {one['size']} round {one['round']}: "
         f"{'keyed' if one['keyed'] else 'to key'}\n" for one in told["work"])
 
 
 def compare(asked, told):
-    """Compares a status, the output and the error output with what must be told."""
+    """Compares a status, the output and the error output with what a transcript has."""
     status, out, err = told
     if asked.within is not None:
         text, other = (err, out) if asked.status else (out, err)
         begins, within = asked.within
         if status != asked.status or not text.startswith(begins) or within not in text or other:
-            raise Wrong(f"is told {told}")
+            raise Wrong(f"prints {told}")
     elif told != (asked.status, asked.out, asked.err):
-        raise Wrong(f"is told {told}, and not {(asked.status, asked.out, asked.err)}")
+        raise Wrong(f"prints {told}, and not {(asked.status, asked.out, asked.err)}")
 
 
 def play_one(folder, asked):

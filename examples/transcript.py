@@ -3,11 +3,11 @@
 A transcript has plays, each over a new file, in a folder of its own:
 
     == play NAME[, from OTHER]     it goes on with the office as the play OTHER of this file left it
-    == part NAME                   what is asked and told in several plays: `== may change, part NAME`
+    == part NAME                   what is asked and printed in several plays: `== may change, part NAME`
     == changes nothing             of what follows: no row of any table is another then
     == may change
-    == damage: WORDS               each change that follows is made alone, in a copy, and the words are then told what stands
-                                   below; behind a status that isn't 0 all rows are as they were
+    == damage: WORDS               each change that follows is made alone, in a copy, and the words then print what stands
+                                   below; after a status that isn't 0 all rows are as they were
     == copied                      of the two orders that follow, both copies to copy.db: the same rows are in both, and it goes on
                                    with that file
     == older office                the file of an office that an earlier program made
@@ -22,7 +22,7 @@ A transcript has plays, each over a new file, in a folder of its own:
     1| refused 9: wrong phase              with a status that isn't 0, what goes to the error output (`0| ..` to the output)
     2~ error: .. 'now'                     that it begins so, and what stands in it
     # UPDATE ward SET phase = 2            statements, by the stock SQLite
-    @ 4                                    the work of a clerk, asked for over HTTP; told a line a batch
+    @ 4                                    the work of a clerk, asked for over HTTP; below it a line a batch
     % "3 2\\n" "3 0\\n"                    the checker, on the files `ballots` and `text`, where the first words in the ballots are
                                            replaced by the second; `%% ..` in the text, `%` alone nowhere
     > GET /clerks/1000/work HTTP/1.1       what a client sends, parted by line ends of HTTP, and the status and body of the answer
@@ -39,7 +39,7 @@ import shlex
 
 
 class Asked:
-    """What is asked by a line of a transcript, and what must be told of it."""
+    """What a line of a transcript asks, and what the program must print of it."""
 
     def __init__(self, number, kind, line):
         self.number, self.kind, self.line = number, kind, line

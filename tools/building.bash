@@ -5,7 +5,7 @@
 logs=$out/build
 # The memory that the proof of a crate takes, with the jobs of a lane.
 kilobytes_a_crate=6000000
-# How often it looks how far the builders are, and how often it tells the minutes that are left where no terminal is.
+# How often it looks how far the builders are, and how often it prints the minutes that are left where no terminal is.
 seconds_between_looks=5
 seconds_between_lines=120
 
@@ -156,8 +156,8 @@ read_clock() {
     now=$SECONDS
 }
 
-# Reads what a builder has told of its crate: how many functions are proved, and of how many; and what of the crate this call proves,
-# in hundredths: none where all was proved earlier, so that its time tells nothing of the crates to come.
+# Reads what a builder has printed of its crate: how many functions are proved, and of how many; and what of the crate this call proves,
+# in hundredths: none where all was proved earlier, so that its time says nothing of the crates to come.
 read_words() {
     local line
     proved=0 of=0 anew=0
@@ -190,8 +190,8 @@ look_at_work() {
     done
 }
 
-# Tells the minutes that are left, once a twentieth is proved and a minute has passed: what is left at the pace of what is proved, which
-# is reckoned anew with each function or crate that a builder tells. In between the time runs down, yet never below what waits.
+# Prints the minutes that are left, once a twentieth is proved and a minute has passed: what is left at the pace of what is proved, which
+# is reckoned anew with each function or crate that a builder prints. In between the time runs down, yet never below what waits.
 tell_left() {
     local now whole finished waits left text
     look_at_work
@@ -212,7 +212,7 @@ tell_left() {
     fi
 }
 
-# A process that ends when it is time to look again. It holds neither the lock nor what this call tells to.
+# A process that ends when it is time to look again. It holds neither the lock nor what this call prints to.
 start_ticking() {
     [[ -z $ticker && -n $can_tick ]] || return 0
     sleep "$seconds_between_looks" >/dev/null 2>&1 9>&- &

@@ -19,7 +19,7 @@ TOWN, LOG, FILE = "town.db", "town.db-wal", "rows.csv"
 COPY, COPY_LOG, SCRIPT = "copy.db", "copy.db-wal", "orders.txt"
 NO_OFFICE, NOT_WRITTEN = "fault 105: wrong database\n", "fault 110: copy not written"
 SECONDS = 60
-# What an order is told that is given again, where what it makes was found and it has no receipt.
+# What an order prints that is given again, where what it makes was found and it has no receipt.
 MADE = {"init": (3, "", NO_OFFICE), "migrate": (0, "office is at version 2\n", "")}
 
 CANDIDATES = ["ward,candidate,name"] + [f"7,{c},Candidate {c}" for c in range(1, 5)]
@@ -221,7 +221,7 @@ class Order:
         return (process.returncode, (out + text).decode(), err.decode()), os.path.exists(note)
 
     def answered(self, out):
-        """How many of its replies an output tells."""
+        """How many of its replies an output has."""
         return out.startswith("HTTP/1.1 200 ") if self.sends else out.count("\n")
 
 
@@ -248,7 +248,7 @@ class Trial:
         return Order(self.order.words, self.order.lines, self.order.sends, free_ports(20000 + 2000 * (self.number % 6)))
 
     def allowed(self, out, faults):
-        """Those of some faults that may be told behind an output: of a script with the line that was under way."""
+        """Those of some faults that the program may print after an output: of a script with the line that was under way."""
         if self.is_copy and out:
             return [fault for fault in faults if fault == NOT_WRITTEN]
         if self.is_script:
@@ -257,7 +257,7 @@ class Trial:
         return faults
 
     def is_fault(self, told, faults):
-        """Whether what was told is one of some faults."""
+        """Whether what was printed is one of some faults."""
         status, out, err = told
         if self.order.sends and not status:
             if not out and not err:
@@ -279,13 +279,13 @@ class Trial:
                 raise Wrong(f"answered, and lost: {told}")
             return "answered", place
         if not self.is_fault(told, faults):
-            raise Wrong(f"told {told}")
+            raise Wrong(f"printed {told}")
         if not self.order.answered(told[1]) <= place <= self.order.answered(told[1]) + 1:
             raise Wrong(f"{place} of {last} records found: {told}")
         return "told", place
 
     def check_beside(self, folder, told, refusal):
-        """Nothing stands beside the office but a copy that was told of, or what a disk that is gone keeps of one: all of it, or no office."""
+        """Nothing stands beside the office but a copy that was reported, or what a disk that is gone keeps of one: all of it, or no office."""
         there = set(os.listdir(folder)) - {TOWN, LOG, FILE, SCRIPT}
         if beside := there - ({COPY, COPY_LOG} if told[1] or refusal.get("REFUSING_WAY") == "gone" else set()):
             raise Wrong(f"left behind: {beside}: {told}")
@@ -293,7 +293,7 @@ class Trial:
             opened, _ = Order(["wards"]).done(copied(folder, folder + ".copy", COPY))
             is_right = opened[0] == 0 if rows(folder, COPY) else opened == (3, "", NO_OFFICE)
             if not is_right:
-                raise Wrong(f"what is left of a copy tells {opened}: {told}")
+                raise Wrong(f"what is left of a copy prints {opened}: {told}")
 
     def tried(self, order, refusal, faults):
         """Refuses, judges, and gives the order again. Nothing where it met no refusal."""
@@ -326,7 +326,7 @@ class Trial:
         return found, wrong
 
     def counts(self, found):
-        """How many were told a fault, were answered, left the rows before, after and in between."""
+        """How many reported a fault, were answered, left the rows before, after and in between."""
         last = len(self.states) - 1
         kinds = [what for what, _ in found]
         places = [place for _, place in found]

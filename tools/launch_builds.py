@@ -195,9 +195,9 @@ def at_any_moment(place, runs):
     return ended
 
 
-@case("a builder runs, and what is told is read no more")
+@case("a builder runs, and nobody reads any longer what the call prints")
 def unread(place, _):
-    # Beside it another one ends, and behind that a crate is told of.
+    # Beside it another one ends, and after that the script names a crate.
     place.write(os.path.join(place.checkout, "crates.txt"), CRATES.replace("left right\n", "left late\nlate: right\n"))
     place.write(place.source("late"), "line\n")
     place.note("does", ENDLESS.replace("|| [ $crate = right ]", "") + HELD.replace("= low", "!= right"))

@@ -88,7 +88,7 @@ def bash_to_read(place, _):
     return place.call("a", "b", **older_bash(place, "4", "3", "48")).must_be(4, "bash 4.4 or later is needed, and this is 4.3.48", "")
 
 
-FAILED = "this failed, and the program has to be built: {}; mend what is told above it, and call again"
+FAILED = "this failed, and the program has to be built: {}; mend what is reported above it, and call again"
 STEPS = {
     "old words are removed": ("rm", "out/build", "rm -rf CHECKOUT/out/build"),
     "the folder of the words is made": ("mkdir", "out/build", "mkdir CHECKOUT/out/build"),
@@ -142,7 +142,7 @@ def all_read_only(place, _):
 @case("a source that can't be read")
 def unreadable(place, _):
     os.chmod(place.source("left"), 0)
-    return place.call().must_be(4, "the sources in CHECKOUT/crates could not be read; call again once what is told above is mended", "")
+    return place.call().must_be(4, "the sources in CHECKOUT/crates could not be read; call again once what is reported above is mended", "")
 
 
 @case("a crates.txt without the program")
@@ -155,4 +155,4 @@ def unlisted(place, _):
 def unstartable(place, how):
     made(place)
     place.write(os.path.join(place.out, "count-office"), "#!/no/such/program\n", 0o755)
-    return place.call(*(["--version"] if "version" in how else [])).must_be(4, "CHECKOUT/out/count-office could not be started; see what is told above", "")
+    return place.call(*(["--version"] if "version" in how else [])).must_be(4, "CHECKOUT/out/count-office could not be started; see what is reported above", "")

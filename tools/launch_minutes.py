@@ -1,4 +1,4 @@
-"""The cases of tools/launching in which a build tells the minutes that are left, by a made-up clock."""
+"""The cases of tools/launching in which a build prints the minutes that are left, by a made-up clock."""
 import os
 import pty
 import re
@@ -7,7 +7,7 @@ import signal
 
 from launch_places import BEGINS, HELD, PROVING, case, found, is_alive
 
-# What a builder's words do: `takes N` lets so many seconds pass, `tells K N` tells so many functions, and both go on once the script has
+# What a builder's words do: `takes N` lets so many seconds pass, `tells K N` prints so many functions, and both go on once the script has
 # looked at it. It looks each time that its `sleep` ends, so the second beginning of one is behind a whole look.
 STEPS = """
 is_seen() {
@@ -48,21 +48,21 @@ def set_clock(place, does, processors=1):
 
 
 def told_of(place, *left):
-    """A build that has to tell these minutes, in this order, beside the crates."""
+    """A build that has to print these minutes, in this order, beside the crates."""
     ended = place.call("a", "b").must_have_printed()
     told = [line for line in ended.told() if line not in [BEGINS, *PROVING]]
     place.must(told == list(left), f"told: {told}, where {list(left)} is wanted")
     return ended
 
 
-@case("a build whose builders tell their functions")
+@case("a build whose builders print their functions")
 def by_functions(place, _):
     set_clock(place, A_LINE_A_MINUTE)
-    # The crates have 1, 9, 3 and 1 lines; a line is told each other minute.
+    # The crates have 1, 9, 3 and 1 lines; the script prints a line each other minute.
     return told_of(place, *(LEFT.format(minutes) for minutes in (13, 11, 9, 7, 5, 3)), LAST)
 
 
-@case("a build whose builders tell nothing before their end")
+@case("a build whose builders print nothing before their end")
 def by_crates(place, _):
     set_clock(place, "for line in $(seq $lines); do takes 60; done\n[ $crate != left ] || for more in 1 2 3 4 5; do takes 60; done\n")
     # Behind the first minute, of one line of 14, the time runs down. In the crate that takes five minutes more than its share it stops at
@@ -73,7 +73,7 @@ def by_crates(place, _):
 @case("a build of which some crates were proved earlier")
 def some_kept(place, _):
     set_clock(place, "[ $crate != low ] || { modules='loaded=9 checked=0'; takes 600; return 0; }\n" + A_LINE_A_MINUTE)
-    # The ten minutes of the first crate tell nothing of the 13 to come.
+    # The ten minutes of the first crate say nothing of the 13 to come.
     return told_of(place, *(LEFT.format(minutes) for minutes in (12, 10, 8, 6, 4, 2)), LAST)
 
 

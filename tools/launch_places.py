@@ -204,7 +204,7 @@ class Place:
         return [int(word) for line in self.noted("pids") for word in line.split()]
 
     def wait_for_lock(self):
-        """Waits until no call has the lock. Tells whether a builder, or what one started, was there then."""
+        """Waits until no call has the lock. Answers whether a builder, or what one started, was there then."""
         with open(os.path.join(self.out, "lock"), "rb") as lock:
             ends = time.monotonic() + PATIENCE
             while time.monotonic() < ends:
@@ -231,7 +231,7 @@ class Place:
 
 
 class Call:
-    """A call of the script, and what it tells: in files, which what it may leave behind can't hold open."""
+    """A call of the script, and what it prints: in files, so that no process that it leaves can hold a pipe open."""
 
     def __init__(self, place, words, errors, **how):
         self.place, self.elsewhere = place, place.tree()
@@ -244,7 +244,7 @@ class Call:
         return [os.pread(file.fileno(), 1 << 20, 0).decode() for file in self.files]
 
     def wait_for(self, line):
-        """Waits until it has told a line first."""
+        """Waits until it has printed a line, the first one."""
         ends = time.monotonic() + PATIENCE
         while "\n" not in self.texts()[1] and time.monotonic() < ends:
             time.sleep(0.01)
@@ -262,7 +262,7 @@ class Call:
 
 
 class Ended:
-    """What a call that ended has told."""
+    """What a call that ended has printed."""
 
     def __init__(self, place, status, out, err):
         self.place, self.status, self.out = place, status, out
@@ -284,7 +284,7 @@ class Ended:
         return self.must_be(0, out=f"office: {words}\n")
 
     def shown(self):
-        """How it ended, and what it told last."""
+        """How it ended, and what it printed last."""
         return signal.Signals(-self.status).name if self.status < 0 else str(self.status), (self.told() or ["–"])[-1]
 
 

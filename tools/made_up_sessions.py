@@ -1,7 +1,7 @@
 """Made-up evenings at an office: for tools that compare what comes of many of them.
 
 Used by tools/journalled. A `Session` has a list of lives, of wards, each of which sends its orders in pieces: a generator that
-yields lists of orders and is told what came of each, None where it was accepted and else the number and the text of its refusal.
+yields lists of orders, and is sent what came of each: None where it was accepted, else the number and the text of its refusal.
 Between them stand orders that are refused, or sent again. Everything is drawn from one seed.
 """
 import string

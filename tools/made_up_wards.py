@@ -106,7 +106,7 @@ class Office:
         os.makedirs(folder)
 
     def told(self, *words, refusals=""):
-        """The bytes that an order prints; or the text of its refusal, where it is of the form that may be told."""
+        """The bytes that an order prints; or the text of its refusal, where it is of the form that may come."""
         words = [str(word) for word in words]
         try:
             done = subprocess.run([PROGRAM, TOWN, *words], cwd=self.folder, capture_output=True, timeout=SECONDS, check=False)

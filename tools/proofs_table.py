@@ -51,7 +51,7 @@ def targets_of(crate, edit):
 
 
 def misplaced(crate):
-    """What is told of the edits whose old text doesn't stand just once in its file."""
+    """What is reported of the edits whose old text doesn't stand just once in its file."""
     for name, edit in crate.edits.items():
         for path, old in changes_of(edit):
             there = crate.folder / path

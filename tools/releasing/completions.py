@@ -5,7 +5,7 @@ FILE_WORDS = ('FILE', 'NEW')
 
 
 def takes_file(order):
-    return any(word.name.strip('<>[]') in FILE_WORDS for word in order.words)
+    return any(word.name.strip('<>[]') in FILE_WORDS for word in order.words) or any('<FILE>' in option.name for option in order.options)
 
 
 def options_of(order):

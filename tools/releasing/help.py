@@ -1,4 +1,4 @@
-"""What the program's own help tells: its orders, and the words and options of each."""
+"""What the program's own help says: its orders, and the words and options of each."""
 import re
 import subprocess
 from dataclasses import dataclass, field

@@ -15,7 +15,7 @@ def named(path, pattern):
 
 
 def version(root):
-    """The number, with which CHANGELOG.md has to begin. Anything else ends the program, and is told."""
+    """The number, with which CHANGELOG.md has to begin. Anything else ends the program, which reports it."""
     own = named(os.path.join(root, SOURCE), r'^pub const VERSION: &str = "(\d+\.\d+\.\d+)";$')
     if not own:
         raise SystemExit('%s names no version' % SOURCE)

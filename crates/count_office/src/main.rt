@@ -31,6 +31,7 @@ mod fresh;
 mod handing;
 mod held;
 mod serving;
+mod slips;
 mod traces;
 
 use desk::perform::perform;
@@ -43,6 +44,7 @@ use handing::hand_over;
 use held::Held;
 use office::Office;
 use serving::{Serving, serve};
+use slips::make_codes;
 use sqlite::{Alter, Connection, ErrorCode, FileStore, Files, Wary};
 use sqlite_disk::Disk;
 use std::alloc::Global;
@@ -144,16 +146,19 @@ fn perform_on<S: Alter, O: Sink, E: Sink>(
             port,
             connections,
             origin,
+            codes,
         } => {
             let serving = Serving {
                 port: *port,
                 connections: *connections,
                 origin: *origin,
+                codes: *codes,
             };
             serve(rt, place, serving, conn, err)
         }
         Order::Copy { path } => copy(rt, conn, place.path, path, out, err),
         Order::Journal => journal(rt, conn, out, err),
+        Order::Codes { path, clerks } => (make_codes(rt, path, clerks, out, err), conn),
     }
 }
 
@@ -508,6 +513,8 @@ fn follow<O: Sink, E: Sink>(rt: &HostRuntime, words: &[&str], out: &mut O, err: 
     requires err { E.failed err.old < 2 ^ 64 - 1 }
 {
     match order(rt.alloc(), words) {
+        // codes are made without a database
+        Ok(Order::Codes { path, clerks }) => make_codes(rt, path, clerks, out, err),
         Ok(order) => {
             let path = words.first().copied().unwrap_or("");
             perform_at(rt, path, words, &order, out, err)

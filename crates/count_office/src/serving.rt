@@ -5,25 +5,70 @@ ghost use Rattle.std.specs.Prelude.{◌-◌, ◌^◌, ◌<◌};
 use crate::Place;
 use crate::aside::Machine;
 use crate::beside::{Beside, closed_streams, reason_of};
+use crate::slips::{read_codes, tell_untaken};
+use codes::{Codes, ReadError, Tries};
 use desk::{Failure, tell_failure};
 use hall::{FileNumbers, Terms, serve_hall};
+use keying_page::{POLICY, page_text};
 use mio::net::{TcpListener, UnixListener};
 use office::Office;
 use sockets::Watch;
 use sqlite::{Alter, Connection};
+use std::alloc::AllocError;
 use std::io;
 use std::io::{ErrorKind, Write};
 use std::net::{Ipv4Addr, SocketAddr};
 use store::Fault;
 use votes::{Broken, Sink};
-use wire::Origin;
+use wire::{Gate, Given, Origin, Page};
 
-/// What `serve` was given: its port, after how many clients it ends, if it does, and the origin of a proxy, if one is given.
+/// What `serve` was given: its port, after how many clients it ends, if it does, the origin of a proxy, and the path of a file
+/// of clerks' codes, if one is given.
 #[derive(Clone, Copy)]
 pub struct Serving<'a> {
     pub port: u32,
     pub connections: Option<u32>,
     pub origin: Option<Origin<'a>>,
+    pub codes: Option<&'a str>,
+}
+
+/// What stands at the gate: clerks' codes, and their page.
+#[derive(Drop)]
+struct Porter {
+    codes: Codes,
+    page: String,
+}
+
+/// Reads what stands at the gate; none, where no file of codes is given.
+fn porter_of(rt: &HostRuntime, path: Option<&str>) -> Result<Option<Porter>, ReadError> {
+    let Some(path) = path else {
+        return Ok(None);
+    };
+    let codes = read_codes(rt, path)?;
+    let page = page_text(rt.alloc())?;
+    Ok(Some(Porter { codes, page }))
+}
+
+/// The gate, if there is one.
+fn gate_of(porter: &Option<Porter>) -> Option<Gate<'_>> {
+    match porter {
+        Some(porter) => Some(Gate {
+            codes: &porter.codes,
+            page: Page {
+                text: porter.page.as_str(),
+                policy: POLICY,
+            },
+        }),
+        None => None,
+    }
+}
+
+/// The wrong codes that came: none, of any holder.
+fn tries_of(rt: &HostRuntime, porter: &Option<Porter>) -> Result<Tries, AllocError> {
+    match porter {
+        Some(porter) => Tries::new(rt.alloc(), &porter.codes),
+        None => Ok(Tries::of_nobody(rt.alloc())),
+    }
 }
 
 /// The doors of an office: a port of this machine, and the socket beside its database, if there is one.
@@ -49,6 +94,7 @@ fn serve_at<S: Alter>(
     rt: &HostRuntime,
     place: Place<'_>,
     serving: Serving<'_>,
+    porter: &Option<Porter>,
     orders: Option<UnixListener>,
     office: &mut Office<S>,
 ) -> Result<(), Failure> {
@@ -59,8 +105,14 @@ fn serve_at<S: Alter>(
     let Ok((device, inode)) = place.held.numbers() else {
         return Err(Failure::Office(Fault::Store));
     };
+    let Ok(tries) = tries_of(rt, porter) else {
+        return Err(Failure::Office(Fault::Memory));
+    };
     let terms = Terms {
-        origin: serving.origin,
+        given: Given {
+            origin: serving.origin,
+            gate: gate_of(porter),
+        },
         file: FileNumbers { device, inode },
     };
     let aside = Machine {
@@ -68,7 +120,16 @@ fn serve_at<S: Alter>(
         office: place.path,
     };
     let most = serving.connections.map(u64::from);
-    match serve_hall(rt.alloc(), rt, &mut doors, terms, &aside, most, office) {
+    match serve_hall(
+        rt.alloc(),
+        rt,
+        &mut doors,
+        terms,
+        tries,
+        &aside,
+        most,
+        office,
+    ) {
         Ok(()) => Ok(()),
         Err(Broken) => Err(Failure::Output),
     }
@@ -87,6 +148,7 @@ fn serve_in<S: Alter>(
     rt: &HostRuntime,
     place: Place<'_>,
     serving: Serving<'_>,
+    porter: &Option<Porter>,
     office: &mut Office<S>,
 ) -> Result<(), Failure> {
     let streams = match closed_streams(rt) {
@@ -95,20 +157,20 @@ fn serve_in<S: Alter>(
     };
     let served = match Beside::listen(rt, place.found.database()) {
         Ok((beside, orders)) => {
-            let served = serve_at(rt, place, serving, Some(orders), office);
+            let served = serve_at(rt, place, serving, porter, Some(orders), office);
             beside.remove(rt);
             served
         }
         Err(error) => {
             say_no_socket(rt, &error);
-            serve_at(rt, place, serving, None, office)
+            serve_at(rt, place, serving, porter, None, office)
         }
     };
     drop(streams);
     served
 }
 
-/// Opens the office that a connection has, and serves it.
+/// Opens the office that a connection has, and serves it. A file of clerks' codes is read before.
 pub fn serve<S: Alter, E: Sink>(
     rt: &HostRuntime,
     place: Place<'_>,
@@ -118,11 +180,15 @@ pub fn serve<S: Alter, E: Sink>(
 ) -> (u8, Connection<S>)
     requires { E.failed err.old < 2 ^ 64 - 1 }
 {
+    let porter = match porter_of(rt, serving.codes) {
+        Ok(porter) => porter,
+        Err(why) => return (tell_untaken(why, err), conn),
+    };
     let mut office = match Office::open_from(rt.alloc(), conn) {
         Ok(office) => office,
         Err((fault, conn)) => return (tell_failure(Failure::Office(fault), err), conn),
     };
-    let status = match serve_in(rt, place, serving, &mut office) {
+    let status = match serve_in(rt, place, serving, &porter, &mut office) {
         Ok(()) => 0,
         Err(failure) => tell_failure(failure, err),
     };

@@ -77,6 +77,10 @@ id = record { name = codes "id"; kind = kind.Id }
 abbrev pub origin : WordEntry
 origin = record { name = codes "origin"; kind = kind.Origin }
 
+-- the path of a file of codes, after `--` and its name, which may be left out
+abbrev pub codes_file : WordEntry
+codes_file = record { name = codes "codes"; kind = kind.CodesFile }
+
 -- a title, after `--` and its name, which may be left out
 abbrev pub title : WordEntry
 title = record { name = codes "title"; kind = kind.Title }
@@ -164,7 +168,8 @@ pub data Meant : Type 0 where
   replay : Text → Bool → Meant
   copy : Text → Meant
   journal : Meant
-  serve : ℕ → Option ℕ → Option Text → Meant
+  make_codes : Text → Text → Meant
+  serve : ℕ → Option ℕ → Option Text → Option Text → Meant
   no_verdict : Meant
   no_origin : Meant
   no_digest : Meant
@@ -194,7 +199,8 @@ told (order.Perform (task.InOffice (job.Run errand))) = told_errand errand
 told (order.Perform (task.InOffice (job.Replay file keep_going))) = replay file.now keep_going
 told (order.Copy path) = copy path.now
 told order.Journal = journal
-told (order.Serve port connections origin) = serve port connections (option_map origin_text origin)
+told (order.Codes path clerks) = make_codes path.now clerks.now
+told (order.Serve port connections origin file) = serve port connections (option_map origin_text origin) (option_map (λ path. path.now) file)
 
 -- ---- the orders
 
@@ -208,6 +214,7 @@ WordValue kind.Text = Text
 WordValue kind.Verdict = Judgement
 WordValue kind.Id = Text
 WordValue kind.Origin = Option Text
+WordValue kind.CodesFile = Option Text
 WordValue kind.Title = Text
 WordValue kind.Digest = Option (List ℕ)
 WordValue kind.Texts = List Text
@@ -265,7 +272,7 @@ orders =
     ∷ takes (codes "next") (number (codes "WARD") ∷ []) tell_next
     ∷ takes (codes "sheet") (number (codes "WARD") ∷ []) (λ ward. print ward ward_text.Sheet)
     ∷ takes (codes "result") (number (codes "WARD") ∷ []) (λ ward. print ward ward_text.Declaration)
-    ∷ takes (codes "serve") (port (codes "PORT") ∷ connections (codes "CONNECTIONS") ∷ origin ∷ []) serve
+    ∷ takes (codes "serve") (port (codes "PORT") ∷ connections (codes "CONNECTIONS") ∷ origin ∷ codes_file ∷ []) serve
     ∷ takes (codes "migrate") [] migrate
     ∷ takes (codes "wards") [] (ask question.Wards)
     ∷ takes (codes "batches") (number (codes "WARD") ∷ []) (λ ward. ask (question.Batches ward))
@@ -276,6 +283,7 @@ orders =
     ∷ takes (codes "journal") [] journal
     ∷ takes (codes "replay") (text (codes "FILE") ∷ flag (codes "keep-going") ∷ []) replay
     ∷ takes (codes "copy") (text (codes "NEW") ∷ []) copy
+    ∷ takes (codes "codes") (text (codes "FILE") ∷ text (codes "CLERKS") ∷ []) make_codes
     ∷ takes (codes "ballots") (number (codes "WARD") ∷ []) (λ ward. print ward ward_text.Ballots)
     ∷ takes (codes "page") (number (codes "WARD") ∷ title ∷ []) print_page
     ∷ takes (codes "table") (number (codes "WARD") ∷ []) (λ ward. print ward ward_text.Table)

@@ -11,6 +11,8 @@ use Rattle.register.specs.declared.refusal.Reason.TheVariants.{CountFinished, Lo
 use Rattle.register.specs.declared.command.Request.{Request}
 use Rattle.tables.specs.Faults.{fault_number, fault_text}
 use Rattle.tables.specs.declared.fault.Fault.TheVariants as fault
+use Rattle.codes.specs.Faults.{fault_line, fault_number as codes_number, fault_text as codes_text}
+use Rattle.codes.specs.declared.fault.CodesFault.{CodesFault}
 use Rattle.keyfile.specs.Faults.{flaw_number, flaw_text, is_stop}
 use Rattle.keyfile.specs.declared.fault.FileFault.{FileFault}
 use Rattle.office.specs.Answers.{Told, again, done, no}
@@ -103,6 +105,23 @@ unread fault = record {
   err = joined (codes "file fault " ∷ decimal (flaw_number fault.flaw) ∷ codes " at record " ∷ decimal fault.record_number ∷ codes ": " ∷ flaw_text fault.flaw ∷ codes "\n" ∷ []);
   status = status_of_file fault;
 }
+
+-- of which line a fault of codes is, where it is of one
+abbrev pub codes_place : Option ℕ → Text
+codes_place None = []
+codes_place (Some number) = joined (codes " at line " ∷ decimal number ∷ [])
+
+-- why codes aren't taken, or not made
+abbrev pub codes_page : CodesFault → Page
+codes_page fault = record {
+  out = [];
+  err = joined (codes "codes fault " ∷ decimal (codes_number fault) ∷ []) ++ (codes_place (fault_line fault) ++ joined (codes ": " ∷ codes_text fault ∷ codes "\n" ∷ []));
+  status = 1;
+}
+
+-- that codes were made for so many clerks
+abbrev pub codes_made_page : ℕ → Page
+codes_made_page count = printed (joined (codes "codes written: " ∷ decimal count ∷ codes "\n" ∷ []))
 
 -- why the program gives up
 abbrev pub failed : Failure → Page

@@ -12,7 +12,7 @@
 //! ```text
 //! match order(alloc, words) {
 //!     Ok(Order::Perform(task)) => perform(alloc, &task, conn, folder, out, err),    // the status and the connection
-//!     Ok(Order::Serve { .. } | Order::Copy { .. } | Order::Journal) => ..,
+//!     Ok(Order::Serve { .. } | Order::Copy { .. } | Order::Journal | Order::Codes { .. }) => ..,
 //!     Err(fault) => tell_words(&fault, out, err),
 //! }
 //! ```
@@ -54,7 +54,7 @@ pub use bringing::files_named_in;
 pub use copying::{CopyState, copy_office, copy_open};
 pub use folders::Folder;
 pub use journalling::{journal_office, journal_open};
-pub use lines::{Failure, tell_failure, tell_words};
+pub use lines::{Failure, tell_codes_fault, tell_codes_made, tell_failure, tell_words};
 pub use orders::{Errand, Job, KeyingFile, Order, Question, Task};
 pub use progress::Progress;
 pub use replaying::follow;

@@ -1,13 +1,15 @@
 //! The lines that an order prints, and its exit status.
 
-ghost use Rattle.std.specs.Prelude.{◌≡◌, ◌⊎◌, ◌-◌, ◌^◌, ◌<◌, ◌++◌};
+ghost use Rattle.std.specs.Prelude.{◌≡◌, ◌⊎◌, ◌-◌, ◌^◌, ◌<◌, ◌++◌, ◌∷◌, [], codes};
 ghost use Rattle.std.specs.List.{flat_map};
 ghost use Rattle.keyfile.specs.Faults.{flaw_batch, flaw_between, flaw_clerk};
 ghost use Rattle.desk.specs.Pages.{IsErrorTold, IsPut, Shows, fronted, line_front, migrated_text, numbered_line, outputs_of, printed, status_of_file};
-ghost use Rattle.desk.specs.Pages.{failed, failure_number, failure_of, failure_text, page_of, refused, script_page, unjournalled, unread, words_page};
+ghost use Rattle.codes.specs.Faults.{fault_line, fault_text as codes_text};
+ghost use Rattle.desk.specs.Pages.{codes_made_page, codes_page, codes_place, failed, failure_number, failure_of, failure_text, page_of, refused, script_page, unjournalled, unread, words_page};
 
 use crate::scripts::ScriptFault;
 use crate::words::{BAD_DIGEST, BAD_ORIGIN, WordsFault};
+use codes::CodesFault;
 use itoa::Buffer;
 use keyfile::{FileFault, Flaw};
 use register::{Refusal, Reply};
@@ -228,6 +230,60 @@ fn tell_file_fault<E: Sink>(line: Option<usize>, fault: FileFault, err: &mut E) 
         "\n",
     ];
     tell_error(line, &pieces, status_of_file(fault), err)
+}
+
+/// Puts of which line a fault of codes is, ` at line 3`; nothing, where it is of none.
+fn put_place<W: Sink>(fault: CodesFault, sink: &mut W) -> Result<(), Broken>
+    requires { W.failed sink.old < 2 ^ 64 - 1 }
+    ensures { IsPut W.taken W.failed sink.old sink.new (codes_place (fault_line fault)) result }
+{
+    match fault.line() {
+        Some(number) => put_pieces(&[" at line ", Buffer::new().format(number)], sink),
+        None => Ok(()),
+    }
+}
+
+/// Puts of which line a fault of codes is, and its text behind it.
+fn put_codes_text<W: Sink>(fault: CodesFault, sink: &mut W) -> Result<(), Broken>
+    requires { W.failed sink.old < 2 ^ 64 - 1 }
+    ensures { IsPut W.taken W.failed sink.old sink.new (codes_place (fault_line fault) ++ flat_map (λ piece. piece) (codes ": " ∷ codes_text fault ∷ codes "\n" ∷ [])) result }
+{
+    put_place(fault, sink)?;
+    put_pieces(&[": ", fault.text(), "\n"], sink)
+}
+
+/// Puts a line that tells a fault of codes.
+fn put_codes_fault<W: Sink>(fault: CodesFault, sink: &mut W) -> Result<(), Broken>
+    requires { W.failed sink.old < 2 ^ 64 - 1 }
+    ensures { IsPut W.taken W.failed sink.old sink.new (codes_page fault).err result }
+{
+    put_pieces(
+        &["codes fault ", Buffer::new().format(fault.number())],
+        sink,
+    )?;
+    put_codes_text(fault, sink)
+}
+
+/// Tells why codes aren't taken, or not made, and gives the status: 1, or 3 where the error output fails.
+pub fn tell_codes_fault<E: Sink>(fault: CodesFault, err: &mut E) -> u8
+    requires { E.failed err.old < 2 ^ 64 - 1 }
+    ensures { IsErrorTold E.taken E.failed err.old err.new (codes_page fault).err (codes_page fault).status result }
+{
+    match put_codes_fault(fault, err) {
+        Ok(()) => 1,
+        Err(Broken) => 3,
+    }
+}
+
+/// Tells that codes were made for so many clerks, and gives the status: 0, or 3 where the output fails.
+pub fn tell_codes_made<O: Sink, E: Sink>(count: u32, out: &mut O, err: &mut E) -> u8
+    requires out { O.failed out.old < 2 ^ 64 - 1 }
+    requires err { E.failed err.old < 2 ^ 64 - 1 }
+    ensures { let outputs = outputs_of O.taken O.failed E.taken E.failed in Shows (outputs out.old err.old) (outputs out.new err.new) (codes_made_page count) result }
+{
+    let mut digits = Buffer::new();
+    let pieces = ["codes written: ", digits.format(count), "\n"];
+    tell_text(&pieces, out, err)
 }
 
 /// Tells that an office has no journal, and gives the status: 1, or 3 where the error output fails.

@@ -16,9 +16,9 @@ ghost use Rattle.desk.specs.Words.{flag_at, limit_of, texts_at};
 use crate::orders::{Errand, Job, KeyingFile, Order, Question, Task};
 use crate::requests::{by_clerk, by_office};
 use crate::table::{
-    ACTOR, BATCH, CANDIDATE, CLERK, CONNECTIONS, DIGEST, Entry, FILE, FIRST_CLERK, Heading, ID,
-    KEEP_GOING, MARKS, NAME, NEW, ORIGIN, PAPER, PORT, ROUND, SCRIPT, SEATS, SECOND_CLERK, SIZE,
-    STAGE, TITLE, VERDICT, WARD, Word,
+    ACTOR, BATCH, CANDIDATE, CLERK, CLERKS, CODES, CODES_FILE, CONNECTIONS, DIGEST, Entry, FILE,
+    FIRST_CLERK, Heading, ID, KEEP_GOING, MARKS, NAME, NEW, ORIGIN, PAPER, PORT, ROUND, SCRIPT,
+    SEATS, SECOND_CLERK, SIZE, STAGE, TITLE, VERDICT, WARD, Word,
 };
 use crate::verdicts::verdict_in;
 use clap::ArgMatches;
@@ -67,27 +67,28 @@ const ORDERS_TO_SEAL: [Entry; 12] = [
 /// The others, from the seal on in the same sequence; then the one that brings an older office over, those for the office
 /// alone, and those for everyone.
 #[rattlefmt::skip]
-const ORDERS_FROM_SEAL: [Entry; 24] = [
+const ORDERS_FROM_SEAL: [Entry; 25] = [
     order!(Election "seal" [WARD, ID], "Seals a ward whose papers are all agreed and judged:\ncount-office town.db seal 7 --id s1"),
     order!(Election "advance" [WARD, ID], "Counts the one stage that is due in a sealed ward:\ncount-office town.db advance 7 --id a1"),
     order!(Election "count" [WARD, ID], "Counts a sealed ward up to a lot or the end, its first stage under ID-1:\ncount-office town.db count 7 --id a"),
     order!(Election "lot" [WARD, STAGE, CANDIDATE, ID], "Records the candidate whom the lot for a stage named:\ncount-office town.db lot 7 3 4 --id l1"),
     order!(Election "declare" [WARD, ID], "Declares the result of a ward whose count is finished:\ncount-office town.db declare 7 --id d1"),
-    order!(Election "status" [WARD], "Tells how a ward stands, at any moment:\ncount-office town.db status 7"),
-    order!(Election "next" [WARD], "Tells what comes next in a ward, with names:\ncount-office town.db next 7"),
+    order!(Election "status" [WARD], "Prints how a ward stands, at any moment:\ncount-office town.db status 7"),
+    order!(Election "next" [WARD], "Prints what comes next in a ward, with names:\ncount-office town.db next 7"),
     order!(Election "sheet" [WARD], "Prints the stage sheet of a sealed ward:\ncount-office town.db sheet 7"),
     order!(Election "result" [WARD], "Prints the declaration of a declared ward:\ncount-office town.db result 7"),
-    order!(Election "serve" [PORT, CONNECTIONS, ORIGIN], "Answers clerks over HTTP on this machine, so many connections:\ncount-office town.db serve 8080 1000"),
+    order!(Election "serve" [PORT, CONNECTIONS, ORIGIN, CODES], "Answers clerks over HTTP on this machine, so many connections:\ncount-office town.db serve 8080 1000"),
     order!(Election "migrate" [], "Brings an office of an earlier program over to this one:\ncount-office town.db migrate"),
-    order!(Office "wards" [], "Tells how each ward stands, and what is left to do:\ncount-office town.db wards"),
-    order!(Office "batches" [WARD], "Tells of each batch of a ward who has keyed it, and how it stands:\ncount-office town.db batches 7"),
-    order!(Office "doubtful" [WARD], "Tells the doubtful papers of a ward, each open or with its verdict:\ncount-office town.db doubtful 7"),
-    order!(Office "differences" [BATCH], "Tells on which papers a batch differs, which no clerk is to see:\ncount-office town.db differences 13"),
-    order!(Office "papers" [BATCH], "Tells how each paper of a taken batch counts, with the candidates' names:\ncount-office town.db papers 12"),
-    order!(Office "receipts" [ACTOR], "Tells what was kept, under which id, of an actor or of all:\ncount-office town.db receipts 0"),
+    order!(Office "wards" [], "Prints how each ward stands, and what is left to do:\ncount-office town.db wards"),
+    order!(Office "batches" [WARD], "Prints of each batch of a ward who has keyed it, and how it stands:\ncount-office town.db batches 7"),
+    order!(Office "doubtful" [WARD], "Prints the doubtful papers of a ward, each open or with its verdict:\ncount-office town.db doubtful 7"),
+    order!(Office "differences" [BATCH], "Prints on which papers a batch differs, which no clerk is to see:\ncount-office town.db differences 13"),
+    order!(Office "papers" [BATCH], "Prints how each paper of a taken batch counts, with the candidates' names:\ncount-office town.db papers 12"),
+    order!(Office "receipts" [ACTOR], "Prints what was kept, under which id, of an actor or of all:\ncount-office town.db receipts 0"),
     order!(Office "journal" [], "Prints the accepted orders of the office as a script, whole:\ncount-office town.db journal"),
     order!(Office "replay" [SCRIPT, KEEP_GOING], "Sends the orders of a text file, a line each, up to a refusal:\ncount-office town.db replay evening.txt"),
     order!(Office "copy" [NEW], "Makes a copy of the office, in a file that isn't there yet:\ncount-office town.db copy evening.db"),
+    order!(Office "codes" [CODES_FILE, CLERKS], "Writes a new file of codes, one for each of these clerks:\ncount-office town.db codes codes.txt 1-40"),
     order!(Everyone "ballots" [WARD], "Prints the ballots of a sealed ward, in a form that counting programs read:\ncount-office town.db ballots 7"),
     order!(Everyone "page" [WARD, TITLE], "Prints the result of a sealed ward as a page for a browser, to print and sign:\ncount-office town.db page 7"),
     order!(Everyone "table" [WARD], "Prints the stages of a sealed ward as a table for a spreadsheet:\ncount-office town.db table 7"),
@@ -394,6 +395,7 @@ fn serve<'a>(matches: &ArgMatches<'a>) -> Result<Order<'a>, NoOrder>
         port: number_in(matches, PORT),
         connections: limit_of(number_in(matches, CONNECTIONS)),
         origin: origin_in(matches)?,
+        codes: text_found_in(matches, CODES),
     })
 }
 
@@ -468,6 +470,10 @@ fn order_named<'a>(
         "replay" => Ok(replay(matches)),
         "copy" => Ok(Order::Copy {
             path: text_in(matches, NEW),
+        }),
+        "codes" => Ok(Order::Codes {
+            path: text_in(matches, CODES_FILE),
+            clerks: text_in(matches, CLERKS),
         }),
         _ => sending(alloc, matches, command_named(alloc, name, matches)?),
     }

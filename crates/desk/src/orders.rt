@@ -149,11 +149,18 @@ pub enum Order<'a> {
     },
     /// Print the journal of the office.
     Journal,
+    /// Write a new file of codes, which isn't there yet, for the clerks that a word names.
+    Codes {
+        path: &'a str,
+        clerks: &'a str,
+    },
     /// Answer connections on a port of this machine, and pages of an origin through a proxy, if one is given. It ends
-    /// after so many connections, or with no number never.
+    /// after so many connections, or with no number never. Clerks' codes are asked for, if the path of a file of them is
+    /// given.
     Serve {
         port: u32,
         connections: Option<u32>,
         origin: Option<Origin<'a>>,
+        codes: Option<&'a str>,
     },
 }

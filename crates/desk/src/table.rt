@@ -19,6 +19,8 @@ pub(crate) enum Kind {
     Id,
     /// An origin as a browser writes it, after `--origin`; it may be left out.
     Origin,
+    /// The path of a file of codes, after `--codes`; it may be left out.
+    CodesFile,
     /// Any text, after `--title`; left out, it is empty.
     Title,
     /// A digest in 64 hexadecimal digits, after `--sha256`; it may be left out.
@@ -108,16 +110,16 @@ pub(crate) const STAGE: Word =
     word!(Number "STAGE", "The stage of the count that waits for the lot, 2 to 31");
 
 pub(crate) const FILE: Word =
-    word!(Text "FILE", "The path of an import file; docs/FORMATS.md tells its form");
+    word!(Text "FILE", "The path of an import file; docs/IMPORTS.md has its form");
 
 pub(crate) const NEW: Word =
     word!(Text "NEW", "The path of the copy; there must be nothing at it yet");
 
 pub(crate) const SCRIPT: Word =
-    word!(Text "FILE", "The path of a script; docs/FORMATS.md tells its form");
+    word!(Text "FILE", "The path of a script; docs/IMPORTS.md has its form");
 
 pub(crate) const KEEP_GOING: Word =
-    word!(Flag "keep-going", "Goes past refusals, each told with its line, and ends with status 1 then");
+    word!(Flag "keep-going", "Goes past refusals, each printed with its line, and ends with status 1 then");
 
 pub(crate) const ID: Word =
     word!(Id "id", "An id that you choose for this order, 1 to 40 of a-z, 0-9 and -;\nsent again under the same id, it does nothing twice");
@@ -135,6 +137,15 @@ pub(crate) const CONNECTIONS: Word =
 
 pub(crate) const ORIGIN: Word =
     word!(Origin "origin", "The origin of pages that ask through a proxy, as https://count.example.org;\nleft out, no page of another machine is answered");
+
+pub(crate) const CODES: Word =
+    word!(CodesFile "codes", "The path of a file of clerks' codes, by which each gets his page to key on;\nleft out, a clerk is known by his number alone");
+
+pub(crate) const CODES_FILE: Word =
+    word!(Text "FILE", "The path of the file of codes; there must be nothing at it yet");
+
+pub(crate) const CLERKS: Word =
+    word!(Text "CLERKS", "The clerks from one number to another, 1 to 999, as 1-40");
 
 pub(crate) const TITLE: Word =
     word!(Title "title", "What stands above, as the names of the election and of the council;\nin quotes where it has spaces");

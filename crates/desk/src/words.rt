@@ -28,7 +28,7 @@ changes nothing.";
 
 /// The end of the help: the orders of [`Heading::Office`] and of [`Heading::Everyone`], and what comes of orders.
 const END_OF_HELP: &str =
-    "For the office alone. The first seven change nothing, and no clerk is to see what they tell:
+    "For the office alone. The first seven change nothing, and no clerk is to see what they print:
   wards              How each ward stands, and what is left to do
   batches WARD       Who has keyed each batch of a ward, how it stands, and which other
                      batch has the very same papers
@@ -39,6 +39,7 @@ const END_OF_HELP: &str =
   journal            What was kept, as a script of orders that makes the same office anew
   replay FILE        Sends the orders of a text file, a line each, up to a refusal
   copy NEW           Makes a copy of the office, in a file that isn't there yet
+  codes FILE CLERKS  Writes a new file of codes for clerks, as 1-40, to be cut into slips
 
 For everyone who wants to see or check a count, once the ward is sealed:
   ballots WARD       Its ballots, in a form that counting programs read (BLT)
@@ -53,7 +54,7 @@ An example stands under each order. Its words, with their ranges, are shown by
 A reply goes to standard output, with status 0. What the office refuses goes to standard
 error, with status 1; words that are not understood with 2, and faults with 3.
 
-docs/ELECTION.md leads through an election, order by order. docs/FORMATS.md tells what each
+docs/ELECTION.md leads through an election, order by order. docs/REFUSALS.md says what each
 refusal and each fault means, and what to do about it.";
 
 /// What is told of words that aren't understood, where nothing else is.
@@ -103,6 +104,7 @@ fn arg_of<'a>(alloc: Global, word: Word) -> Arg<'a>
         Kind::Text | Kind::Verdict => arg.required(true),
         Kind::Id => arg.long(word.name).value_name("ID").required(true),
         Kind::Origin => arg.long(word.name).value_name("ORIGIN"),
+        Kind::CodesFile => arg.long(word.name).value_name("FILE"),
         Kind::Title => arg.long(word.name).value_name("TEXT"),
         Kind::Digest => arg.long(word.name).value_name("HEX"),
         Kind::Texts => arg.action(ArgAction::Append),

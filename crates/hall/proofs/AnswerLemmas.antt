@@ -14,6 +14,7 @@ use Rattle.gathering.specs.declared.client.Door.TheVariants.{Clients}
 use Rattle.tables.specs.Faults.{fault_number}
 use Rattle.tables.specs.declared.fault.Fault.{Fault}
 use Rattle.wire.specs.Asking.{AskedEntry, Asks, reading}
+use Rattle.wire.specs.Gates.{GivenEntry}
 use Rattle.wire.specs.Responses.{ResponseEntry, fault_response}
 use Rattle.wire.specs.Serving.{FaultLeaves, IsAnswered, IsPut, IsServed, ReadiesFor, Serves, reading_response}
 use Rattle.wire.specs.Told.{IsTold}
@@ -21,8 +22,8 @@ use Rattle.wire.specs.declared.serving.Served.{Served}
 use Rattle.wire.specs.declared.serving.Served.TheVariants.{Answered, ReadFailed, WriteFailed}
 use Rattle.wire.specs.declared.target.Reading.{Reading}
 use Rattle.wire.proofs.AskingLemmas.{AsksOneThing-all}
-use Rattle.hall.specs.Reads.{AreReadAt, IsRead, ReadEntry, TellsNoFault, desk_at}
-use Rattle.hall.specs.Visits.{EndsSo, HasServed, KeepsReads, ServesClient}
+use Rattle.hall.specs.Reads.{AreReadAt, Desk, IsRead, KeptEntry, ReadEntry, TellsNoFault, desk_at}
+use Rattle.hall.specs.Visits.{EndsSo, HasServed, KeepsReads, ServesClient, Visit}
 
 -- ---- what an answer tells
 
@@ -31,7 +32,7 @@ told_fault : (number status : ℕ) (old new : Option (List ℕ)) (response : _) 
 told_fault number status old new response (inl is) put = put.0 ∙ is.status
 told_fault number status old new response (inr is) put = put.0 ∙ is.status
 
-module _ (given : Option (List ℕ)) (s : OfficeState) (got : List ℕ) (what : Reading) (asks : Asks given got (reading what)) (closed : Bool) (st : State) where
+module _ (given : GivenEntry) (s : OfficeState) (got : List ℕ) (what : Reading) (asks : Asks given got (reading what)) (closed : Bool) (st : State) where
   answered_read : (asked : AskedEntry) (entry : ResponseEntry) (response : _) → asked ≡ reading what → IsTold entry response → IsAnswered s asked entry closed st
       → IsTold (reading_response s what) response × IsOpenAt s closed st
   answered_read asked entry response same tells answered =
@@ -82,7 +83,7 @@ module _ (given : Option (List ℕ)) (s : OfficeState) (got : List ℕ) (what : 
 
 -- ---- one call
 
-module _ {S : Type 0} (given : Option (List ℕ)) (state_of : Held S → State) (old new : OfficeValue S) (held got before after answer : List ℕ) (served : Served) (is_got : held ≡ got)
+module _ {S : Type 0} (given : GivenEntry) (state_of : Held S → State) (old new : OfficeValue S) (held got before after answer : List ℕ) (served : Served) (is_got : held ≡ got)
     (is_before : before ≡ []) (is_answer : answer ≡ after)
     (serves : HasCleanDisk (state_of new.held) → old.closed ≡ false → (s : OfficeState) → IsAt s (state_of old.held)
     → Serves given (Some held) (Some before) (Some after) s served new.closed (state_of new.held)) where
@@ -103,12 +104,12 @@ module _ {S : Type 0} (given : Option (List ℕ)) (state_of : Held S → State) 
 
 -- ---- a client is served
 
-module _ {S : Type 0} (given : Option (List ℕ)) (state_of : Held S → State) where
+module _ {S : Type 0} (given : GivenEntry) (state_of : Held S → State) where
   -- by the office
-  pub served_anew : (old new : OfficeValue S) (reads later : List ReadEntry) (number : ℕ) (got answer : List ℕ) → HasServed given state_of old got answer new
-      → KeepsReads given state_of (desk_at old reads) got (desk_at new later)
-      → ServesClient given state_of (desk_at old reads) (record { door = Clients; number = number; got = got; answer = answer }) (desk_at new later)
-  served_anew old new reads later number got answer has keeps = record {
+  pub served_anew : (old new : OfficeValue S) (kept later : KeptEntry) (number moment : ℕ) (got answer : List ℕ) → HasServed given state_of old got answer new
+      → KeepsReads given state_of (desk_at old kept) got (desk_at new later)
+      → ServesClient given state_of (desk_at old kept) (record { door = Clients; number = number; moment = moment; got = got; answer = answer }) (desk_at new later)
+  served_anew old new kept later number moment got answer has keeps = record {
     serves = λ clean is_open s at right. has.serves clean is_open s at;
     keeps = keeps;
     turned_away = has.turned_away;
@@ -118,9 +119,9 @@ module _ {S : Type 0} (given : Option (List ℕ)) (state_of : Held S → State) 
   kept_at : (s : OfficeState) (reads : List ReadEntry) (entry : ReadEntry) → Contains reads entry → AreReadAt given s reads → IsRead given s entry.got entry.answer
   kept_at s reads entry (place, within, is) right = subst (λ (r : ReadEntry). IsRead given s r.got r.answer) is (right place entry within)
 
-  told_from : (s : OfficeState) (got answer : List ℕ) (closed : Bool) (st : State) (number : ℕ) → IsRead given s got answer → IsOpenAt s closed st
-      → EndsSo (record { door = Clients; number = number; got = got; answer = answer }) (IsServed (λ response. ReadiesFor given (Some got) s response closed st))
-  told_from s got answer closed st number it open_at = (
+  told_from : (s : OfficeState) (got answer : List ℕ) (closed : Bool) (st : State) (number moment : ℕ) → IsRead given s got answer → IsOpenAt s closed st
+      → EndsSo (record { door = Clients; number = number; moment = moment; got = got; answer = answer }) (IsServed (λ response. ReadiesFor given (Some got) s response closed st))
+  told_from s got answer closed st number moment it open_at = (
     Answered it.status,
     record {
       response = it.told.response;
@@ -134,17 +135,27 @@ module _ {S : Type 0} (given : Option (List ℕ)) (state_of : Held S → State) 
   )
 
   -- from what was kept
-  pub served_again : (office : OfficeValue S) (reads : List ReadEntry) (number : ℕ) (got answer : List ℕ) (entry : ReadEntry) → office.closed ≡ false → (what : Reading) × Asks given got (reading what)
-      → Contains reads entry → entry.got ≡ got → entry.answer ≡ answer
-      → ServesClient given state_of (desk_at office reads) (record { door = Clients; number = number; got = got; answer = answer }) (desk_at office reads)
-  served_again office reads number got answer entry is_open asks there same told = record {
+  pub served_again : (office : OfficeValue S) (kept : KeptEntry) (number moment : ℕ) (got answer : List ℕ) (entry : ReadEntry) → office.closed ≡ false → (what : Reading) × Asks given got (reading what)
+      → Contains kept.reads entry → entry.got ≡ got → entry.answer ≡ answer
+      → ServesClient given state_of (desk_at office kept) (record { door = Clients; number = number; moment = moment; got = got; answer = answer }) (desk_at office kept)
+  served_again office kept number moment got answer entry is_open asks there same told = record {
     serves = λ clean was s at right.
-        let it = kept_at s reads entry there right in
+        let it = kept_at s kept.reads entry there right in
         let his = subst (λ (g : List ℕ). IsRead given s g answer) same (subst (λ (a : List ℕ). IsRead given s entry.got a) told it) in
-        told_from s got answer office.closed (state_of office.held) number his (record { is_open = is_open; at = at });
+        told_from s got answer office.closed (state_of office.held) number moment his (record { is_open = is_open; at = at });
     keeps = inr (asks, λ clean was s at right. (right, inl (record { is_open = is_open; at = at })));
     turned_away = λ closed. absurd (true≢false (sym closed ∙ is_open));
     clean = λ clean. clean;
+  }
+
+  -- and a wrong code is noted behind it
+  pub noted_still : (old : Desk S) (visit : Visit) (new : OfficeValue S) (kept later : KeptEntry) → later.reads ≡ kept.reads → ServesClient given state_of old visit (desk_at new kept)
+      → ServesClient given state_of old visit (desk_at new later)
+  noted_still old visit new kept later same it = record {
+    serves = it.serves;
+    keeps = subst (λ (rs : List ReadEntry). KeepsReads given state_of old visit.got (desk_at new (record { reads = rs; tries = later.tries }))) (sym same) it.keeps;
+    turned_away = it.turned_away;
+    clean = it.clean;
   }
 
   -- ---- what is kept of it
@@ -154,26 +165,26 @@ module _ {S : Type 0} (given : Option (List ℕ)) (state_of : Held S → State) 
   behind s (one ∷ gone) kept right = behind s gone kept (λ place entry within. right (suc place) entry (omega (arith, within)))
 
   -- nothing more is kept
-  pub keeps_same : (old new : OfficeValue S) (reads : List ReadEntry) (got : List ℕ) → (what : Reading) × Asks given got (reading what)
+  pub keeps_same : (old new : OfficeValue S) (kept : KeptEntry) (got : List ℕ) → (what : Reading) × Asks given got (reading what)
       → WhenOpenAt state_of old new (λ s. (what : Reading) → Asks given got (reading what) → IsReadAt s new.closed (state_of new.held))
-      → KeepsReads given state_of (desk_at old reads) got (desk_at new reads)
-  keeps_same old new reads got (what, asks) only = inr ((what, asks), λ clean is_open s at right. (right, only clean is_open s at what asks))
+      → KeepsReads given state_of (desk_at old kept) got (desk_at new kept)
+  keeps_same old new kept got (what, asks) only = inr ((what, asks), λ clean is_open s at right. (right, only clean is_open s at what asks))
 
   -- this answer may be kept too, and the oldest were let go
-  pub keeps_more : (old new : OfficeValue S) (reads later : List ReadEntry) (got answer told : List ℕ) → told ≡ answer → (what : Reading) × Asks given got (reading what)
+  pub keeps_more : (old new : OfficeValue S) (kept later : KeptEntry) (got answer told : List ℕ) → told ≡ answer → (what : Reading) × Asks given got (reading what)
       → WhenOpenAt state_of old new (λ s. (what : Reading) → Asks given got (reading what) → IsRead given s got answer × IsOpenAt s new.closed (state_of new.held))
       → WhenOpenAt state_of old new (λ s. (what : Reading) → Asks given got (reading what) → IsReadAt s new.closed (state_of new.held))
-      → (gone kept : List ReadEntry) × (reads ≡ gone ++ kept) × ((later ≡ kept) ⊎ (later ≡ kept ++ record { got = got; answer = told } ∷ []))
-      → KeepsReads given state_of (desk_at old reads) got (desk_at new later)
-  keeps_more old new reads later got answer told same_told (what, asks) read only (gone, kept, is, now) = inr (
+      → (gone left : List ReadEntry) × (kept.reads ≡ gone ++ left) × ((later.reads ≡ left) ⊎ (later.reads ≡ left ++ record { got = got; answer = told } ∷ []))
+      → KeepsReads given state_of (desk_at old kept) got (desk_at new later)
+  keeps_more old new kept later got answer told same_told (what, asks) read only (gone, left, is, now) = inr (
     (what, asks),
     λ clean is_open s at right. (
-      let still = behind s gone kept (subst (λ (rs : List ReadEntry). AreReadAt given s rs) is right) in
+      let still = behind s gone left (subst (λ (rs : List ReadEntry). AreReadAt given s rs) is right) in
           elim now [
             | inl same ↦ subst (λ (rs : List ReadEntry). AreReadAt given s rs) (sym same) still
             | inr more ↦
                 subst (λ (rs : List ReadEntry). AreReadAt given s rs) (sym more)
-                (All-push (λ (r : ReadEntry). IsRead given s r.got r.answer) kept (record { got = got; answer = told }) still
+                (All-push (λ (r : ReadEntry). IsRead given s r.got r.answer) left (record { got = got; answer = told }) still
                 (subst (λ (a : List ℕ). IsRead given s got a) (sym same_told) (read clean is_open s at what asks).0))
           ],
       only clean is_open s at what asks,

@@ -22,6 +22,7 @@ use Rattle.gathering.specs.declared.room.Room.{Room}
 use Rattle.gathering.proofs.LineLemmas.{heard_more}
 use Rattle.hall.specs.Guests.{AreIn, Guest, HadFor, IsGathered, IsSound, Stands, WentSo, visits_of}
 use Rattle.hall.specs.Halls.{AreLetGo, GoesOn, GoesOnServing, IsLetGo, LetsInMore, ServesHall}
+use Rattle.codes.specs.Tries.{TriesEntry}
 use Rattle.hall.specs.Reads.{Desk, with_none_kept}
 use Rattle.hall.specs.Terms.{Given}
 use Rattle.hall.specs.Turns.{HasComeAt, HasTurn, IsUntold, MayHaveTurn, answer_of}
@@ -156,11 +157,11 @@ module _ {L : Type 0} (given : Given) (line : Line L) where
       )
 
   -- he had his turn, of whom all was heard
-  had_turn : {S : Type 0} (state_of : Held S → State) (guest : Guest L) (visits : List Visit) (old new : Client L) (before later : Desk S) → (turn : HasTurn given line state_of old new before later)
+  had_turn : {S : Type 0} (state_of : Held S → State) (guest : Guest L) (visits : List Visit) (now : ℕ) (old new : Client L) (before later : Desk S) → (turn : HasTurn given line state_of now old new before later)
       → ((start : L) → IsOf line start old → IsOf line start new) → Stands line visits guest old
       → IsOf line guest.came.line new × HadFor (answer_of new) (visits_of old.number (visits ++ turn.visit ∷ []))
       × ((visit : Visit) → visits_of old.number (visits ++ turn.visit ∷ []) ≡ visit ∷ [] → IsGathered given line guest.came visit)
-  had_turn state_of guest visits old new before later turn is stood =
+  had_turn state_of guest visits now old new before later turn is stood =
       let none : visits_of old.number visits ≡ [] =
       subst (λ (a : Option Answer). HadFor (option_map (λ (x : Answer). x.bytes.items) a) (visits_of old.number visits)) turn.unanswered stood.his in
       let first = first_under old.number visits turn.visit none turn.number in
@@ -180,10 +181,10 @@ module _ {L : Type 0} (given : Given) (line : Line L) where
   room_with room place client = record { clients = with_item room.clients place client; came = room.came; counted = room.counted }
 
   pub goes_on_at : {S : Type 0} (state_of : Held S → State) (let_in : Option (List (Comer L))) (room after : Room L) (place : ℕ) (old new : Client L) (before later : Desk S) → place < length room.clients.items
-      → old ≡ get_or room.clients.items place old → new.door ≡ old.door → new.number ≡ old.number → ((start : L) → IsOf line start old → IsOf line start new) → MayHaveTurn given line state_of old new before later
+      → old ≡ get_or room.clients.items place old → new.door ≡ old.door → new.number ≡ old.number → ((start : L) → IsOf line start old → IsOf line start new) → (now : ℕ) × MayHaveTurn given line state_of now old new before later
       → after.clients.items ≡ set room.clients.items place new → after.came ≡ room.came → after.counted ≡ room.counted
       → GoesOnServing given line state_of let_in let_in room after before later
-  goes_on_at state_of let_in room after place old new before later within at door number is (inl turn) items came counted = record {
+  goes_on_at state_of let_in room after place old new before later within at door number is (now, inl turn) items came counted = record {
     visits = turn.visit ∷ [];
     each = (later, turn.served, refl);
     goes_on = record {
@@ -193,14 +194,14 @@ module _ {L : Type 0} (given : Given) (line : Line L) where
       own = λ guests earlier are.
           let (all, all_came, all_are) = one_went_on given line guests earlier (turn.visit ∷ []) room.came room.clients.items place old new are within at door number
           (All-push (λ (v : Visit). v.number ≡ old.number) [] turn.visit (All-nil (λ (v : Visit). v.number ≡ old.number)) turn.number)
-          (λ guest stood went. had_turn state_of guest earlier old new before later turn is stood) in (
+          (λ guest stood went. had_turn state_of guest earlier now old new before later turn is stood) in (
             all,
             all_came ∙ sym (append-nil (map (λ (g : Guest L). g.came) guests)),
             are_same given line all (earlier ++ turn.visit ∷ []) room.came after.came (set room.clients.items place new) after.clients.items came items all_are,
           );
     };
   }
-  goes_on_at state_of let_in room after place old new before later within at door number is (inr (same, answer)) items came counted = record {
+  goes_on_at state_of let_in room after place old new before later within at door number is (now, inr (same, answer)) items came counted = record {
     visits = [];
     each = sym same;
     goes_on = record {
@@ -242,7 +243,7 @@ module _ {L : Type 0} (given : Given) (line : Line L) where
     -- one went on, and left
     pub left_after : (let_in : Option (List (Comer L))) (room left : Room L) (place : ℕ) (old new : Client L) (before later : Desk S) → place < length room.clients.items
         → old ≡ get_or room.clients.items place old → new.door ≡ old.door → new.number ≡ old.number → ((start : L) → IsOf line start old → IsOf line start new)
-        → MayHaveTurn given line state_of old new before later → left.clients.items ≡ remove room.clients.items place → left.came ≡ room.came → left.counted ≡ room.counted
+        → (now : ℕ) × MayHaveTurn given line state_of now old new before later → left.clients.items ≡ remove room.clients.items place → left.came ≡ room.came → left.counted ≡ room.counted
         → GoesOnServing given line state_of let_in let_in room left before later
     left_after let_in room left place old new before later within at door number is turn items came counted =
         let went = room_with room place new in
@@ -253,7 +254,7 @@ module _ {L : Type 0} (given : Given) (line : Line L) where
     -- one went on, and stands in his place again, or left
     pub back_after : (let_in : Option (List (Comer L))) (room back : Room L) (place : ℕ) (old new : Client L) (before later : Desk S) → place < length room.clients.items
         → old ≡ get_or room.clients.items place old → new.door ≡ old.door → new.number ≡ old.number → ((start : L) → IsOf line start old → IsOf line start new)
-        → MayHaveTurn given line state_of old new before later
+        → (now : ℕ) × MayHaveTurn given line state_of now old new before later
         → (back.clients.items ≡ insert (remove room.clients.items place) place new) ⊎ (back.clients.items ≡ remove room.clients.items place) → back.came ≡ room.came → back.counted ≡ room.counted
         → GoesOnServing given line state_of let_in let_in room back before later
     back_after let_in room back place old new before later within at door number is turn (inl items) came counted =
@@ -286,11 +287,11 @@ module _ {L : Type 0} (given : Given) (line : Line L) where
         let (all, came, now) = it.goes_on.own guests visits are in (all, visits ++ it.visits, now)
 
     -- all who came since the doors were opened, where nobody was in before
-    pub hall_serves : (let_in let_in_later : Option (List (Comer L))) (most : Option ℕ) (old new : Room L) (before : OfficeValue S) (later : Desk S) (result : Result (Unit {0}) Broken)
-        → GoesOnServing given line state_of let_in let_in_later old new (with_none_kept before) later → old.clients.items ≡ [] → old.came ≡ 0 → old.counted ≡ 0 → IfSome most (λ n. new.counted ≤ n)
+    pub hall_serves : (let_in let_in_later : Option (List (Comer L))) (most : Option ℕ) (tries : List TriesEntry) (old new : Room L) (before : OfficeValue S) (later : Desk S) (result : Result (Unit {0}) Broken)
+        → GoesOnServing given line state_of let_in let_in_later old new (with_none_kept tries before) later → old.clients.items ≡ [] → old.came ≡ 0 → old.counted ≡ 0 → IfSome most (λ n. new.counted ≤ n)
         → OnOk result (IfSome most (λ n. new.counted ≡ n))
-        → ServesHall given line state_of let_in let_in_later most before later.office result
-    hall_serves let_in let_in_later most old new before later result it none first uncounted few all =
+        → ServesHall given line state_of let_in let_in_later most tries before later.office result
+    hall_serves let_in let_in_later most tries old new before later result it none first uncounted few all =
         let (guests, came, are) = it.goes_on.own [] [] (are_same given line [] [] 0 old.came [] old.clients.items first none (none_in given line)) in
         let sum = it.goes_on.counted in
         let counted : new.counted ≡ clients_among (map (λ (g : Guest L). g.came) guests) =
@@ -304,7 +305,7 @@ module _ {L : Type 0} (given : Given) (line : Line L) where
           went = are.went;
           kept = later.kept;
           each = it.each;
-          keeps = λ clean is_open earlier at. kept_of given state_of earlier it.visits before later it.each clean is_open at;
+          keeps = λ clean is_open earlier at. kept_of given state_of earlier it.visits tries before later it.each clean is_open at;
         }
 
 -- ---- who was told nothing

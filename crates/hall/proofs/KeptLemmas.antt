@@ -1,5 +1,5 @@
 -- What clients and orders who have their turns one after the other leave of an office.
-use Rattle.std.proofs.Common.{◌≡◌, ◌≤◌, ◌+◌, ◌∙◌, ◌⊎◌, ◌∷◌, ◌++◌, append_assoc, drop, true, ℕ, Bool, List, [], Option, Some}
+use Rattle.std.proofs.Common.{◌≡◌, ◌≤◌, ◌+◌, ◌∙◌, ◌⊎◌, ◌∷◌, ◌++◌, append_assoc, drop, true, ℕ, Bool, List, [], Some}
 use Rattle.std.proofs.Common.{arith, inl, inr, length, length-append, refl, sym, subst, suc, take, ap}
 use Rattle.std.specs.Prelude.{false}
 use Rattle.std.specs.List.{FoldsTo}
@@ -16,7 +16,7 @@ use Rattle.store.specs.Offices.{IsAt, LeavesState}
 use Rattle.office.specs.Answers.{IsOpenAt, IsReadAt, told_of}
 use Rattle.office.specs.Values.{OfficeValue}
 use Rattle.office.proofs.RunLemmas.{beginning}
-use Rattle.wire.specs.Asking.{AskedEntry, Asks, denied, keying, reading}
+use Rattle.wire.specs.Asking.{AskedEntry, Asks, denied, keying, reading, shown}
 use Rattle.wire.specs.Responses.{ResponseEntry}
 use Rattle.wire.specs.Serving.{FaultLeaves, IsAnswered, IsServed, ReadiesFor, TellsAsked, TellsFault, TellsFor, told_response}
 use Rattle.wire.specs.Told.{IsTold}
@@ -30,9 +30,11 @@ use Rattle.desk.specs.Pages.{Cut, Page}
 use Rattle.desk.proofs.KeptLemmas.{kept_done}
 use Rattle.desk.proofs.OpenLemmas.{after_next, open_done}
 use Rattle.hall.specs.Handings.{ComesOf, IsFramed, TellsOrder, TellsSo, folder_of}
+use Rattle.codes.specs.Tries.{TriesEntry}
+use Rattle.wire.specs.Gates.{GivenEntry}
 use Rattle.hall.specs.Reads.{AreReadAt, Desk, IsRead, ReadEntry, with_none_kept}
 use Rattle.hall.specs.Terms.{Given}
-use Rattle.hall.specs.Visits.{AnswersInTurn, AreTurnedAway, EndsSo, IsAnsweredAt, IsKeptOf, IsLastFor, IsStoppedAt, IsToldClosed, KeepsReads, ServesAt, ServesVisit, Visit}
+use Rattle.hall.specs.Visits.{AnswersInTurn, AreTurnedAway, EndsSo, IsAnsweredAt, IsKeptOf, IsLastFor, IsStoppedAt, IsToldClosed, KeepsReads, ServesAt, ServesClient, ServesVisit, Visit}
 use Rattle.desk.specs.declared.orders.Job.{Job}
 use Rattle.hall.specs.declared.handing.Asked.{Asked}
 use Rattle.hall.specs.declared.handing.Asked.TheVariants as asked
@@ -51,18 +53,20 @@ abbrev ClosesAt : OfficeState → List Request → Bool → State → Type 0
 ClosesAt s last closed st = (closed ≡ true) × LeavesState st (IsAfterSome s last 0)
 
 -- what an answer that is ready leaves: so much was handed on for it; or it tells a fault that closed the office
-abbrev ReadyLeaves : Option (List ℕ) → List ℕ → OfficeState → (List Request → Type 0) → Type 0 → Bool → State → Type 0
+abbrev ReadyLeaves : GivenEntry → List ℕ → OfficeState → (List Request → Type 0) → Type 0 → Bool → State → Type 0
 ReadyLeaves given bytes s Tells Fails closed st =
     ((sent : List Request) × Tells sent × IsOpenAt (after s sent) closed st) ⊎ ((last : List Request) × Fails × IsLastFor given bytes last × ClosesAt s last closed st)
 
 before_last : (s : OfficeState) (last : List Request) (x : OfficeState) → x ≡ s → IsAfterSome s last 0 x
 before_last s last x is = (0, omega arith, omega arith, omega arith, is)
 
-ready_answered : (given : Option (List ℕ)) (bytes : List ℕ) (s : OfficeState) (asked : AskedEntry) (answer : ResponseEntry) (response : _) (closed : Bool) (st : State)
+ready_answered : (given : GivenEntry) (bytes : List ℕ) (s : OfficeState) (asked : AskedEntry) (answer : ResponseEntry) (response : _) (closed : Bool) (st : State)
     → Asks given bytes asked
     → IsTold answer response → IsAnswered s asked answer closed st → ReadyLeaves given bytes s (λ sent. TellsFor given (Some bytes) s sent response) (TellsFault response) closed st
 ready_answered given bytes s (denied why) answer response closed st asks tells it =
     inl ([], inl (denied why, asks, (subst (λ a. IsTold a response) it.is.1 tells, refl)), subst (λ x. IsOpenAt x closed st) it.is.0 it.open_at)
+ready_answered given bytes s (shown clerk show) answer response closed st asks tells it =
+    inl ([], inl (shown clerk show, asks, (subst (λ a. IsTold a response) it.is.1 tells, refl)), subst (λ x. IsOpenAt x closed st) it.is.0 it.open_at)
 ready_answered given bytes s (reading what) answer response closed st asks tells it =
     inl ([], inl (reading what, asks, (subst (λ a. IsTold a response) it.is.1 tells, refl)), subst (λ x. IsOpenAt x closed st) it.is.0 it.open_at)
 ready_answered given bytes s (keying clerk batch entry) answer response closed st asks tells it =
@@ -74,10 +78,11 @@ ready_answered given bytes s (keying clerk batch entry) answer response closed s
       subst (λ x. IsOpenAt x closed st) (next ∙ ap (state_after s) same) it.open_at,
     )
 
-ready_failed : (given : Option (List ℕ)) (bytes : List ℕ) (s : OfficeState) (asked : AskedEntry) (fault : Fault) (response : _) (closed : Bool) (st : State)
+ready_failed : (given : GivenEntry) (bytes : List ℕ) (s : OfficeState) (asked : AskedEntry) (fault : Fault) (response : _) (closed : Bool) (st : State)
     → Asks given bytes asked
     → TellsFault response → FaultLeaves s asked fault closed st → ReadyLeaves given bytes s (λ sent. TellsFor given (Some bytes) s sent response) (TellsFault response) closed st
 ready_failed given bytes s (denied why) fault response closed st asks tells leaves = absurd leaves
+ready_failed given bytes s (shown clerk show) fault response closed st asks tells leaves = absurd leaves
 ready_failed given bytes s (reading what) fault response closed st asks tells (inl kept) = inl ([], inr (tells, refl), kept.open_at)
 ready_failed given bytes s (reading what) fault response closed st asks tells (inr shut) = inr ([], tells, inl refl, (shut.is_closed, leaves_as st _ _ (before_last s []) shut.leaves))
 ready_failed given bytes s (keying clerk batch entry) fault response closed st asks tells (outcome, is, inl kept) = inl ([], inr (tells, refl), kept.open_at)
@@ -97,7 +102,7 @@ ready_failed given bytes s (keying clerk batch entry) fault response closed st a
       ),
     )
 
-ready_leaves : (given : Option (List ℕ)) (bytes : List ℕ) (s : OfficeState) (response : _) (closed : Bool) (st : State) → ReadiesFor given (Some bytes) s response closed st
+ready_leaves : (given : GivenEntry) (bytes : List ℕ) (s : OfficeState) (response : _) (closed : Bool) (st : State) → ReadiesFor given (Some bytes) s response closed st
     → ReadyLeaves given bytes s (λ sent. TellsFor given (Some bytes) s sent response) (TellsFault response) closed st
 ready_leaves given bytes s response closed st (inr wanting) = inl ([], inr ((Memory, inl wanting.0), refl), wanting.1)
 ready_leaves given bytes s response closed st (inl ready) =
@@ -108,12 +113,12 @@ ready_leaves given bytes s response closed st (inl ready) =
     ]
 
 -- what a client who was served leaves
-abbrev ClientLeaves : Option (List ℕ) → OfficeState → Visit → Bool → State → Type 0
+abbrev ClientLeaves : GivenEntry → OfficeState → Visit → Bool → State → Type 0
 ClientLeaves given s visit closed st =
     ((sent : List Request) × EndsSo visit (IsServed (TellsFor given (Some visit.got) s sent)) × IsOpenAt (after s sent) closed st)
     ⊎ ((last : List Request) × EndsSo visit (IsServed TellsFault) × IsLastFor given visit.got last × ClosesAt s last closed st)
 
-client_leaves : (given : Option (List ℕ)) (s : OfficeState) (visit : Visit) (closed : Bool) (st : State) → EndsSo visit (IsServed (λ response. ReadiesFor given (Some visit.got) s response closed st))
+client_leaves : (given : GivenEntry) (s : OfficeState) (visit : Visit) (closed : Bool) (st : State) → EndsSo visit (IsServed (λ response. ReadiesFor given (Some visit.got) s response closed st))
     → ClientLeaves given s visit closed st
 client_leaves given s visit closed st (served, it) = elim (ready_leaves given visit.got s it.response closed st it.ready) [
   | inl (sent, tells, open_at) ↦ inl (sent, (served, record { response = it.response; ready = tells; put = it.put }), open_at)
@@ -169,25 +174,26 @@ module _ {S : Type 0} (state_of : Held S → State) (folder : Folder) (s : Offic
 
 -- ---- one after the other
 
--- what one who had his turn leaves: what was answered for him, and the office open behind it; or a fault closed it
-abbrev TurnLeaves : {S : Type 0} → Door → (Held S → State) → Given → OfficeState → Visit → Bool → State → Type 0
-TurnLeaves door state_of given s visit closed st =
-    ((sent : List Request) × IsAnsweredAt door state_of given s visit sent × IsOpenAt (after s sent) closed st)
+-- what one who had his turn leaves: what was answered for him, the office open behind it, and the answers that are kept right at its state; or a fault closed it
+abbrev TurnLeaves : {S : Type 0} → Door → (Held S → State) → Given → OfficeState → Visit → List ReadEntry → Bool → State → Type 0
+TurnLeaves door state_of given s visit reads closed st =
+    ((sent : List Request) × IsAnsweredAt door state_of given s visit sent × AreReadAt given.clients (after s sent) reads × IsOpenAt (after s sent) closed st)
     ⊎ ((answered : List Request) × (last : List Request) × IsStoppedAt door state_of given s visit answered last × (closed ≡ true) × LeavesState st (IsAfterSome s (answered ++ last) (length answered)))
 
 -- ---- what is kept of reads
 
-none_read : (given : Option (List ℕ)) (s : OfficeState) (reads : List ReadEntry) → reads ≡ [] → AreReadAt given s reads
+none_read : (given : GivenEntry) (s : OfficeState) (reads : List ReadEntry) → reads ≡ [] → AreReadAt given s reads
 none_read given s reads none = subst (λ (rs : List ReadEntry). AreReadAt given s rs) (sym none) (All-nil (λ (r : ReadEntry). IsRead given s r.got r.answer))
 
 -- for a read nothing is handed on
-reading_sends : (given : Option (List ℕ)) (s : OfficeState) (visit : Visit) (what : Reading) (sent : List Request) → Asks given visit.got (reading what)
+reading_sends : (given : GivenEntry) (s : OfficeState) (visit : Visit) (what : Reading) (sent : List Request) → Asks given visit.got (reading what)
     → EndsSo visit (IsServed (TellsFor given (Some visit.got) s sent)) → sent ≡ []
 reading_sends given s visit what sent asks (served, it) = by it.ready
   where
     of : (asked : AskedEntry) → asked ≡ reading what → TellsAsked s asked it.response sent → sent ≡ []
     of (reading other) is tells = tells.1
     of (denied why) is tells = tells.1
+    of (shown clerk show) is tells = tells.1
     of (keying clerk batch entry) is tells = let bad : keying clerk batch entry ≡ reading what = is in absurd (cc bad)
 
     by : TellsFor given (Some visit.got) s sent it.response → sent ≡ []
@@ -195,43 +201,57 @@ reading_sends given s visit what sent asks (served, it) = by it.ready
     by (inr (fault, none)) = none
 
 module _ {S : Type 0} (given : Given) (state_of : Held S → State) where
+  -- a client who must wait leaves all as it was
+  stays_clean : (old new : Desk S) → new ≡ old → HasCleanDisk (state_of new.office.held) → HasCleanDisk (state_of old.office.held)
+  stays_clean old new stays clean = subst (λ (d : Desk S). HasCleanDisk (state_of d.office.held)) stays clean
+
   clean_at : (door : Door) (visit : Visit) (old new : Desk S) → ServesAt door given state_of old visit new → HasCleanDisk (state_of new.office.held) → HasCleanDisk (state_of old.office.held)
-  clean_at Clients visit old new it clean = it.clean clean
+  clean_at Clients visit old new (inl it) clean = stays_clean old new it.stays clean
+  clean_at Clients visit old new (inr it) clean = it.serves.clean clean
   clean_at Orders visit old new it clean = it.0.tells.clean clean
 
   away_at : (door : Door) (visit : Visit) (old new : Desk S) → ServesAt door given state_of old visit new → old.office.closed ≡ true → IsToldClosed door given visit × (new.office ≡ old.office)
-  away_at Clients visit old new it closed = it.turned_away closed
-  away_at Orders visit old new (it, emptied) closed =
+  away_at Clients visit old new (inl it) closed = (inl it.told, ap (λ (d : Desk S). d.office) it.stays)
+  away_at Clients visit old new (inr it) closed = let (told, stays) = it.serves.turned_away closed in (inr told, stays)
+  away_at Orders visit old new (it, emptied, same) closed =
       let (page, stays) = it.tells.turned_away closed in
       (record { files = it.files; asked = it.asked; is = it.is; cut = it.tells.cut; told = subst (λ (p : Page). IsFramed it.tells.cut p visit.answer) page it.tells.told }, stays)
 
-  turn_leaves : (door : Door) (s : OfficeState) (visit : Visit) (old new : Desk S) → ServesAt door given state_of old visit new → HasCleanDisk (state_of new.office.held) → old.office.closed ≡ false
-      → IsAt s (state_of old.office.held) → AreReadAt given.origin s old.kept → TurnLeaves door state_of given s visit new.office.closed (state_of new.office.held)
-  turn_leaves Clients s visit old new it clean is_open at right =
-      elim (client_leaves given.origin s visit new.office.closed (state_of new.office.held) (it.serves clean is_open s at right)) [
-        | inl answered ↦ inl answered
+  -- what is kept behind a client who was served is right at the state after him
+  kept_right : (s : OfficeState) (visit : Visit) (old new : Desk S) → ServesClient given.clients state_of old visit new → HasCleanDisk (state_of new.office.held) → old.office.closed ≡ false
+      → IsAt s (state_of old.office.held) → AreReadAt given.clients s old.kept.reads → (sent : List Request) → EndsSo visit (IsServed (TellsFor given.clients (Some visit.got) s sent))
+      → AreReadAt given.clients (after s sent) new.kept.reads
+  kept_right s visit old new it clean is_open at right sent told = by it.keeps
+    where
+      by : KeepsReads given.clients state_of old visit.got new → AreReadAt given.clients (after s sent) new.kept.reads
+      by (inl none) = none_read given.clients (after s sent) new.kept.reads none
+      by (inr ((what, asks), keeps)) =
+          let still = keeps clean is_open s at right in
+          subst (λ (rs : List Request). AreReadAt given.clients (after s rs) new.kept.reads) (sym (reading_sends given.clients s visit what sent asks told)) still.0
+
+  -- a client was served
+  served_leaves : (s : OfficeState) (visit : Visit) (old new : Desk S) → ServesClient given.clients state_of old visit new → HasCleanDisk (state_of new.office.held) → old.office.closed ≡ false
+      → IsAt s (state_of old.office.held) → AreReadAt given.clients s old.kept.reads → TurnLeaves Clients state_of given s visit new.kept.reads new.office.closed (state_of new.office.held)
+  served_leaves s visit old new it clean is_open at right =
+      elim (client_leaves given.clients s visit new.office.closed (state_of new.office.held) (it.serves clean is_open s at right)) [
+        | inl (sent, told, open_at) ↦ inl (sent, inr told, kept_right s visit old new it clean is_open at right sent told, open_at)
         | inr (last, ends, is_last, (is_closed, leaves)) ↦ inr ([], last, (ends, refl, is_last), is_closed, leaves)
       ]
-  turn_leaves Orders s visit old new (it, emptied) clean is_open at right =
+
+  turn_leaves : (door : Door) (s : OfficeState) (visit : Visit) (old new : Desk S) → ServesAt door given state_of old visit new → HasCleanDisk (state_of new.office.held) → old.office.closed ≡ false
+      → IsAt s (state_of old.office.held) → AreReadAt given.clients s old.kept.reads → TurnLeaves door state_of given s visit new.kept.reads new.office.closed (state_of new.office.held)
+  turn_leaves Clients s visit old new (inl it) clean is_open at right =
+      subst (λ (d : Desk S). TurnLeaves Clients state_of given s visit d.kept.reads d.office.closed (state_of d.office.held)) (sym it.stays)
+      (inl ([], inl (it.told, refl), right, record { is_open = is_open; at = at }))
+  turn_leaves Clients s visit old new (inr it) clean is_open at right = served_leaves s visit old new it.serves clean is_open at right
+  turn_leaves Orders s visit old new (it, emptied, same) clean is_open at right =
       let told = it.tells in
       let tells : (sent last : List Request) → TellsSo state_of (folder_of it.files) s it.asked told.cut told.page sent last → TellsOrder state_of given.file s visit.got visit.answer sent last =
       λ sent last so. record { files = it.files; asked = it.asked; is = it.is; cut = told.cut; page = told.page; told = told.told; tells = so } in
       elim (order_leaves state_of (folder_of it.files) s old.office new.office it.asked told.cut told.page (told.does clean is_open s at)) [
-        | inl (sent, last, so, open_at) ↦ inl (sent, (last, tells sent last so), open_at)
+        | inl (sent, last, so, open_at) ↦ inl (sent, (last, tells sent last so), none_read given.clients (after s sent) new.kept.reads emptied, open_at)
         | inr (sent, last, so, is_closed, leaves) ↦ inr (sent, last, tells sent last so, is_closed, leaves)
       ]
-
-  -- what is kept behind his turn is right at the state after it
-  kept_right : (door : Door) (s : OfficeState) (visit : Visit) (old new : Desk S) → ServesAt door given state_of old visit new → HasCleanDisk (state_of new.office.held) → old.office.closed ≡ false
-      → IsAt s (state_of old.office.held) → AreReadAt given.origin s old.kept → (sent : List Request) → IsAnsweredAt door state_of given s visit sent → AreReadAt given.origin (after s sent) new.kept
-  kept_right Clients s visit old new it clean is_open at right sent told = by it.keeps
-    where
-      by : KeepsReads given.origin state_of old visit.got new → AreReadAt given.origin (after s sent) new.kept
-      by (inl none) = none_read given.origin (after s sent) new.kept none
-      by (inr ((what, asks), keeps)) =
-          let still = keeps clean is_open s at right in
-          subst (λ (rs : List Request). AreReadAt given.origin (after s rs) new.kept) (sym (reading_sends given.origin s visit what sent asks told)) still.0
-  kept_right Orders s visit old new (it, emptied) clean is_open at right sent told = none_read given.origin (after s sent) new.kept emptied
 
   pub cleans : (visits : List Visit) (old new : Desk S) → FoldsTo (ServesVisit given state_of) old visits new → HasCleanDisk (state_of new.office.held) → HasCleanDisk (state_of old.office.held)
   cleans [] old new same clean = subst (λ (o : Desk S). HasCleanDisk (state_of o.office.held)) (sym same) clean
@@ -284,7 +304,7 @@ module _ {S : Type 0} (given : Given) (state_of : Held S → State) where
   }
 
   keeps : (s : OfficeState) (visits : List Visit) (old new : Desk S) → FoldsTo (ServesVisit given state_of) old visits new → HasCleanDisk (state_of new.office.held) → old.office.closed ≡ false
-      → IsAt s (state_of old.office.held) → AreReadAt given.origin s old.kept → Keeps s visits new.office.closed (state_of new.office.held)
+      → IsAt s (state_of old.office.held) → AreReadAt given.clients s old.kept.reads → Keeps s visits new.office.closed (state_of new.office.held)
   keeps s [] old new same clean is_open at right =
       subst (λ (o : Desk S). Keeps s [] o.office.closed (state_of o.office.held)) same (record {
         answered = [];
@@ -296,8 +316,8 @@ module _ {S : Type 0} (given : Given) (state_of : Held S → State) where
   keeps s (visit ∷ visits) old new (mid, step, rest) clean is_open at right =
       let honest = cleans visits mid new rest clean in
       elim (turn_leaves visit.door s visit old mid step honest is_open at right) [
-        | inl (sent, told, open_at) ↦
-            let others = keeps (after s sent) visits mid new rest clean open_at.is_open open_at.at (kept_right visit.door s visit old mid step honest is_open at right sent told) in
+        | inl (sent, told, kept, open_at) ↦
+            let others = keeps (after s sent) visits mid new rest clean open_at.is_open open_at.at kept in
             goes_on s sent visit visits new.office.closed (state_of new.office.held) others (inl (sent, others.answered, told, refl, others.in_turn))
         | inr (answered, last, stopped, is_closed, leaves) ↦
             let away = turned_away visits mid new rest is_closed in
@@ -305,12 +325,13 @@ module _ {S : Type 0} (given : Given) (state_of : Held S → State) where
             (shut s answered last (visit ∷ visits) mid.office.closed (state_of mid.office.held) is_closed (inr (stopped, away.0)) leaves)
       ]
 
-  -- the same after earlier requests, where nothing is kept yet
-  pub kept_of : (earlier : List Request) (visits : List Visit) (old : OfficeValue S) (new : Desk S) → FoldsTo (ServesVisit given state_of) (with_none_kept old) visits new
+  -- the same after earlier requests, where no answer is kept yet
+  pub kept_of : (earlier : List Request) (visits : List Visit) (tries : List TriesEntry) (old : OfficeValue S) (new : Desk S)
+      → FoldsTo (ServesVisit given state_of) (with_none_kept tries old) visits new
       → HasCleanDisk (state_of new.office.held) → old.closed ≡ false → IsAt (after empty_office earlier) (state_of old.held)
       → IsKeptOf state_of given earlier visits new.office.closed (state_of new.office.held)
-  kept_of earlier visits old new each clean is_open at =
-      let it = keeps (after empty_office earlier) visits (with_none_kept old) new each clean is_open at (none_read given.origin (after empty_office earlier) [] refl) in
+  kept_of earlier visits tries old new each clean is_open at =
+      let it = keeps (after empty_office earlier) visits (with_none_kept tries old) new each clean is_open at (none_read given.clients (after empty_office earlier) [] refl) in
       record {
         answered = it.answered;
         last = it.last;

@@ -6,20 +6,23 @@ use Rattle.register.specs.Offices.{OfficeState}
 use Rattle.store.specs.Offices.{IsAt}
 use Rattle.office.specs.Values.{OfficeValue}
 use Rattle.office.specs.Answers.{IsOpenAt}
+use Rattle.wire.specs.Responses.{waits_response}
 use Rattle.wire.specs.Serving.{EndsWith, IsServed, OnReadFailed, ReadiesClosed, ReadiesFor, Serves, ServesClosed}
+use Rattle.wire.specs.Told.{IsWritten}
 use Rattle.wire.specs.declared.serving.Served.{Served}
 use Rattle.wire.specs.declared.serving.Served.TheVariants.{Answered, ReadFailed, WriteFailed}
 use Rattle.gathering.specs.Lines.{Delivers, Gathers, Line}
 use Rattle.gathering.specs.Clients.{IsHeard, IsOf, IsServedSo, IsTold}
 use Rattle.gathering.specs.declared.client.Answer.{Answer}
 use Rattle.gathering.specs.declared.client.Client.{Client}
+use Rattle.wire.specs.Gates.{GivenEntry}
 use Rattle.wire.specs.Lacking.{IsLackOf, IsWhole}
 use Rattle.wire.specs.declared.lack.Lacks.TheVariants.{Nothing}
 use Rattle.gathering.proofs.LineLemmas.{heard_more, told_more, told_none}
 use Rattle.hall.specs.Terms.{Given}
 use Rattle.hall.specs.Turns.{HasCome, HasComeAt, MayHaveTurn, answer_of}
 use Rattle.hall.specs.Reads.{Desk}
-use Rattle.hall.specs.Visits.{EndsIn, HasServed, ServesVisit, Visit}
+use Rattle.hall.specs.Visits.{EndsIn, HasServed, IsToldToWait, ServesVisit, Visit}
 
 pub none_from : {X : Type 0} (found : Option X) → is_some found ≡ false → found ≡ None
 none_from None is = refl
@@ -31,7 +34,7 @@ pub same_answer : (old new : Answer) (before : Option Answer) → before ≡ Som
 same_answer old new before is same = ap Some same ∙ sym (ap (option_map (λ (a : Answer). a.bytes.items)) is)
 
 -- bytes that lack nothing have come to their end
-pub lacks_nothing : (given held : Option (List ℕ)) (seen got : List ℕ) (lacking : _) → seen ≡ got → lacking ≡ Nothing → IsLackOf given seen lacking → HasCome given held got
+pub lacks_nothing : (given : GivenEntry) (held : Option (List ℕ)) (seen got : List ℕ) (lacking : _) → seen ≡ got → lacking ≡ Nothing → IsLackOf given seen lacking → HasCome given held got
 lacks_nothing given held seen got lacking same nothing it = inl (subst (λ (bytes : List ℕ). IsWhole given bytes) same (subst (λ l. IsLackOf given seen l) nothing it))
 
 -- neither of two has an answer
@@ -46,7 +49,7 @@ ends_so IsReady Unread answer ReadFailed failed never read it = absurd (never re
 ends_so IsReady Unread answer WriteFailed failed never read it = (WriteFailed, it)
 
 -- a client was served from what was gathered of him, by the clauses of the call that served him
-pub visit_served : {S : Type 0} (given : Option (List ℕ)) (state_of : Held S → State) (old new : OfficeValue S) (held got before after answer : List ℕ) (served : Served) (failed : Type 0)
+pub visit_served : {S : Type 0} (given : GivenEntry) (state_of : Held S → State) (old new : OfficeValue S) (held got before after answer : List ℕ) (served : Served) (failed : Type 0)
     → held ≡ got → before ≡ [] → answer ≡ after → (failed → ⊥) → OnReadFailed served failed
     → (HasCleanDisk (state_of new.held) → old.closed ≡ false → (s : OfficeState) → IsAt s (state_of old.held)
     → Serves given (Some held) (Some before) (Some after) s served new.closed (state_of new.held))
@@ -66,6 +69,14 @@ visit_served given state_of old new held got before after answer served failed i
     these : (P : List ℕ → List ℕ → List ℕ → Type 0) → P held before after → P got [] answer
     these P p =
         subst (λ (a : List ℕ). P got [] a) (sym is_answer) (subst (λ (b : List ℕ). P got b after) is_before (subst (λ (g : List ℕ). P g before after) is_got p))
+
+-- who must wait was told so, by the clauses of the call that told him
+pub told_waiting : (visit : Visit) (before after : List ℕ) (served : Served) → before ≡ [] → visit.answer ≡ after → IsServed (IsWritten waits_response) (Some before) (Some after) served → IsToldToWait visit
+told_waiting visit before after served is_before is_answer it = (
+  served,
+  subst (λ (a : List ℕ). IsServed (IsWritten waits_response) (Some []) (Some a) served) (sym is_answer)
+      (subst (λ (b : List ℕ). IsServed (IsWritten waits_response) (Some b) (Some after) served) is_before it),
+)
 
 module _ {L : Type 0} (line : Line L) where
   -- who has no answer was heard, and told nothing
@@ -92,14 +103,15 @@ module _ {L : Type 0} (line : Line L) where
   told_nothing start now got answer sent none heard = subst (λ (n : ℕ). IsTold line now answer n) (sym none) (told_none line start now got answer heard)
 
   -- he has his turn, of whom all was heard
-  pub has_turn : {S : Type 0} (given : Given) (state_of : Held S → State) (old mid new : Client L) (before later : Desk S) → old.answer ≡ None
+  pub has_turn : {S : Type 0} (given : Given) (state_of : Held S → State) (now : ℕ) (old mid new : Client L) (before later : Desk S) → old.answer ≡ None
       → Gathers line old.line mid.line old.got.items mid.got.items → mid.door ≡ old.door → mid.number ≡ old.number → HasComeAt old.door given (line.held mid.line) mid.got.items
-      → (visit : Visit) × (visit.door ≡ mid.door) × (visit.number ≡ mid.number) × (visit.got ≡ mid.got.items) × ServesVisit given state_of before visit later × (answer_of new ≡ Some visit.answer)
-      → MayHaveTurn given line state_of old new before later
-  has_turn given state_of old mid new before later none gathers door number come (visit, same, mine, got, served, his) = inl (record {
+      → (visit : Visit) × (visit.door ≡ mid.door) × (visit.number ≡ mid.number) × (visit.moment ≡ now) × (visit.got ≡ mid.got.items) × ServesVisit given state_of before visit later × (answer_of new ≡ Some visit.answer)
+      → MayHaveTurn given line state_of now old new before later
+  has_turn given state_of now old mid new before later none gathers door number come (visit, same, mine, at, got, served, his) = inl (record {
     visit = visit;
     door = same ∙ door;
     number = mine ∙ number;
+    moment = at;
     unanswered = none;
     heard = mid.line;
     own = subst (λ (bytes : List ℕ). Gathers line old.line mid.line old.got.items bytes) (sym got) gathers;

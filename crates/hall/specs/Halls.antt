@@ -15,7 +15,8 @@ use Rattle.gathering.specs.declared.client.Client.{Client}
 use Rattle.gathering.specs.declared.client.Comer.{Comer}
 use Rattle.gathering.specs.declared.room.Room.{Room}
 use Rattle.hall.specs.Guests.{AreIn, Guest, WentSoWithAll}
-use Rattle.hall.specs.Reads.{Desk, ReadEntry, desk_at, with_none_kept}
+use Rattle.codes.specs.Tries.{TriesEntry}
+use Rattle.hall.specs.Reads.{Desk, KeptEntry, desk_at, with_none_kept}
 use Rattle.hall.specs.Terms.{Given}
 use Rattle.hall.specs.Visits.{IsKeptOf, ServesVisit, Visit}
 
@@ -62,16 +63,17 @@ pub record GoesOnServing {L S : Type 0} (given : Given) (line : Line L) (state_o
   pub goes_on : GoesOn given line visits let_in let_in_later old new
 
 -- Clients and orders came to the doors of an office: no more clients than were to come, and at an end without a failure just so many. It went with each as it should.
--- Their visits had their turns one after the other, each in the office that those before it left, where nothing was kept at first; and this is kept of them.
+-- Their visits had their turns one after the other, each in the office that those before it left, where no answer was kept at first, and these wrong codes had come;
+-- and this is kept of them.
 pub record ServesHall {L S : Type 0} (given : Given) (line : Line L) (state_of : Held S → State) (let_in let_in_later : Option (List (Comer L))) (most : Option ℕ)
-    (old new : OfficeValue S) (result : Result (Unit {0}) Broken) : Type 0 where
+    (tries : List TriesEntry) (old new : OfficeValue S) (result : Result (Unit {0}) Broken) : Type 0 where
   pub guests : List (Guest L)
   pub visits : List Visit
   pub came : LetsInMore let_in let_in_later (map (λ guest. guest.came) guests)
   pub few : IfSome most (λ n. clients_among (map (λ guest. guest.came) guests) ≤ n)
   pub all : OnOk result (IfSome most (λ n. clients_among (map (λ guest. guest.came) guests) ≡ n))
   pub went : WentSoWithAll given line guests visits
-  pub kept : List ReadEntry
-  pub each : FoldsTo (ServesVisit given state_of) (with_none_kept old) visits (desk_at new kept)
+  pub kept : KeptEntry
+  pub each : FoldsTo (ServesVisit given state_of) (with_none_kept tries old) visits (desk_at new kept)
   pub keeps : HasCleanDisk (state_of new.held) → old.closed ≡ false → (earlier : List Request) → IsAt (after empty_office earlier) (state_of old.held)
       → IsKeptOf state_of given earlier visits new.closed (state_of new.held)

@@ -62,7 +62,8 @@ pub record IsForFile (file : FileNumbers) (h : HandedEntry) : Type 0 where
 abbrev pub IsForNone : Order → Type 0
 IsForNone (order.Perform task.Init) = ⊤
 IsForNone (order.Perform task.Migrate) = ⊤
-IsForNone (order.Serve port connections origin) = ⊤
+IsForNone (order.Serve port connections origin codes) = ⊤
+IsForNone (order.Codes path clerks) = ⊤
 IsForNone other = ⊥
 
 -- what an order asks that was handed over for this file: a job, a copy, the journal; or why it isn't followed, by its words

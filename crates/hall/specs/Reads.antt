@@ -1,9 +1,11 @@
--- Answers to reads that are kept, to be told again while nothing changes.
-use Rattle.std.specs.Prelude.{◌≡◌, List, [], Option, Some, map, ℕ}
+-- What is kept in memory: answers to reads, to be told again while nothing changes; and the wrong codes that came.
+use Rattle.std.specs.Prelude.{◌≡◌, Bool, false, List, [], None, Option, Some, if◌then◌else◌, map, ℕ}
 use Rattle.std.specs.List.{All}
 use Rattle.register.specs.Offices.{OfficeState}
 use Rattle.office.specs.Values.{OfficeValue}
+use Rattle.codes.specs.Tries.{TriesEntry, entries_of, noted, waits}
 use Rattle.wire.specs.Asking.{Asks, reading}
+use Rattle.wire.specs.Gates.{GivenEntry, KnockEntry}
 use Rattle.wire.specs.Serving.{IsServed, reading_response}
 use Rattle.wire.specs.Told.{IsTold}
 use Rattle.wire.specs.declared.serving.Served.{Served}
@@ -11,6 +13,7 @@ use Rattle.wire.specs.declared.serving.Served.TheVariants.{Answered, ReadFailed,
 use Rattle.wire.specs.declared.target.Reading.{Reading}
 use Rattle.hall.specs.declared.reads.Kept.{Kept}
 use Rattle.hall.specs.declared.reads.KeptAnswer.{KeptAnswer}
+use Rattle.hall.specs.declared.remembered.Remembered.{Remembered}
 
 -- the bytes of a request, and those of the answer that was told to them
 pub record ReadEntry : Type 0 where
@@ -24,7 +27,7 @@ abbrev pub reads_in : Kept → List ReadEntry
 reads_in kept = map read_entry kept.answers.items
 
 -- These bytes ask for a read, and this is the answer to it at a state, byte for byte.
-pub record IsRead (given : Option (List ℕ)) (s : OfficeState) (got answer : List ℕ) : Type 0 where
+pub record IsRead (given : GivenEntry) (s : OfficeState) (got answer : List ℕ) : Type 0 where
   pub what : Reading
   pub asks : Asks given got (reading what)
   pub status : ℕ
@@ -37,17 +40,39 @@ TellsNoFault ReadFailed = ⊥
 TellsNoFault WriteFailed = ⊥
 
 -- each answer that is kept is the one at this state
-abbrev pub AreReadAt : Option (List ℕ) → OfficeState → List ReadEntry → Type 0
+abbrev pub AreReadAt : GivenEntry → OfficeState → List ReadEntry → Type 0
 AreReadAt given s reads = All (λ r. IsRead given s r.got r.answer) reads
 
--- an office that serves, and the answers that are kept of it
+-- ---- wrong codes
+
+-- who knocks so at a moment must wait: ten wrong codes came under his number
+abbrev pub must_wait : Option KnockEntry → ℕ → List TriesEntry → Bool
+must_wait None now tries = false
+must_wait (Some knock) now tries = waits tries knock.clerk now
+
+-- the wrong codes behind who knocked so
+abbrev pub tries_behind : Option KnockEntry → ℕ → List TriesEntry → List TriesEntry
+tries_behind None now tries = tries
+tries_behind (Some knock) now tries = if knock.is_wrong then noted knock.clerk now tries else tries
+
+-- ---- both
+
+-- what is kept: answers to reads, and wrong codes
+pub record KeptEntry : Type 0 where
+  pub reads : List ReadEntry
+  pub tries : List TriesEntry
+
+abbrev pub kept_in : Remembered → KeptEntry
+kept_in kept = record { reads = reads_in kept.reads; tries = entries_of kept.tries }
+
+-- an office that serves, and what is kept beside it
 pub record Desk (S : Type 0) : Type 0 where
   pub office : OfficeValue S
-  pub kept : List ReadEntry
+  pub kept : KeptEntry
 
-abbrev pub desk_at : {S : Type 0} → OfficeValue S → List ReadEntry → Desk S
+abbrev pub desk_at : {S : Type 0} → OfficeValue S → KeptEntry → Desk S
 desk_at office kept = record { office = office; kept = kept }
 
--- an office of which nothing is kept yet
-abbrev pub with_none_kept : {S : Type 0} → OfficeValue S → Desk S
-with_none_kept office = desk_at office []
+-- an office of which no answer is kept yet, and these wrong codes came
+abbrev pub with_none_kept : {S : Type 0} → List TriesEntry → OfficeValue S → Desk S
+with_none_kept tries office = desk_at office (record { reads = []; tries = tries })

@@ -12,18 +12,22 @@ use Rattle.gathering.specs.declared.client.Door.{Door}
 use Rattle.gathering.specs.declared.client.Door.TheVariants.{Clients, Orders}
 use Rattle.wire.specs.Bodies.{KeyingEntry}
 use Rattle.wire.specs.Asking.{Asks, keying, reading}
+use Rattle.wire.specs.Gates.{GivenEntry, IsKnock, KnockEntry}
+use Rattle.wire.specs.Responses.{waits_response}
+use Rattle.wire.specs.Told.{IsWritten}
 use Rattle.wire.specs.Serving.{IsHandedOn, IsServed, ReadiesClosed, ReadiesFor, TellsFault, TellsFor}
 use Rattle.wire.specs.declared.serving.Served.{Served}
 use Rattle.wire.specs.declared.target.Reading.{Reading}
 use Rattle.hall.specs.Handings.{FollowsOrder, IsTurnedAway, TellsOrder}
-use Rattle.hall.specs.Reads.{AreReadAt, Desk}
+use Rattle.hall.specs.Reads.{AreReadAt, Desk, must_wait, tries_behind}
 use Rattle.hall.specs.Terms.{Given}
 
--- Who had a turn, a client or an order that was handed over: at which door he came in, his number in the order of coming, what was gathered of him, and the
--- answer that was put for him.
+-- Who had a turn, a client or an order that was handed over: at which door he came in, his number in the order of coming, the moment of his turn, by a clock in
+-- milliseconds, what was gathered of him, and the answer that was put for him.
 pub record Visit : Type 0 where
   pub door : Door
   pub number : ℕ
+  pub moment : ℕ
   pub got : List ℕ
   pub answer : List ℕ
 
@@ -37,31 +41,56 @@ abbrev pub EndsSo : Visit → (Option (List ℕ) → Option (List ℕ) → Serve
 EndsSo visit IsEnd = EndsIn visit.answer IsEnd
 
 -- the office served these bytes with this answer: what it tells and what that left, if the office was open; and that it is closed, if it was
-pub record HasServed {S : Type 0} (given : Option (List ℕ)) (state_of : Held S → State) (old : OfficeValue S) (got answer : List ℕ) (new : OfficeValue S) : Type 0 where
+pub record HasServed {S : Type 0} (given : GivenEntry) (state_of : Held S → State) (old : OfficeValue S) (got answer : List ℕ) (new : OfficeValue S) : Type 0 where
   pub serves : WhenOpenAt state_of old new (λ s. EndsIn answer (IsServed (λ response. ReadiesFor given (Some got) s response new.closed (state_of new.held))))
   pub turned_away : old.closed ≡ true → EndsIn answer (IsServed (ReadiesClosed given (Some got))) × (new ≡ old)
   pub clean : HasCleanDisk (state_of new.held) → HasCleanDisk (state_of old.held)
 
 -- what his turn leaves of the answers that are kept: nothing is kept; or he asks for a read, and what is kept is right at the state as before
-abbrev pub KeepsReads : {S : Type 0} → Option (List ℕ) → (Held S → State) → Desk S → List ℕ → Desk S → Type 0
+abbrev pub KeepsReads : {S : Type 0} → GivenEntry → (Held S → State) → Desk S → List ℕ → Desk S → Type 0
 KeepsReads given state_of old got new =
-    (new.kept ≡ [])
+    (new.kept.reads ≡ [])
     ⊎ (((what : Reading) × Asks given got (reading what))
-    × WhenOpenAt state_of old.office new.office (λ s. AreReadAt given s old.kept → AreReadAt given s new.kept × IsReadAt s new.office.closed (state_of new.office.held)))
+    × WhenOpenAt state_of old.office new.office (λ s. AreReadAt given s old.kept.reads → AreReadAt given s new.kept.reads × IsReadAt s new.office.closed (state_of new.office.held)))
 
 -- a client was served, by the office or from what was kept: what he is told and what that left, if the office was open and what was kept was right; and that it
 -- is closed, if it was
-pub record ServesClient {S : Type 0} (given : Option (List ℕ)) (state_of : Held S → State) (old : Desk S) (visit : Visit) (new : Desk S) : Type 0 where
+pub record ServesClient {S : Type 0} (given : GivenEntry) (state_of : Held S → State) (old : Desk S) (visit : Visit) (new : Desk S) : Type 0 where
   pub serves : WhenOpenAt state_of old.office new.office
-      (λ s. AreReadAt given s old.kept → EndsSo visit (IsServed (λ response. ReadiesFor given (Some visit.got) s response new.office.closed (state_of new.office.held))))
+      (λ s. AreReadAt given s old.kept.reads → EndsSo visit (IsServed (λ response. ReadiesFor given (Some visit.got) s response new.office.closed (state_of new.office.held))))
   pub keeps : KeepsReads given state_of old visit.got new
   pub turned_away : old.office.closed ≡ true → EndsSo visit (IsServed (ReadiesClosed given (Some visit.got))) × (new.office ≡ old.office)
   pub clean : HasCleanDisk (state_of new.office.held) → HasCleanDisk (state_of old.office.held)
 
--- who came in at a door had his turn: a client is served; or an order is followed, and nothing is kept behind it
+-- a client is told that he must wait
+abbrev pub IsToldToWait : Visit → Type 0
+IsToldToWait visit = EndsSo visit (IsServed (IsWritten waits_response))
+
+-- a client knocks under the number of a clerk who must wait: he is told so, and all stays as it is
+pub record IsKeptWaiting {S : Type 0} (given : GivenEntry) (old : Desk S) (visit : Visit) (new : Desk S) : Type 0 where
+  pub knock : Option KnockEntry
+  pub is : IsKnock given visit.got knock
+  pub waits : must_wait knock visit.moment old.kept.tries ≡ true
+  pub told : IsToldToWait visit
+  pub stays : new ≡ old
+
+-- he doesn't, and is served; and if his code was wrong, that is noted
+pub record IsLetIn {S : Type 0} (given : GivenEntry) (state_of : Held S → State) (old : Desk S) (visit : Visit) (new : Desk S) : Type 0 where
+  pub knock : Option KnockEntry
+  pub is : IsKnock given visit.got knock
+  pub free : must_wait knock visit.moment old.kept.tries ≡ false
+  pub serves : ServesClient given state_of old visit new
+  pub noted : new.kept.tries ≡ tries_behind knock visit.moment old.kept.tries
+
+-- a client had his turn: he must wait, or is let in
+abbrev pub MeetsClient : {S : Type 0} → GivenEntry → (Held S → State) → Desk S → Visit → Desk S → Type 0
+MeetsClient given state_of old visit new = IsKeptWaiting given old visit new ⊎ IsLetIn given state_of old visit new
+
+-- who came in at a door had his turn: a client so; or an order is followed, no answer is kept behind it, and no wrong code is noted
 abbrev pub ServesAt : {S : Type 0} → Door → Given → (Held S → State) → Desk S → Visit → Desk S → Type 0
-ServesAt Clients given state_of old visit new = ServesClient given.origin state_of old visit new
-ServesAt Orders given state_of old visit new = FollowsOrder given.file state_of old.office visit.got visit.answer new.office × (new.kept ≡ [])
+ServesAt Clients given state_of old visit new = MeetsClient given.clients state_of old visit new
+ServesAt Orders given state_of old visit new =
+    FollowsOrder given.file state_of old.office visit.got visit.answer new.office × (new.kept.reads ≡ []) × (new.kept.tries ≡ old.kept.tries)
 
 abbrev pub ServesVisit : {S : Type 0} → Given → (Held S → State) → Desk S → Visit → Desk S → Type 0
 ServesVisit given state_of old visit new = ServesAt visit.door given state_of old visit new
@@ -69,14 +98,14 @@ ServesVisit given state_of old visit new = ServesAt visit.door given state_of ol
 -- ---- one turn after the other
 
 -- the last request is a clerk's keying, which these bytes ask; or there is none
-abbrev pub IsLastFor : Option (List ℕ) → List ℕ → List Request → Type 0
+abbrev pub IsLastFor : GivenEntry → List ℕ → List Request → Type 0
 IsLastFor given bytes last =
     (last ≡ [])
     ⊎ ((clerk batch : ℕ) × (entry : KeyingEntry) × (request : Request) × Asks given bytes (keying clerk batch entry) × IsHandedOn clerk batch entry request × (last ≡ request ∷ []))
 
--- who finds the office closed is told so, where he asks it anything
+-- who finds the office closed is told so, where he asks it anything; or he is told that he must wait
 abbrev pub IsToldClosed : Door → Given → Visit → Type 0
-IsToldClosed Clients given visit = EndsSo visit (IsServed (ReadiesClosed given.origin (Some visit.got)))
+IsToldClosed Clients given visit = IsToldToWait visit ⊎ EndsSo visit (IsServed (ReadiesClosed given.clients (Some visit.got)))
 IsToldClosed Orders given visit = IsTurnedAway given.file visit.got visit.answer
 
 -- so is each of these
@@ -85,14 +114,14 @@ AreTurnedAway given [] = ⊤
 AreTurnedAway given (visit ∷ visits) = IsToldClosed visit.door given visit × AreTurnedAway given visits
 
 -- Who has his turn at a state is answered, and these requests were answered for him: of a client none or one keying, and one where he is told what the office says
--- to it; of an order those that its page tells.
+-- to it; of who must wait none; of an order those that its page tells.
 abbrev pub IsAnsweredAt : {S : Type 0} → Door → (Held S → State) → Given → OfficeState → Visit → List Request → Type 0
-IsAnsweredAt Clients state_of given s visit sent = EndsSo visit (IsServed (TellsFor given.origin (Some visit.got) s sent))
+IsAnsweredAt Clients state_of given s visit sent = (IsToldToWait visit × (sent ≡ [])) ⊎ EndsSo visit (IsServed (TellsFor given.clients (Some visit.got) s sent))
 IsAnsweredAt Orders state_of given s visit sent = (last : List Request) × TellsOrder state_of given.file s visit.got visit.answer sent last
 
 -- A fault, which he is told, closed the office in his turn: these requests were answered, and one more may be kept or not.
 abbrev pub IsStoppedAt : {S : Type 0} → Door → (Held S → State) → Given → OfficeState → Visit → List Request → List Request → Type 0
-IsStoppedAt Clients state_of given s visit answered last = EndsSo visit (IsServed TellsFault) × (answered ≡ []) × IsLastFor given.origin visit.got last
+IsStoppedAt Clients state_of given s visit answered last = EndsSo visit (IsServed TellsFault) × (answered ≡ []) × IsLastFor given.clients visit.got last
 IsStoppedAt Orders state_of given s visit answered last = TellsOrder state_of given.file s visit.got visit.answer answered last
 
 -- All are answered in turn, each as the office's machine says where his turn comes, and these requests were answered for them. Or a fault closed the office in

@@ -4,26 +4,28 @@ ghost use Rattle.std.specs.Prelude.{◌≡◌, ℕ, [], None, Ok, Some, false, t
 ghost use Rattle.sqlite.specs.Held.{state};
 ghost use Rattle.gathering.specs.Lines.{Gathers, HasTaken, line_of};
 ghost use Rattle.gathering.specs.Clients.{IsOf, IsTold};
-ghost use Rattle.wire.specs.Origins.{given_by};
+ghost use Rattle.wire.specs.Gates.{given_entry};
 ghost use Rattle.hall.specs.Handings.{HasCameWhole};
-ghost use Rattle.hall.specs.Terms.{Given, given_in};
+ghost use Rattle.hall.specs.Terms.{Given as AllGiven, given_in};
 ghost use Rattle.hall.specs.Turns.{HasCome, HasComeAt, IsSameClient, IsToldAll, IsUntold, MayHaveTurn, answer_of};
 ghost use Rattle.office.specs.Answers.{IsOpenAt, IsReadAt, WhenOpenAt};
 ghost use Rattle.wire.specs.Asking.{Asks, reading};
 ghost use Rattle.wire.specs.declared.target.Reading.{Reading};
-ghost use Rattle.hall.specs.Reads.{IsRead, TellsNoFault, desk_at, reads_in};
-ghost use Rattle.hall.specs.Visits.{HasServed, ServesClient, ServesVisit, Visit};
+ghost use Rattle.codes.specs.Tries.{entries_of};
+ghost use Rattle.hall.specs.Reads.{IsRead, TellsNoFault, desk_at, kept_in};
+ghost use Rattle.hall.specs.Visits.{HasServed, IsToldToWait, MeetsClient, ServesClient, ServesVisit, Visit};
 
 use crate::aside::Aside;
 use crate::message::hear_message;
 use crate::ordering::answer_order;
-use crate::reads::{Kept, asks_reading};
+use crate::reads::asks_reading;
+use crate::remembered::Remembered;
 use crate::terms::Terms;
 use gathering::{Answer, Client, Door, Gathered, Heard, Line, Lost, Writing, deliver};
 use office::Office;
 use sqlite::Alter;
 use std::alloc::Global;
-use wire::{Lacks, Origin, Served, lacks, serve_one};
+use wire::{Given, Lacks, Served, knock_of, lacks, serve_one, tell_to_wait};
 
 /// How many bytes of a client are heard before it is looked what they lack: as many as the head of a request may have.
 const FRONT: usize = 8192;
@@ -47,19 +49,19 @@ pub enum Attended {
 /// Hears the body of what a client asks, for which so many bytes in all are wanted; whether it has come to its end.
 fn hear_body<L: Line>(
     alloc: Global,
-    origin: Option<Origin<'_>>,
+    given: Given<'_>,
     client: &mut Client<L>,
     wanted: usize,
 ) -> Result<bool, Lost>
     requires { client.old.answer ≡ None }
     ensures gathers { Gathers (line_of L.held L.taken) client.old.line client.new.line client.old.got.items client.new.got.items }
     ensures same { IsSameClient client.old client.new × (client.new.answer ≡ None) }
-    ensures come { result ≡ Ok true → HasCome (given_by origin.entry) (L.held client.new.line) client.new.got.items }
+    ensures come { result ≡ Ok true → HasCome (given_entry given.entry) (L.held client.new.line) client.new.got.items }
 {
     match client.hear(wanted)? {
         Heard::Ended => Ok(true),
         Heard::Waits => Ok(false),
-        Heard::Enough => match lacks(alloc, origin, client.got.as_slice())? {
+        Heard::Enough => match lacks(alloc, given, client.got.as_slice())? {
             Lacks::Nothing => Ok(true),
             Lacks::Bytes(_) => Ok(false),
         },
@@ -67,40 +69,32 @@ fn hear_body<L: Line>(
 }
 
 /// Hears what a client asks; whether it has come to its end.
-fn hear_out<L: Line>(
-    alloc: Global,
-    origin: Option<Origin<'_>>,
-    client: &mut Client<L>,
-) -> Result<bool, Lost>
+fn hear_out<L: Line>(alloc: Global, given: Given<'_>, client: &mut Client<L>) -> Result<bool, Lost>
     requires { client.old.answer ≡ None }
     ensures gathers { Gathers (line_of L.held L.taken) client.old.line client.new.line client.old.got.items client.new.got.items }
     ensures same { IsSameClient client.old client.new × (client.new.answer ≡ None) }
-    ensures come { result ≡ Ok true → HasCome (given_by origin.entry) (L.held client.new.line) client.new.got.items }
+    ensures come { result ≡ Ok true → HasCome (given_entry given.entry) (L.held client.new.line) client.new.got.items }
 {
     let heard = client.hear(FRONT)?;
-    match lacks(alloc, origin, client.got.as_slice())? {
+    match lacks(alloc, given, client.got.as_slice())? {
         Lacks::Nothing => Ok(true),
         Lacks::Bytes(wanted) => match heard {
             Heard::Ended => Ok(true),
             Heard::Waits => Ok(false),
-            Heard::Enough => hear_body(alloc, origin, client, wanted),
+            Heard::Enough => hear_body(alloc, given, client, wanted),
         },
     }
 }
 
 /// Hears who has no answer yet; whether what he asks has come to its end.
-fn hear<L: Line>(
-    alloc: Global,
-    origin: Option<Origin<'_>>,
-    client: &mut Client<L>,
-) -> Result<bool, Lost>
+fn hear<L: Line>(alloc: Global, given: Given<'_>, client: &mut Client<L>) -> Result<bool, Lost>
     requires { client.old.answer ≡ None }
     ensures gathers { Gathers (line_of L.held L.taken) client.old.line client.new.line client.old.got.items client.new.got.items }
     ensures same { IsSameClient client.old client.new × (client.new.answer ≡ None) }
-    ensures come { result ≡ Ok true → (given : Given) → given.origin ≡ given_by origin.entry → HasComeAt client.old.door given (L.held client.new.line) client.new.got.items }
+    ensures come { result ≡ Ok true → (all : AllGiven) → all.clients ≡ given_entry given.entry → HasComeAt client.old.door all (L.held client.new.line) client.new.got.items }
 {
     match client.door {
-        Door::Clients => hear_out(alloc, origin, client),
+        Door::Clients => hear_out(alloc, given, client),
         Door::Orders => hear_message(client),
     }
 }
@@ -120,83 +114,118 @@ fn tells_no_fault(served: Served) -> bool
 /// told whole, and without a fault. Where memory is wanting for it, it is a beginning.
 fn served<S: Alter>(
     alloc: Global,
-    origin: Option<Origin<'_>>,
+    given: Given<'_>,
     got: &[u8],
     office: &mut Office<S>,
 ) -> (Vec<u8>, bool)
-    ensures served { HasServed (given_by origin.entry) (state S.Store) office.old got.now result.0.items office.new }
+    ensures served { HasServed (given_entry given.entry) (state S.Store) office.old got.now result.0.items office.new }
     ensures read { result.1 ≡ true → WhenOpenAt (state S.Store) office.old office.new
-        (λ s. (what : Reading) → Asks (given_by origin.entry) got.now (reading what) → IsRead (given_by origin.entry) s got.now result.0.items × IsOpenAt s office.new.closed (state S.Store office.new.held)) }
-    ensures asked { WhenOpenAt (state S.Store) office.old office.new (λ s. (what : Reading) → Asks (given_by origin.entry) got.now (reading what) → IsReadAt s office.new.closed (state S.Store office.new.held)) }
+        (λ s. (what : Reading) → Asks (given_entry given.entry) got.now (reading what)
+        → IsRead (given_entry given.entry) s got.now result.0.items × IsOpenAt s office.new.closed (state S.Store office.new.held)) }
+    ensures asked { WhenOpenAt (state S.Store) office.old office.new
+        (λ s. (what : Reading) → Asks (given_entry given.entry) got.now (reading what) → IsReadAt s office.new.closed (state S.Store office.new.held)) }
 {
     let mut reader = Gathered::new(got);
     let mut writer = Writing::new(alloc);
-    let served = serve_one(alloc, origin, &mut reader, &mut writer, office);
+    let served = serve_one(alloc, given, &mut reader, &mut writer, office);
     let is_told = tells_no_fault(served);
     (writer.into_bytes(), is_told)
 }
 
 /// Whether a client asks for a read, and the office is open for it. Where memory is wanting, he doesn't.
-fn is_reading<S: Alter>(
-    alloc: Global,
-    origin: Option<Origin<'_>>,
-    got: &[u8],
-    office: &Office<S>,
-) -> bool
+fn is_reading<S: Alter>(alloc: Global, given: Given<'_>, got: &[u8], office: &Office<S>) -> bool
     ensures open { result ≡ true → office.now.closed ≡ false }
-    ensures asks { result ≡ true → (what : Reading) × Asks (given_by origin.entry) got.now (reading what) }
+    ensures asks { result ≡ true → (what : Reading) × Asks (given_entry given.entry) got.now (reading what) }
 {
     if office.is_closed() {
         return false;
     }
-    asks_reading(alloc, origin, got)
+    asks_reading(alloc, given, got)
 }
 
 /// The answer to a client who asks for a read. What is read anew is kept for who asks the same; and where an answer to the same
 /// is kept, it is told again.
 fn read_answer<S: Alter>(
     alloc: Global,
-    origin: Option<Origin<'_>>,
+    given: Given<'_>,
     got: &[u8],
     office: &mut Office<S>,
-    kept: &mut Kept,
+    kept: &mut Remembered,
 ) -> Answer
     requires open { office.old.closed ≡ false }
-    requires asks { (what : Reading) × Asks (given_by origin) got.now (reading what) }
-    ensures served { (number : ℕ) → ServesClient (given_by origin.entry) (state S.Store) (desk_at office.old (reads_in kept.old))
-        (record { door = Door.Clients; number = number; got = got.now; answer = result.bytes.items }) (desk_at office.new (reads_in kept.new)) }
+    requires asks { (what : Reading) × Asks (given_entry given) got.now (reading what) }
+    ensures served { (number moment : ℕ) → ServesClient (given_entry given.entry) (state S.Store) (desk_at office.old (kept_in kept.old))
+        (record { door = Door.Clients; number = number; moment = moment; got = got.now; answer = result.bytes.items }) (desk_at office.new (kept_in kept.new)) }
+    ensures tries { entries_of kept.new.tries ≡ entries_of kept.old.tries }
     ensures untold { result.sent ≡ 0 }
 {
-    if let Some(bytes) = kept.told_to(alloc, got) {
+    if let Some(bytes) = kept.reads.told_to(alloc, got) {
         return Answer { bytes, sent: 0 };
     }
-    let (bytes, is_told) = served(alloc, origin, got, office);
+    let (bytes, is_told) = served(alloc, given, got, office);
     if !is_told {
         return Answer { bytes, sent: 0 };
     }
-    kept.keep(alloc, got, bytes.as_slice());
+    kept.reads.keep(alloc, got, bytes.as_slice());
     Answer { bytes, sent: 0 }
 }
 
-/// The answer to a client of whom these bytes were gathered, of which nothing was told yet. Before anything but a read nothing is
-/// kept any more.
+/// The answer to a client who is let in, of whom these bytes were gathered, of which nothing was told yet. Before anything but a
+/// read no answer is kept any more.
 fn answered<S: Alter>(
     alloc: Global,
-    origin: Option<Origin<'_>>,
+    given: Given<'_>,
     got: &[u8],
     office: &mut Office<S>,
-    kept: &mut Kept,
+    kept: &mut Remembered,
 ) -> Answer
-    ensures served { (number : ℕ) → ServesClient (given_by origin.entry) (state S.Store) (desk_at office.old (reads_in kept.old))
-        (record { door = Door.Clients; number = number; got = got.now; answer = result.bytes.items }) (desk_at office.new (reads_in kept.new)) }
+    ensures served { (number moment : ℕ) → ServesClient (given_entry given.entry) (state S.Store) (desk_at office.old (kept_in kept.old))
+        (record { door = Door.Clients; number = number; moment = moment; got = got.now; answer = result.bytes.items }) (desk_at office.new (kept_in kept.new)) }
+    ensures tries { entries_of kept.new.tries ≡ entries_of kept.old.tries }
     ensures untold { result.sent ≡ 0 }
 {
-    if is_reading(alloc, origin, got, office) {
-        return read_answer(alloc, origin, got, office, kept);
+    if is_reading(alloc, given, got, office) {
+        return read_answer(alloc, given, got, office, kept);
     }
-    kept.empty();
-    let (bytes, _) = served(alloc, origin, got, office);
+    kept.reads.empty();
+    let (bytes, _) = served(alloc, given, got, office);
     Answer { bytes, sent: 0 }
+}
+
+/// The answer to who must wait, of which nothing was told yet.
+fn to_wait(alloc: Global) -> Answer
+    ensures told { (visit : Visit) → visit.answer ≡ result.bytes.items → IsToldToWait visit }
+    ensures untold { result.sent ≡ 0 }
+{
+    let mut writer = Writing::new(alloc);
+    let _ = tell_to_wait(&mut writer);
+    Answer {
+        bytes: writer.into_bytes(),
+        sent: 0,
+    }
+}
+
+/// The answer to a client of whom these bytes were gathered, of which nothing was told yet. Who knocks under the number of a
+/// clerk who must wait is told so, and nothing else comes of it; of anybody else it is noted if his code was wrong.
+fn answer_client<S: Alter>(
+    alloc: Global,
+    given: Given<'_>,
+    now: u64,
+    got: &[u8],
+    office: &mut Office<S>,
+    kept: &mut Remembered,
+) -> Answer
+    ensures meets { (number : ℕ) → MeetsClient (given_entry given.entry) (state S.Store) (desk_at office.old (kept_in kept.old))
+        (record { door = Door.Clients; number = number; moment = now; got = got.now; answer = result.bytes.items }) (desk_at office.new (kept_in kept.new)) }
+    ensures untold { result.sent ≡ 0 }
+{
+    let knock = knock_of(given, got);
+    if kept.must_wait(knock, now) {
+        return to_wait(alloc);
+    }
+    let answer = answered(alloc, given, got, office, kept);
+    kept.note(knock, now);
+    answer
 }
 
 /// The answer to who came in at a door, of whom all was heard, and his line again: of a client nothing was told yet, and an order
@@ -204,23 +233,27 @@ fn answered<S: Alter>(
 fn answer_to<L: Line, A: Aside, S: Alter>(
     alloc: Global,
     terms: Terms<'_>,
+    now: u64,
     aside: &A,
     door: Door,
     got: &[u8],
     line: L,
     office: &mut Office<S>,
-    kept: &mut Kept,
+    kept: &mut Remembered,
 ) -> (L, Answer)
     requires fresh { HasTaken (L.taken line) [] }
     requires whole { door ≡ Door.Orders → HasCameWhole got.now }
     ensures told { IsTold (line_of L.held L.taken) result.0 result.1.bytes.items result.1.sent }
-    ensures served { (number : ℕ) → ServesVisit (given_in terms.entry) (state S.Store) (desk_at office.old (reads_in kept.old))
-        (record { door = door; number = number; got = got.now; answer = result.1.bytes.items }) (desk_at office.new (reads_in kept.new)) }
+    ensures served { (number : ℕ) → ServesVisit (given_in terms.entry) (state S.Store) (desk_at office.old (kept_in kept.old))
+        (record { door = door; number = number; moment = now; got = got.now; answer = result.1.bytes.items }) (desk_at office.new (kept_in kept.new)) }
 {
     match door {
-        Door::Clients => (line, answered(alloc, terms.origin, got, office, kept)),
+        Door::Clients => (
+            line,
+            answer_client(alloc, terms.given, now, got, office, kept),
+        ),
         Door::Orders => {
-            kept.empty();
+            kept.reads.empty();
             answer_order(alloc, terms.file, aside, got, line, office)
         }
     }
@@ -247,17 +280,18 @@ fn tell_more<L: Line>(client: &mut Client<L>) -> Attended
 fn take_turn<L: Line, A: Aside, S: Alter>(
     alloc: Global,
     terms: Terms<'_>,
+    now: u64,
     aside: &A,
     client: Client<L>,
     office: &mut Office<S>,
-    kept: &mut Kept,
+    kept: &mut Remembered,
 ) -> (Client<L>, Attended)
     requires fresh { HasTaken (L.taken client.line) [] }
     requires whole { client.door ≡ Door.Orders → HasCameWhole client.got.items }
     ensures is { (start : L) → IsOf (line_of L.held L.taken) start result.0 }
     ensures same { IsSameClient client result.0 }
-    ensures turn { (visit : Visit) × (visit.door ≡ client.door) × (visit.number ≡ client.number) × (visit.got ≡ client.got.items)
-        × ServesVisit (given_in terms.entry) (state S.Store) (desk_at office.old (reads_in kept.old)) visit (desk_at office.new (reads_in kept.new)) × (answer_of result.0 ≡ Some visit.answer) }
+    ensures turn { (visit : Visit) × (visit.door ≡ client.door) × (visit.number ≡ client.number) × (visit.moment ≡ now) × (visit.got ≡ client.got.items)
+        × ServesVisit (given_in terms.entry) (state S.Store) (desk_at office.old (kept_in kept.old)) visit (desk_at office.new (kept_in kept.new)) × (answer_of result.0 ≡ Some visit.answer) }
     ensures done { result.1 ≡ Attended.Done → IsToldAll result.0 }
 {
     let Client {
@@ -271,6 +305,7 @@ fn take_turn<L: Line, A: Aside, S: Alter>(
     let (line, answer) = answer_to(
         alloc,
         terms,
+        now,
         aside,
         door,
         got.as_slice(),
@@ -292,23 +327,25 @@ fn take_turn<L: Line, A: Aside, S: Alter>(
     }
 }
 
-/// A client, or an order that is handed over, goes on, as far as his line lets him now: he is heard; once what he asks has come
-/// to its end, this is his turn, and he is served; and he is told his answer. He is given back, with what became of him.
+/// A client, or an order that is handed over, goes on at a moment, in milliseconds of a clock, as far as his line lets him now:
+/// he is heard; once what he asks has come to its end, this is his turn, and he is served, or told that he must wait for wrong
+/// codes; and he is told his answer. He is given back, with what became of him.
 ///
 /// What is gathered of him are his own bytes, from his first one on, and what he is told is the answer to just these. Nobody
 /// else is touched.
 pub fn attend<L: Line, A: Aside, S: Alter>(
     alloc: Global,
     terms: Terms<'_>,
+    now: u64,
     aside: &A,
     client: Client<L>,
     office: &mut Office<S>,
-    kept: &mut Kept,
+    kept: &mut Remembered,
 ) -> (Client<L>, Attended)
     requires untold { IsUntold (line_of L.held L.taken) client }
     ensures is { (start : L) → IsOf (line_of L.held L.taken) start client → IsOf (line_of L.held L.taken) start result.0 }
     ensures same { IsSameClient client result.0 }
-    ensures turn { MayHaveTurn (given_in terms.entry) (line_of L.held L.taken) (state S.Store) client result.0 (desk_at office.old (reads_in kept.old)) (desk_at office.new (reads_in kept.new)) }
+    ensures turn { MayHaveTurn (given_in terms.entry) (line_of L.held L.taken) (state S.Store) now client result.0 (desk_at office.old (kept_in kept.old)) (desk_at office.new (kept_in kept.new)) }
     ensures done { result.1 ≡ Attended.Done → IsToldAll result.0 }
 {
     let mut client = client;
@@ -316,8 +353,8 @@ pub fn attend<L: Line, A: Aside, S: Alter>(
         let told = tell_more(&mut client);
         return (client, told);
     }
-    match hear(alloc, terms.origin, &mut client) {
-        Ok(true) => take_turn(alloc, terms, aside, client, office, kept),
+    match hear(alloc, terms.given, &mut client) {
+        Ok(true) => take_turn(alloc, terms, now, aside, client, office, kept),
         Ok(false) => (client, Attended::Waits),
         Err(_) => (client, Attended::Lost),
     }

@@ -77,9 +77,9 @@ pub fn asked_by<'w>(alloc: Global, words: &'w [&'w str]) -> Asked<'w>
         Ok(Order::Perform(Task::InOffice(job))) => Asked::Do(job),
         Ok(Order::Copy { path }) => Asked::Copy(path),
         Ok(Order::Journal) => Asked::Journal,
-        Ok(Order::Perform(Task::Init | Task::Migrate) | Order::Serve { .. }) => {
-            Asked::Refused(Failure::BeingServed)
-        }
+        Ok(
+            Order::Perform(Task::Init | Task::Migrate) | Order::Serve { .. } | Order::Codes { .. },
+        ) => { Asked::Refused(Failure::BeingServed) }
         Err(fault) => Asked::Misread(fault),
     }
 }

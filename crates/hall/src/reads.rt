@@ -5,13 +5,13 @@
 ghost use Rattle.std.specs.Prelude.{◌≡◌, ◌⊎◌, ◌≤◌, ◌<◌, ◌++◌, ◌∷◌, [], IfSome, List, Option, ℕ, length, true};
 ghost use Rattle.std.specs.List.{Contains};
 ghost use Rattle.wire.specs.Asking.{Asks, reading};
-ghost use Rattle.wire.specs.Origins.{given_by};
+ghost use Rattle.wire.specs.Gates.{given_entry};
 ghost use Rattle.wire.specs.declared.target.Reading.{Reading};
 ghost use Rattle.hall.specs.Reads.{ReadEntry, reads_in};
 
 use gathering::Gathered;
 use std::alloc::Global;
-use wire::{Asked, Origin, read_asked};
+use wire::{Asked, Given, read_asked};
 
 /// The most bytes that are kept, of requests and answers together.
 const MAX_KEPT: usize = 16 << 20;
@@ -36,18 +36,16 @@ pub struct Kept {
     pub bytes: usize,
 }
 
-/// Whether bytes ask for a read: a clerk's work, a stage sheet or a declaration. Where memory is wanting, they don't.
-pub fn asks_reading(alloc: Global, origin: Option<Origin<'_>>, got: &[u8]) -> bool
-    ensures { result ≡ true → (what : Reading) × Asks (given_by origin.entry) got.now (reading what) }
+/// Whether bytes ask for a read: a clerk's work, the candidates of his batch, a stage sheet or a declaration. Where memory is
+/// wanting, they don't.
+pub fn asks_reading(alloc: Global, given: Given<'_>, got: &[u8]) -> bool
+    ensures { result ≡ true → (what : Reading) × Asks (given_entry given.entry) got.now (reading what) }
 {
     if !got.starts_with(GET) {
         return false;
     }
     let mut reader = Gathered::new(got);
-    matches!(
-        read_asked(alloc, origin, &mut reader),
-        Ok(Asked::Reading(_))
-    )
+    matches!(read_asked(alloc, given, &mut reader), Ok(Asked::Reading(_)))
 }
 
 impl Kept {

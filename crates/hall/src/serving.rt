@@ -8,8 +8,9 @@ ghost use Rattle.sqlite.specs.Held.{state};
 ghost use Rattle.gathering.specs.Lines.{line_of};
 ghost use Rattle.gathering.specs.Clients.{IsOf};
 ghost use Rattle.gathering.specs.declared.client.Comer.{Comer};
+ghost use Rattle.codes.specs.Tries.{entries_of};
 ghost use Rattle.hall.specs.Guests.{IsSound};
-ghost use Rattle.hall.specs.Reads.{desk_at, reads_in};
+ghost use Rattle.hall.specs.Reads.{desk_at, kept_in};
 ghost use Rattle.hall.specs.Terms.{Given, given_in};
 ghost use Rattle.hall.specs.Turns.{IsUntold, MayHaveTurn};
 ghost use Rattle.hall.specs.Halls.{GoesOn, GoesOnServing, IsWithin, ServesHall};
@@ -17,8 +18,9 @@ ghost use Rattle.hall.specs.Halls.{GoesOn, GoesOnServing, IsWithin, ServesHall};
 use crate::aside::Aside;
 use crate::attending::{Attended, attend};
 use crate::leaving::{PATIENCE, keep_within, let_go_late, make_room};
-use crate::reads::Kept;
+use crate::remembered::Remembered;
 use crate::terms::Terms;
+use codes::Tries;
 use gathering::room::{longest, place_of};
 use gathering::{Admitted, Client, Doors, Line, Room};
 use office::Office;
@@ -41,8 +43,47 @@ fn moment<C: Clock>(clock: &C) -> Result<u64, Broken> {
     }
 }
 
-/// One of those who are in goes on, and is given back; whether he stays in. His half minute begins anew once he has his answer:
-/// however long his turn took, he has all of it.
+/// The time of a clock in milliseconds, where there is a gate, at which wrong codes count; and 0 where there is none.
+fn moment_at_gate<C: Clock>(clock: &C, terms: Terms<'_>) -> Result<u64, Broken> {
+    match terms.given.gate {
+        Some(_) => moment(clock),
+        None => Ok(0),
+    }
+}
+
+/// One of those who are in goes on at a moment, and is given back; whether he stays in. His half minute begins anew once he has
+/// his answer: however long his turn took, he has all of it.
+fn go_on_now<L: Line, C: Clock, A: Aside, S: Alter>(
+    alloc: Global,
+    clock: &C,
+    terms: Terms<'_>,
+    now: u64,
+    aside: &A,
+    client: Client<L>,
+    office: &mut Office<S>,
+    kept: &mut Remembered,
+) -> (Client<L>, Result<bool, Broken>)
+    requires untold { IsUntold (line_of L.held L.taken) client }
+    ensures is { (start : L) → IsOf (line_of L.held L.taken) start client → IsOf (line_of L.held L.taken) start result.0 }
+    ensures same { (result.0.door ≡ client.door) × (result.0.number ≡ client.number) }
+    ensures turn { MayHaveTurn (given_in terms.entry) (line_of L.held L.taken) (state S.Store) now client result.0 (desk_at office.old (kept_in kept.old)) (desk_at office.new (kept_in kept.new)) }
+{
+    let (mut client, attended) = attend(alloc, terms, now, aside, client, office, kept);
+    match attended {
+        Attended::Waits => (client, Ok(true)),
+        Attended::Served => match moment(clock) {
+            Ok(later) => {
+                client.since = later;
+                (client, Ok(true))
+            }
+            Err(Broken) => (client, Err(Broken)),
+        },
+        Attended::Done => (client, Ok(false)),
+        Attended::Lost => (client, Ok(false)),
+    }
+}
+
+/// One of those who are in goes on, and is given back; whether he stays in. Where the clock fails at the gate, he doesn't go on.
 fn go_on<L: Line, C: Clock, A: Aside, S: Alter>(
     alloc: Global,
     clock: &C,
@@ -50,25 +91,17 @@ fn go_on<L: Line, C: Clock, A: Aside, S: Alter>(
     aside: &A,
     client: Client<L>,
     office: &mut Office<S>,
-    kept: &mut Kept,
+    kept: &mut Remembered,
 ) -> (Client<L>, Result<bool, Broken>)
     requires untold { IsUntold (line_of L.held L.taken) client }
     ensures is { (start : L) → IsOf (line_of L.held L.taken) start client → IsOf (line_of L.held L.taken) start result.0 }
     ensures same { (result.0.door ≡ client.door) × (result.0.number ≡ client.number) }
-    ensures turn { MayHaveTurn (given_in terms.entry) (line_of L.held L.taken) (state S.Store) client result.0 (desk_at office.old (reads_in kept.old)) (desk_at office.new (reads_in kept.new)) }
+    ensures turn { (now : ℕ) × MayHaveTurn (given_in terms.entry) (line_of L.held L.taken) (state S.Store) now client result.0
+        (desk_at office.old (kept_in kept.old)) (desk_at office.new (kept_in kept.new)) }
 {
-    let (mut client, attended) = attend(alloc, terms, aside, client, office, kept);
-    match attended {
-        Attended::Waits => (client, Ok(true)),
-        Attended::Served => match moment(clock) {
-            Ok(now) => {
-                client.since = now;
-                (client, Ok(true))
-            }
-            Err(Broken) => (client, Err(Broken)),
-        },
-        Attended::Done => (client, Ok(false)),
-        Attended::Lost => (client, Ok(false)),
+    match moment_at_gate(clock, terms) {
+        Ok(now) => go_on_now(alloc, clock, terms, now, aside, client, office, kept),
+        Err(Broken) => (client, Err(Broken)),
     }
 }
 
@@ -91,11 +124,12 @@ fn go_on_at<L: Line + Drop, C: Clock, A: Aside, S: Alter>(
     room: &mut Room<L>,
     place: usize,
     office: &mut Office<S>,
-    kept: &mut Kept,
+    kept: &mut Remembered,
 ) -> Result<(), Broken>
     requires place { place < length room.old.clients.items }
     requires sound { IsSound (given_in terms) (line_of L.held L.taken) room.old }
-    ensures goes_on { (let_in : Option (List (Comer L))) → GoesOnServing (given_in terms.entry) (line_of L.held L.taken) (state S.Store) let_in let_in room.old room.new (desk_at office.old (reads_in kept.old)) (desk_at office.new (reads_in kept.new)) }
+    ensures goes_on { (let_in : Option (List (Comer L))) → GoesOnServing (given_in terms.entry) (line_of L.held L.taken) (state S.Store) let_in let_in room.old room.new
+        (desk_at office.old (kept_in kept.old)) (desk_at office.new (kept_in kept.new)) }
     ensures came { room.new.came ≡ room.old.came }
     ensures counted { room.new.counted ≡ room.old.counted }
     ensures within { IsWithin room.old → OnOk result (IsWithin room.new) }
@@ -119,10 +153,11 @@ fn go_on_numbered<L: Line + Drop, C: Clock, A: Aside, S: Alter>(
     room: &mut Room<L>,
     number: u64,
     office: &mut Office<S>,
-    kept: &mut Kept,
+    kept: &mut Remembered,
 ) -> Result<(), Broken>
     requires { IsSound (given_in terms) (line_of L.held L.taken) room.old }
-    ensures goes_on { (let_in : Option (List (Comer L))) → GoesOnServing (given_in terms.entry) (line_of L.held L.taken) (state S.Store) let_in let_in room.old room.new (desk_at office.old (reads_in kept.old)) (desk_at office.new (reads_in kept.new)) }
+    ensures goes_on { (let_in : Option (List (Comer L))) → GoesOnServing (given_in terms.entry) (line_of L.held L.taken) (state S.Store) let_in let_in room.old room.new
+        (desk_at office.old (kept_in kept.old)) (desk_at office.new (kept_in kept.new)) }
     ensures came { room.new.came ≡ room.old.came }
     ensures counted { room.new.counted ≡ room.old.counted }
     ensures within { IsWithin room.old → OnOk result (IsWithin room.new) }
@@ -142,10 +177,11 @@ fn go_on_all<D: Doors, C: Clock, A: Aside, S: Alter>(
     aside: &A,
     room: &mut Room<D::Line>,
     office: &mut Office<S>,
-    kept: &mut Kept,
+    kept: &mut Remembered,
 ) -> Result<(), Broken>
     requires { IsSound (given_in terms) (line_of D.Line.held D.Line.taken) room.old }
-    ensures goes_on { GoesOnServing (given_in terms.entry) (line_of D.Line.held D.Line.taken) (state S.Store) (D.came doors.old) (D.came doors.new) room.old room.new (desk_at office.old (reads_in kept.old)) (desk_at office.new (reads_in kept.new)) }
+    ensures goes_on { GoesOnServing (given_in terms.entry) (line_of D.Line.held D.Line.taken) (state S.Store) (D.came doors.old) (D.came doors.new) room.old room.new
+        (desk_at office.old (kept_in kept.old)) (desk_at office.new (kept_in kept.new)) }
     ensures came { room.new.came ≡ room.old.came }
     ensures counted { room.new.counted ≡ room.old.counted }
     ensures within { IsWithin room.old → OnOk result (IsWithin room.new) }
@@ -236,10 +272,11 @@ fn go_round<D: Doors, C: Clock, A: Aside, S: Alter>(
     most: u64,
     room: &mut Room<D::Line>,
     office: &mut Office<S>,
-    kept: &mut Kept,
+    kept: &mut Remembered,
 ) -> Result<bool, Broken>
     requires { IsSound (given_in terms) (line_of D.Line.held D.Line.taken) room.old }
-    ensures goes_on { GoesOnServing (given_in terms.entry) (line_of D.Line.held D.Line.taken) (state S.Store) (D.came doors.old) (D.came doors.new) room.old room.new (desk_at office.old (reads_in kept.old)) (desk_at office.new (reads_in kept.new)) }
+    ensures goes_on { GoesOnServing (given_in terms.entry) (line_of D.Line.held D.Line.taken) (state S.Store) (D.came doors.old) (D.came doors.new) room.old room.new
+        (desk_at office.old (kept_in kept.old)) (desk_at office.new (kept_in kept.new)) }
     ensures few { room.old.counted ≤ most → room.new.counted ≤ most }
     ensures within { IsWithin room.old → OnOk result (IsWithin room.new) }
     ensures all { result ≡ Ok true → (most ≤ room.new.counted) × (room.new.clients.items ≡ []) }
@@ -255,15 +292,18 @@ fn go_round<D: Doors, C: Clock, A: Aside, S: Alter>(
     Ok(false)
 }
 
-/// Serves those who come to the doors of an office, and pages of an origin through a proxy, if one is given: until so many
-/// clients came in and all who are in left, or without end, where no number is given. Orders that are handed over come in too, before
-/// clients, and don't count.
+/// Serves those who come to the doors of an office, by what it was given, the origin of a proxy and the gate, if any: until so
+/// many clients came in and all who are in left, or without end, where no number is given. Orders that are handed over come in
+/// too, before clients, and don't count.
 ///
 /// All are heard side by side, and so they are told their answers. Each has his turn once what he asks has come to its
-/// end: a client is served whole in it, and an order is followed whole, in the very office. At most 512 are in at once, with 64 MiB of what they sent and are to take. Past that the
-/// next waits at the doors, and who has waited longest is let go for him, if that is a second at least. One has half a minute
-/// for what he asks, and half a minute more to take his answer. Who is let go gets no answer. Who can't be let in now is
-/// let in later.
+/// end: a client is served whole in it, and an order is followed whole, in the very office. At most 512 are in at once, with
+/// 64 MiB of what they sent and are to take. Past that the next waits at the doors, and who has waited longest is let go for
+/// him, if that is a second at least. One has half a minute for what he asks, and half a minute more to take his answer. Who is
+/// let go gets no answer. Who can't be let in now is let in later.
+///
+/// At the gate ten wrong codes under a clerk's number within a minute make everyone wait who asks there, for a minute: they
+/// are told so, and nothing else. The moments are those that the clock shows, and `tries` are the wrong codes that came before.
 ///
 /// What is gathered of a client, or of an order, are his own bytes, from the first one on, and what he is told is the answer
 /// to just these. Nothing changes an open office but clerks' keyings, at most one a client, and the requests of orders: whatever a
@@ -276,17 +316,19 @@ pub fn serve_hall<D: Doors, C: Clock, A: Aside, S: Alter>(
     clock: &C,
     doors: &mut D,
     terms: Terms<'_>,
+    tries: Tries,
     aside: &A,
     connections: Option<u64>,
     office: &mut Office<S>,
 ) -> Result<(), Broken>
-    ensures served { ServesHall (given_in terms.entry) (line_of D.Line.held D.Line.taken) (state S.Store) (D.came doors.old) (D.came doors.new) connections office.old office.new result }
+    ensures served { ServesHall (given_in terms.entry) (line_of D.Line.held D.Line.taken) (state S.Store)
+        (D.came doors.old) (D.came doors.new) connections (entries_of tries) office.old office.new result }
     ensures closed { office.old.closed ≡ true → office.new ≡ office.old }
     ensures clean { HasCleanDisk (state S.Store office.new.held) → HasCleanDisk (state S.Store office.old.held) }
 {
     let most = connections.unwrap_or(u64::MAX);
     let mut room = Room::new(alloc);
-    let mut kept = Kept::new(alloc);
+    let mut kept = Remembered::new(alloc, tries);
     for _ in 0..u64::MAX {
         if go_round(
             alloc, clock, doors, terms, aside, most, &mut room, office, &mut kept,

@@ -1,6 +1,6 @@
 //! What an office that serves goes by.
 
-use wire::Origin;
+use wire::Given;
 
 /// A file, by the numbers of its device and its own.
 #[derive(Clone, Copy)]
@@ -9,9 +9,10 @@ pub struct FileNumbers {
     pub inode: u64,
 }
 
-/// The origin of a proxy, if one is given; and the file that is served, for which orders are handed over.
+/// What the office was given for its clients, the origin of a proxy and the gate, if any; and the file that is served, for
+/// which orders are handed over.
 #[derive(Clone, Copy)]
 pub struct Terms<'a> {
-    pub origin: Option<Origin<'a>>,
+    pub given: Given<'a>,
     pub file: FileNumbers,
 }

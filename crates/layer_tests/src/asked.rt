@@ -10,7 +10,7 @@ use std::io::{ErrorKind, Read};
 use std::process::Abort;
 use std::test::Fail;
 use votes::{Counted, Source};
-use wire::{Asked, Denial, Keying, Origin, Unread, read_asked};
+use wire::{Asked, Denial, Given, Keying, Show, Unread, read_asked};
 
 /// How long a head may be, in bytes, how many headers it may have, and how long a body may be.
 const MAX_HEAD_BYTES: usize = 8192;
@@ -59,10 +59,22 @@ fn denial_words(alloc: Global, why: &Denial) -> Result<String, AllocError> {
     }
 }
 
+/// What a clerk is shown, in short.
+fn shown_words(alloc: Global, clerk: u32, what: &Show<'_>) -> Result<String, AllocError> {
+    match what {
+        Show::Page(page) => {
+            let (text, policy) = (page.text, page.policy);
+            format!(in alloc; "{clerk} sees {text} by {policy}")
+        }
+        Show::Left => format!(in alloc; "{clerk} leaves"),
+    }
+}
+
 /// What a request asks, or why it wasn't read, in short.
 fn words_of(alloc: Global, came: &Result<Asked, Unread>) -> Result<String, AllocError> {
     match came {
         Ok(Asked::Keying(keying)) => keying_words(alloc, keying),
+        Ok(Asked::Shown(clerk, what)) => shown_words(alloc, *clerk, what),
         Ok(Asked::Reading(what)) => format!(in alloc; "{what:?}"),
         Ok(Asked::Denied(why)) => denial_words(alloc, why),
         Err(Unread::Broken) => String::from_str(alloc, "broken"),
@@ -70,27 +82,33 @@ fn words_of(alloc: Global, came: &Result<Asked, Unread>) -> Result<String, Alloc
     }
 }
 
-/// What is asked, in short, of an office that was given the origin of a proxy or none.
+/// What an office was given that has neither a proxy in front nor codes.
+pub const NOTHING: Given<'static> = Given {
+    origin: None,
+    gate: None,
+};
+
+/// What is asked, in short, of an office that was given this.
 fn asked_text<R: Source>(
     alloc: Global,
-    origin: Option<Origin<'_>>,
+    given: Given<'_>,
     reader: &mut R,
 ) -> Result<String, AllocError>
     requires { R.failed reader.old < 2 ^ 64 - 1 }
 {
-    words_of(alloc, &read_asked(alloc, origin, reader))
+    words_of(alloc, &read_asked(alloc, given, reader))
 }
 
 /// Reads a request.
 fn asks_in<R: Source>(
     rt: &(impl Abort + AllocGlobal),
-    origin: Option<Origin<'_>>,
+    given: Given<'_>,
     reader: &mut R,
     asked: &str,
 ) -> Result<(), Fail>
     requires { R.failed reader.old < 2 ^ 64 - 1 }
 {
-    let text = asked_text(rt.alloc(), origin, reader)?;
+    let text = asked_text(rt.alloc(), given, reader)?;
     is_text(rt, text.as_str(), asked);
     Ok(())
 }
@@ -98,21 +116,21 @@ fn asks_in<R: Source>(
 /// Reads a request given at once, and one byte at a time.
 pub fn asks_of(
     rt: &(impl Abort + AllocGlobal),
-    origin: Option<Origin<'_>>,
+    given: Given<'_>,
     request: &[u8],
     asked: &str,
 ) -> Result<(), Fail> {
-    asks_in(rt, origin, &mut Counted::new(request), asked)?;
+    asks_in(rt, given, &mut Counted::new(request), asked)?;
     let slow = Slow {
         left: request,
         fails: false,
     };
-    asks_in(rt, origin, &mut Counted::new(slow), asked)
+    asks_in(rt, given, &mut Counted::new(slow), asked)
 }
 
-/// The same of an office that was given no origin.
+/// The same of an office that was given nothing.
 pub fn asks(rt: &(impl Abort + AllocGlobal), request: &[u8], asked: &str) -> Result<(), Fail> {
-    asks_of(rt, None, request, asked)
+    asks_of(rt, NOTHING, request, asked)
 }
 
 /// A keying with these headers and this body.
@@ -127,7 +145,7 @@ pub const BODY: &str = r#"{"id":"h1","round":1,"papers":["1,2,","D"]}"#;
 pub const KEYED: &str = "4 keys 12 round 1 as h1: [1,2,] [D]";
 
 /// First lines, behind each of which no length is one.
-const TARGETS: [(&str, &str); 20] = [
+const TARGETS: [(&str, &str); 23] = [
     ("GET /clerks/4/work HTTP/1.1", "Work { clerk: 4 }"),
     ("GET /clerks/99999/work HTTP/1.0", "Work { clerk: 99999 }"),
     ("GET /wards/7/sheet HTTP/1.1", "Sheet { ward: 7 }"),
@@ -141,6 +159,9 @@ const TARGETS: [(&str, &str); 20] = [
     ("GET /wards/%37/sheet HTTP/1.1", "NotFound"),
     ("GET /w\u{e4}rds/7/sheet HTTP/1.1", "NotFound"),
     ("POST /nothing HTTP/1.1", "NotFound"),
+    ("GET /clerks/4/ HTTP/1.1", "NotFound"),
+    ("GET /clerks/4/leave HTTP/1.1", "NotFound"),
+    ("GET /clerks/4/batches/12/candidates HTTP/1.1", "NotFound"),
     ("POST /wards/7/sheet HTTP/1.1", "only Get"),
     ("get /wards/7/sheet HTTP/1.1", "only Get"),
     ("GET /clerks/4/batches/12/keying HTTP/1.1", "only Post"),
@@ -299,7 +320,7 @@ fn spaces(alloc: Global) -> Result<String, AllocError> {
 fn asks_spaces(rt: &(impl Abort + AllocGlobal)) -> Result<(), Fail> {
     let request = spaces(rt.alloc())?;
     let mut reader = Counted::new(request.as_bytes());
-    asks_in(rt, None, &mut reader, "BadRequest")
+    asks_in(rt, NOTHING, &mut reader, "BadRequest")
 }
 
 #[test]
@@ -320,7 +341,7 @@ fn long_heads_and_bodies(rt: HostRuntime) -> Result<(), Fail> {
 fn breaks_off(rt: &(impl Abort + AllocGlobal), left: &[u8], is_whole: bool) -> Result<(), Fail> {
     let mut reader = Counted::new(Slow { left, fails: true });
     let wanted = if is_whole { KEYED } else { "broken" };
-    asks_in(rt, None, &mut reader, wanted)?;
+    asks_in(rt, NOTHING, &mut reader, wanted)?;
     assert_eq!(rt; reader.failures(), u64::from(!is_whole));
     Ok(())
 }

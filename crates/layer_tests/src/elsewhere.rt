@@ -1,10 +1,10 @@
 //! Requests that a browser sends for pages from elsewhere, and for those that come through a proxy.
 
-use super::asked::{BODY, KEYED, asks, asks_of};
+use super::asked::{BODY, KEYED, NOTHING, asks, asks_of};
 use std::alloc::{AllocError, Global};
 use std::process::Abort;
 use std::test::Fail;
-use wire::Origin;
+use wire::{Given, Origin};
 
 /// Headers that a browser sends for a page from elsewhere, or where the office was found by a foreign name.
 const FOREIGN: [&str; 35] = [
@@ -103,28 +103,28 @@ fn request_of(alloc: Global, line: &str, first: &str, second: &str) -> Result<St
 /// Reads a request with these headers, in this order and in the other.
 fn asks_both(
     rt: &(impl Abort + AllocGlobal),
-    origin: Option<Origin<'_>>,
+    given: Given<'_>,
     line: &str,
     headers: (&str, &str),
     asked: &str,
 ) -> Result<(), Fail> {
     let request = request_of(rt.alloc(), line, headers.0, headers.1)?;
-    asks_of(rt, origin, request.as_bytes(), asked)?;
+    asks_of(rt, given, request.as_bytes(), asked)?;
     let request = request_of(rt.alloc(), line, headers.1, headers.0)?;
-    asks_of(rt, origin, request.as_bytes(), asked)
+    asks_of(rt, given, request.as_bytes(), asked)
 }
 
 /// Reads a request with these headers more: it asks this, or is denied as foreign, a keying and a reading alike, and
 /// whatever else it would be denied for.
 fn asks_with(
     rt: &(impl Abort + AllocGlobal),
-    origin: Option<Origin<'_>>,
+    given: Given<'_>,
     headers: &str,
     is_foreign: bool,
 ) -> Result<(), Fail> {
     for (line, length, asked) in &CASES {
         let asked = if is_foreign { "Forbidden" } else { *asked };
-        asks_both(rt, origin, *line, (*length, headers), asked)?;
+        asks_both(rt, given, *line, (*length, headers), asked)?;
     }
     Ok(())
 }
@@ -154,16 +154,21 @@ const PROXIED: [(&str, bool, bool); 17] = [
     ("Host: https://count.example.org", false, false),
 ];
 
+/// What an office was given that has a proxy of an origin in front.
+fn through(origin: Option<Origin<'_>>) -> Given<'_> {
+    Given { origin, gate: None }
+}
+
 /// Which of some headers are foreign to an office that was given no origin, and to one that was given this.
 fn asks_each(
     rt: &(impl Abort + AllocGlobal),
-    origin: Option<Origin<'_>>,
+    given: Given<'_>,
     all: &[&str],
     is_foreign: bool,
 ) -> Result<(), Fail> {
     for headers in all {
-        asks_with(rt, None, *headers, is_foreign)?;
-        asks_with(rt, origin, *headers, is_foreign)?;
+        asks_with(rt, NOTHING, *headers, is_foreign)?;
+        asks_with(rt, given, *headers, is_foreign)?;
     }
     Ok(())
 }
@@ -172,12 +177,12 @@ fn asks_each(
 /// another without.
 fn asks_proxied(
     rt: &(impl Abort + AllocGlobal),
-    with_port: Option<Origin<'_>>,
-    without: Option<Origin<'_>>,
+    with_port: Given<'_>,
+    without: Given<'_>,
     all: &[(&str, bool, bool)],
 ) -> Result<(), Fail> {
     for (headers, by_port, by_none) in all {
-        asks_with(rt, None, *headers, true)?;
+        asks_with(rt, NOTHING, *headers, true)?;
         asks_with(rt, with_port, *headers, !*by_port)?;
         asks_with(rt, without, *headers, !*by_none)?;
     }
@@ -189,6 +194,8 @@ fn pages_from_elsewhere_and_through_a_proxy(rt: HostRuntime) -> Result<(), Fail>
     let with_port = Origin::parse("https://count.example.org:8443");
     let without = Origin::parse("http://count.example.org");
     assert!(rt; with_port.is_some() && without.is_some());
+    let with_port = through(with_port);
+    let without = through(without);
     asks_each(&rt, with_port, &FOREIGN, true)?;
     asks_each(&rt, with_port, &OWN, false)?;
     asks_proxied(&rt, with_port, without, &PROXIED)?;

@@ -16,6 +16,8 @@ mod counts;
 #[cfg(test)]
 mod elsewhere;
 #[cfg(test)]
+mod gates;
+#[cfg(test)]
 mod imports;
 #[cfg(test)]
 mod pages;

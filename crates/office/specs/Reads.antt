@@ -1,12 +1,12 @@
 -- What is told of a state, and what a read leaves.
-use Rattle.std.specs.Prelude.{◌≡◌, ◌⊎◌, ⊤, ℕ, Bool, true, if◌then◌else◌, List, Option, Some, None, Result, Ok, Err}
+use Rattle.std.specs.Prelude.{◌≡◌, ◌⊎◌, ◌&&◌, ⊤, ℕ, Bool, true, if◌then◌else◌, List, Option, Some, None, Result, Ok, Err}
 use Rattle.sqlite.specs.Held.{Held}
 use Rattle.sqlite.specs.State.{State}
 use Rattle.register.specs.declared.refusal.Reason.{Reason}
-use Rattle.register.specs.declared.refusal.Reason.TheVariants.{NumberOutOfRange, NoSuchWard, NoSuchBatch}
+use Rattle.register.specs.declared.refusal.Reason.TheVariants.{NotItsClerk, NumberOutOfRange, NoSuchWard, NoSuchBatch}
 use Rattle.register.specs.Ranges.{is_clerk, is_ward_number, is_batch_number}
 use Rattle.register.specs.Offices.{OfficeState}
-use Rattle.register.specs.Standings.{StatusEntry, WorkEntry, status_at, columns_at, work_of}
+use Rattle.register.specs.Standings.{BallotPaperEntry, StatusEntry, WorkEntry, status_at, columns_at, work_of, paper_at}
 use Rattle.register.specs.Steps.{StepEntry, next_at}
 use Rattle.tables.specs.declared.fault.Fault.{Fault}
 use Rattle.tables.specs.declared.fault.Fault.TheVariants.{Memory, Store}
@@ -37,6 +37,10 @@ columns_told s batch = if is_batch_number batch then found_or NoSuchBatch (colum
 -- what is told of the work of a clerk
 abbrev pub work_told : OfficeState → ℕ → Result (List WorkEntry) Reason
 work_told s clerk = if is_clerk clerk then Ok (work_of s clerk) else Err NumberOutOfRange
+
+-- what is told of the papers of a batch to one of its clerks; a batch that isn't there is nobody's
+abbrev pub paper_told : OfficeState → ℕ → ℕ → Result BallotPaperEntry Reason
+paper_told s clerk batch = if is_clerk clerk && is_batch_number batch then found_or NotItsClerk (paper_at s clerk batch) else Err NumberOutOfRange
 
 -- a fault that closed the office while it read: a stop leaves the state as it was
 pub record IsClosedReading (s : OfficeState) (f : Fault) (closed : Bool) (st : State) : Type 0 where

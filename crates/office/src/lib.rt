@@ -4,10 +4,11 @@
 //! brings an office of an earlier program over to this one, and `copy` makes the same office in another database.
 //! `rows` reads all entries of one. `copy_open` and `rows_open` do so of an office that is open, and goes on. `leads_to`
 //! says whether requests lead from an empty office to such entries.
-//! `handle` answers one request and `run` a list of them; `status`, `next_step`, `columns`, `work`, `sheet`, `result`,
-//! `text` and `index` tell of the state, and change nothing, as `wards`, `batches`, `doubtful`, `differences`,
-//! `papers` and `receipts` tell the office alone. A fault inside a transaction closes the office: it answers 104 until
-//! it is opened again, and what is found then is the state before the request or the one after it, whole.
+//! `handle` answers one request and `run` a list of them; `status`, `next_step`, `columns`, `work`, `paper`, `sheet`,
+//! `result`, `text` and `index` tell of the state, and change nothing, as `wards`, `batches`, `doubtful`,
+//! `differences`, `papers` and `receipts` tell the office alone. A fault inside a transaction closes the office: it
+//! answers 104 until it is opened again, and what is found then is the state before the request or the one after it,
+//! whole.
 //!
 //! ```text
 //! let mut office = Office::open_from(alloc, conn)?;
@@ -33,6 +34,6 @@ mod sheets;
 
 pub use answers::{Answer, Run, Stop};
 pub use offices::Office;
-pub use register::{NextStep, Receipt, Status, Work};
+pub use register::{BallotPaper, NextStep, Receipt, Status, Work};
 pub use sheets::{Text, texts_are_there};
 pub use store::{CopyFault, Holdings, Migrated, Rows};

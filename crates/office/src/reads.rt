@@ -3,7 +3,7 @@
 
 ghost use Rattle.std.specs.Prelude.{◌≡◌, ◌⊎◌, Bool, true, false, map, IfOk, IfErr, IfSome, IfNone, IsSome, OnOk, Some, None, Ok, Err, string_bytes};
 ghost use Rattle.sqlite.specs.Held.{state};
-ghost use Rattle.register.specs.Standings.{status_entry, work_entry, work_of};
+ghost use Rattle.register.specs.Standings.{paper_at, paper_entry, status_entry, work_entry, work_of};
 ghost use Rattle.register.specs.Steps.{step_entry};
 ghost use Rattle.register.specs.Seen.{seen_by};
 ghost use Rattle.register.specs.declared.refusal.Reason.{Reason};
@@ -11,7 +11,7 @@ ghost use Rattle.tables.specs.Reading.{OnlyReads};
 ghost use Rattle.register.specs.Elections.{ElectionEntry};
 ghost use Rattle.register.specs.Tabulated.{IsCountedWard, IsSheetOf};
 ghost use Rattle.office.specs.Answers.{WhenOpenAt};
-ghost use Rattle.office.specs.Reads.{ReadWhenOpen, status_told, next_told, columns_told, work_told, StopsFor, StopsBy, ClosesAt};
+ghost use Rattle.office.specs.Reads.{ReadWhenOpen, status_told, next_told, columns_told, work_told, paper_told, StopsFor, StopsBy, ClosesAt};
 ghost use Rattle.office.specs.Sheets.{is_told_in, text_shown, text_told, StopsText, StopsWriting, IsTextual, IsOfMemory};
 
 use crate::answers::Stop;
@@ -19,7 +19,7 @@ use crate::offices::Office;
 use crate::sheets::{Text, declaration, text_of, texts_are_there};
 use paper::Columns;
 use register::ranges::{is_batch_number, is_clerk, is_ward_number};
-use register::{CountedWard, NextStep, Reason, Refusal, Status, WardSheet, Work};
+use register::{BallotPaper, CountedWard, NextStep, Reason, Refusal, Status, WardSheet, Work};
 use sqlite::Alter;
 use std::alloc::{AllocError, Global};
 use store::Fault;
@@ -36,14 +36,14 @@ macro_rules! read {
             Err(fault) => Err($office.stopped_by(fault)),
         }
     }};
-    ($office:ident, $is_in_range:expr => $load:ident($number:ident), $missing:expr) => {
-        read!($office, $is_in_range => $load($number), $missing, found => Ok(found))
+    ($office:ident, $is_in_range:expr => $load:ident($($number:ident),+), $missing:expr) => {
+        read!($office, $is_in_range => $load($($number),+), $missing, found => Ok(found))
     };
-    ($office:ident, $is_in_range:expr => $load:ident($number:ident), $missing:expr, $found:ident => $told:expr) => {{
+    ($office:ident, $is_in_range:expr => $load:ident($($number:ident),+), $missing:expr, $found:ident => $told:expr) => {{
         if let Some(stop) = $office.stop_before($is_in_range) {
             return Err(stop);
         }
-        match $office.store.$load($number) {
+        match $office.store.$load($($number),+) {
             Ok(Some($found)) => $told,
             Ok(None) => Err(refused($office.alloc, $missing)),
             Err(fault) => Err($office.stopped_by(fault)),
@@ -151,6 +151,22 @@ impl<S: Alter> Office<S> {
         ensures closed { self.old.closed ≡ true → (result ≡ Err (Stop.Fault Fault.Closed)) × (self.new ≡ self.old) }
     {
         read!(self, is_clerk(clerk) => load_work(clerk))
+    }
+
+    /// What stands on the papers of a batch, for one of its clerks: its ward, and the candidates there.
+    ///
+    /// It rests on what the clerk sees of the state alone. Refused where a number is out of its range, or he is no clerk
+    /// of such a batch. Nothing is changed. `Memory` leaves the office open; any other fault closes it. A closed office
+    /// tells `Closed`.
+    pub fn paper(&mut self, clerk: u32, batch: u32) -> Result<BallotPaper, Stop>
+        ensures reads { ReadWhenOpen (state S.Store) self.old self.new paper_entry (λ s. paper_told s clerk batch) result }
+        ensures blind { WhenOpenAt (state S.Store) self.old self.new (λ s. IfOk result (λ paper. Some (paper_entry paper) ≡ paper_at (seen_by clerk s) clerk batch)) }
+        ensures same { OnlyReads (state S.Store self.old.held) (state S.Store self.new.held) }
+        ensures closes { IfErr result (ClosesAt self.new.closed) }
+        ensures cause { WhenOpenAt (state S.Store) self.old self.new (λ s. IfErr result (StopsBy (state S.Store self.old.held) (state S.Store self.new.held))) }
+        ensures closed { self.old.closed ≡ true → (result ≡ Err (Stop.Fault Fault.Closed)) × (self.new ≡ self.old) }
+    {
+        read!(self, is_clerk(clerk) && is_batch_number(batch) => load_paper(clerk, batch), Reason::NotItsClerk)
     }
 
     /// The stage sheet of a ward: its papers, and the stages that are done, no more. Of an uncontested ward

@@ -1,5 +1,5 @@
 -- A clerk is answered by what he sees alone, and his requests leave what any other clerk sees as it was.
-use Rattle.std.proofs.Common.{◌≡◌, ℕ, ◌+◌, Bool, true, false, cond, not, ◌&&◌, ◌==◌, List, [], ◌∷◌, map, filter, Option, Some, None, option_map, refl, sym, ap, ◌∙◌}
+use Rattle.std.proofs.Common.{◌≡◌, ℕ, ◌+◌, Bool, true, false, cond, not, ◌&&◌, ◌==◌, List, [], ◌∷◌, map, filter, Option, Some, None, option_map, option_and_then, refl, sym, ap, ◌∙◌}
 use Rattle.std.specs.List.{list_all}
 use Rattle.std.specs.Ordering.{nat_cmp, is_eq, ordering_then}
 use Rattle.std.specs.Cmp.Lexicographic.{slice_cmp}
@@ -27,7 +27,7 @@ use Rattle.register.specs.Keyings as keyings
 use Rattle.register.specs.Keyings.{texts_of, papers_from}
 use Rattle.register.specs.Parts.{PartEntries, is_in_phase}
 use Rattle.register.specs.Papers.{is_keyed, is_its_clerk}
-use Rattle.register.specs.Standings.{WorkEntry, is_work, work_on, work_of}
+use Rattle.register.specs.Standings.{BallotPaperEntry, WorkEntry, is_work, work_on, work_of, paper_of, paper_for, paper_at}
 use Rattle.register.specs.Machine.{Ruling, keeps, refuses, part_of, objections, subject_of, receipt_for, judged, answered, decided, ruling_at, outcome_at, step, state_after}
 use Rattle.register.proofs.MapLemmas.{filter_put, filter_put_in, filter_put_each, found_filter, same_number, both_equal}
 use Rattle.register.proofs.ItemLemmas.{receipt_total}
@@ -242,3 +242,19 @@ work_seen s clerk = go s.batches
             ≡ map (work_on s clerk) (cond x (b ∷ filter (is_work s clerk) bs) (filter (is_work s clerk) bs))
         here true later = both b _ _ later
         here false later = later
+
+-- ---- what stands on the papers that he keys
+
+-- it rests on what he sees alone: of a ward he sees all but how many stages are done
+pub paper_seen : (s : OfficeState) (clerk batch : ℕ) → paper_at (seen_by clerk s) clerk batch ≡ paper_at s clerk batch
+paper_seen s clerk batch = go (batch_at s batch)
+  where
+    named : (o : Option WardEntry) → option_map (paper_of (seen_by clerk s)) (option_map (at_stage 0) o) ≡ option_map (paper_of s) o
+    named None = refl
+    named (Some w) = refl
+
+    go : (o : Option BatchEntry) → option_and_then (paper_for (seen_by clerk s) clerk) o ≡ option_and_then (paper_for s clerk) o
+    go None = refl
+    go (Some b) =
+        ap (λ (p : Option BallotPaperEntry). cond (is_its_clerk clerk b (third_at s b.number)) p None)
+        (ap (option_map (paper_of (seen_by clerk s))) (ward_seen s clerk b.ward) ∙ named (ward_at s b.ward))

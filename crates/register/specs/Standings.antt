@@ -1,11 +1,12 @@
--- How the election of a ward stands, the columns of a batch's papers, and the work of a clerk.
-use Rattle.std.specs.Prelude.{ℕ, Bool, ◌&&◌, List, map, length, Option, option_map}
+-- How the election of a ward stands, the columns of a batch's papers, the work of a clerk, and what stands on the papers of a batch.
+use Rattle.std.specs.Prelude.{ℕ, Bool, ◌&&◌, List, map, length, Option, None, option_map, option_and_then, string_bytes, if◌then◌else◌}
 use Rattle.std.specs.List.{filter}
 use Rattle.register.specs.declared.phase.Phase.{Phase}
 use Rattle.register.specs.declared.phase.Phase.TheVariants.{Keying}
+use Rattle.register.specs.declared.status.BallotPaper.{BallotPaper}
 use Rattle.register.specs.declared.status.Status.{Status}
 use Rattle.register.specs.declared.status.Work.{Work}
-use Rattle.register.specs.Offices.{WardEntry, BatchEntry, OfficeState, ward_at, candidates_of, batch_at, third_at, keying_of}
+use Rattle.register.specs.Offices.{WardEntry, CandidateEntry, BatchEntry, OfficeState, candidate_entry, ward_at, candidates_of, batch_at, third_at, keying_of}
 use Rattle.register.specs.Marks.{columns_of}
 use Rattle.register.specs.Papers.{is_keyed, is_its_clerk, batches_of, taken_of, differing_of, open_among}
 use Rattle.register.specs.Parts.{is_in_phase}
@@ -86,3 +87,27 @@ work_of s clerk = map (work_on s clerk) (filter (is_work s clerk) s.batches)
 -- what a piece of work stands for
 abbrev pub work_entry : Work → WorkEntry
 work_entry w = record { batch = w.batch; ward = w.ward; columns = w.columns; size = w.size; round = w.round; keyed = w.keyed }
+
+-- ---- what stands on the papers of a batch
+
+-- the ward that a ballot paper is of: its number, its name, and its candidates
+pub record BallotPaperEntry : Type 0 where
+  pub ward : ℕ
+  pub name : List ℕ
+  pub candidates : List CandidateEntry
+
+-- the ballot paper of a ward
+abbrev pub paper_of : OfficeState → WardEntry → BallotPaperEntry
+paper_of s w = record { ward = w.number; name = w.name; candidates = candidates_of s w.number }
+
+-- the ballot paper of a batch for one of its clerks; for anybody else none
+abbrev pub paper_for : OfficeState → ℕ → BatchEntry → Option BallotPaperEntry
+paper_for s clerk b = if is_its_clerk clerk b (third_at s b.number) then option_map (paper_of s) (ward_at s b.ward) else None
+
+-- the same of the batch of a number, if there is one
+abbrev pub paper_at : OfficeState → ℕ → ℕ → Option BallotPaperEntry
+paper_at s clerk batch = option_and_then (paper_for s clerk) (batch_at s batch)
+
+-- what a ballot paper stands for
+abbrev pub paper_entry : BallotPaper → BallotPaperEntry
+paper_entry p = record { ward = p.ward.number; name = string_bytes p.ward.name; candidates = map candidate_entry p.candidates.items }

@@ -9,7 +9,7 @@ ghost use Rattle.register.specs.Effects.{effect_entry};
 ghost use Rattle.register.specs.Seen.{seen_by};
 ghost use Rattle.register.specs.Parts.{part_entries};
 ghost use Rattle.register.specs.declared.command.Request.{Request};
-ghost use Rattle.register.specs.Standings.{work_of};
+ghost use Rattle.register.specs.Standings.{paper_at, work_of};
 ghost use Rattle.register.specs.Machine.{objections, IsNumbered, subject_of, reply_to, effect_of, judged, ruling_at, step, state_after, after, accepted_of, IsKeptAgain};
 ghost use Rattle.register.specs.Tabulated.{AddsWhatIsCounted};
 ghost use Rattle.register.specs.Additions.{IsAddedFor, DecidesAddition, AddsNoMore};
@@ -210,6 +210,11 @@ pub fn lists_make_states()
 /// A clerk's work is told by what he sees alone: of the keyings by his own.
 pub fn work_is_seen()
     ensures { (s : OfficeState) (clerk : ℕ) → work_of (seen_by clerk s) clerk ≡ work_of s clerk }
+{}
+
+/// What stands on the papers of a batch is told by what its clerk sees alone: wards, candidates and batches.
+pub fn paper_is_seen()
+    ensures { (s : OfficeState) (clerk batch : ℕ) → paper_at (seen_by clerk s) clerk batch ≡ paper_at s clerk batch }
 {}
 
 /// An office worked by hand, request by request from the empty one on: what each is answered, and the state

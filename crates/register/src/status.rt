@@ -1,6 +1,8 @@
-//! How the election of a ward stands, and the work of a clerk.
+//! How the election of a ward stands, the work of a clerk, and what stands on the papers that he keys.
 
+use crate::candidates::Candidate;
 use crate::phase::Phase;
+use crate::wards::Ward;
 use paper::Columns;
 
 /// How the election of a ward (1 to 99) stands: its phase; how many candidates and batches it has; how many
@@ -29,4 +31,11 @@ pub struct Work {
     pub size: u32,
     pub round: u32,
     pub keyed: bool,
+}
+
+/// What stands on a ballot paper: the ward that it is of, and the candidates there, in the order of their numbers.
+#[derive(Drop)]
+pub struct BallotPaper {
+    pub ward: Ward,
+    pub candidates: Vec<Candidate>,
 }

@@ -1,16 +1,16 @@
-//! The work of a clerk, read from the tables.
+//! The work of a clerk, and what stands on the papers that he keys, read from the tables.
 
 ghost use Rattle.std.specs.Prelude.{◌≡◌, if◌then◌else◌, map, filter, option_map, Some, None};
 ghost use Rattle.register.specs.declared.phase.Phase.TheVariants.{Keying};
 ghost use Rattle.register.specs.Offices.{ward_entry, batch_entry};
 ghost use Rattle.register.specs.Parts.{is_in_phase};
-ghost use Rattle.register.specs.Standings.{work_entry, is_work, work_on, work_of};
+ghost use Rattle.register.specs.Standings.{work_entry, is_work, work_on, work_of, paper_entry, paper_for, paper_at};
 ghost use Rattle.store.specs.Loads.{Loads, IsOpen};
 
 use crate::storage::Store;
 use register::keyings::is_its_clerk;
 use register::marks::columns_of;
-use register::{Batch, Phase, Ward, Work};
+use register::{BallotPaper, Batch, Phase, Ward, Work};
 use sqlite::Alter;
 use tables::Fault;
 
@@ -86,5 +86,38 @@ impl<S: Alter> Store<S> {
         let batches = self.all_batches()?;
         let found = self.work_in(&batches, clerk)?;
         Ok(found)
+    }
+
+    /// What stands on the papers of a batch, for one of its clerks.
+    fn own_paper(&mut self, batch: &Batch, clerk: u32) -> Result<Option<BallotPaper>, Fault>
+        requires { IsOpen S.Store self.old }
+        ensures { Loads S.Store self.old self.new result (λ s found. option_map paper_entry found ≡ paper_for s clerk (batch_entry batch.now)) }
+    {
+        let third = self.find_third(batch.number)?;
+        if !is_its_clerk(clerk, batch, &third) {
+            return Ok(None);
+        }
+        let found = self.find_ward(batch.ward)?;
+        let Some(ward) = found else {
+            return Ok(None);
+        };
+        let candidates = self.list_candidates(ward.number)?;
+        Ok(Some(BallotPaper { ward, candidates }))
+    }
+
+    /// What stands on the papers of the batch with this number, for one of its clerks: its ward, and the candidates
+    /// there. None where there is no such batch, or it isn't his. It changes nothing, and adds nothing to what a stop
+    /// may leave. `Memory` or `Store` where a row can't be read.
+    pub fn load_paper(&mut self, clerk: u32, batch: u32) -> Result<Option<BallotPaper>, Fault>
+        ensures { Loads S.Store self.old self.new result (λ s found. option_map paper_entry found ≡ paper_at s clerk batch) }
+    {
+        let found = self.find_batch(batch)?;
+        match found {
+            Some(batch) => {
+                let paper = self.own_paper(&batch, clerk)?;
+                Ok(paper)
+            }
+            None => Ok(None),
+        }
     }
 }

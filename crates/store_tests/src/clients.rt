@@ -72,8 +72,8 @@ impl<'a> Client<'a> {
 pub type Comers<'a> = &'a [Option<Client<'a>>];
 
 /// An office that serves: who comes, of whom the doors tell behind each wait that they may go on, all who were let in or those of
-/// these numbers, in their order; after how many serving ends, how many seconds later the clock is at each look, and after
-/// how many waits the doors fail.
+/// these numbers, in their order; after how many serving ends, how many seconds later the clock is at each look, after
+/// how many waits the doors fail, and the text of a file of clerks' codes, if they are asked for.
 #[derive(Clone, Copy, Debug)]
 pub struct Evening<'a> {
     pub comers: Comers<'a>,
@@ -81,6 +81,7 @@ pub struct Evening<'a> {
     pub connections: Option<u64>,
     pub seconds: u64,
     pub waits: u64,
+    pub codes: Option<&'a str>,
 }
 
 impl<'a> Evening<'a> {
@@ -92,6 +93,7 @@ impl<'a> Evening<'a> {
             connections: Some(comers.len() as u64),
             seconds: 0,
             waits: 10_000,
+            codes: None,
         }
     }
 }

@@ -8,7 +8,7 @@ use super::machine::{Machine, hear, hear_unchanged, play_acts};
 use super::steps::Step;
 use office::texts_are_there;
 use register::elections::elections_are_fair;
-use std::alloc::Global;
+use std::alloc::{AllocError, Global};
 use std::process::Abort;
 use std::test::Fail;
 
@@ -272,6 +272,77 @@ fn are_too_many<M: Machine + Drop>(rt: &(impl Abort + AllocGlobal), machine: M) 
     )
 }
 
+/// A file of codes; and the work of clerk 4, asked for by his code, by a wrong one, and by none.
+const CODES: &str = "4 kf7m-2wxt\n9 w3hd-4psn\n";
+
+const BY_HIS_CODE: &[u8] =
+    b"GET /clerks/4/work HTTP/1.1\r\nAuthorization: Basic NDprZjdtLTJ3eHQ=\r\n\r\n";
+
+const BY_A_WRONG_ONE: &[u8] =
+    b"GET /clerks/4/work HTTP/1.1\r\nAuthorization: Basic OTp3M2hkLTRwc24=\r\n\r\n";
+
+/// What is told of the last two, and of whoever knocks behind ten wrong ones.
+const UNAUTHORIZED: &str =
+    "HTTP/1.1 401 Unauthorized\r\nContent-Type: application/json\r\nContent-Length: 24\r\nWWW-Authenticate: Basic realm=\"clerk 4\", charset=\"UTF-8\"\r\nConnection: close\r\n\r\n{\"error\":\"unauthorized\"}";
+
+const MUST_WAIT: &str =
+    "HTTP/1.1 429 Too Many Requests\r\nContent-Type: application/json\r\nContent-Length: 32\r\nRetry-After: 60\r\nConnection: close\r\n\r\n{\"error\":\"too many wrong codes\"}";
+
+/// What comes, and what is told: clerk 4's work by his code alone, also where it was kept; behind ten wrong codes nobody is told
+/// it. A sheet is everyone's.
+const AT_THE_GATE: [(&[u8], &str); 18] = [
+    (BY_HIS_CODE, FOUR_TO_KEY),
+    (BY_HIS_CODE, FOUR_TO_KEY),
+    (FOUR, UNAUTHORIZED),
+    (BY_HIS_CODE, FOUR_TO_KEY),
+    (SHEET, WRONG_PHASE),
+    (BY_A_WRONG_ONE, UNAUTHORIZED),
+    (BY_A_WRONG_ONE, UNAUTHORIZED),
+    (BY_A_WRONG_ONE, UNAUTHORIZED),
+    (BY_A_WRONG_ONE, UNAUTHORIZED),
+    (BY_A_WRONG_ONE, UNAUTHORIZED),
+    (BY_A_WRONG_ONE, UNAUTHORIZED),
+    (BY_A_WRONG_ONE, UNAUTHORIZED),
+    (BY_A_WRONG_ONE, UNAUTHORIZED),
+    (BY_A_WRONG_ONE, UNAUTHORIZED),
+    (BY_A_WRONG_ONE, UNAUTHORIZED),
+    (BY_HIS_CODE, MUST_WAIT),
+    (FOUR, MUST_WAIT),
+    (SHEET, WRONG_PHASE),
+];
+
+/// Those who come to the gate.
+fn knocking<'a>(alloc: Global) -> Result<Vec<Option<Client<'a>>>, AllocError> {
+    let mut comers = Vec::new(alloc);
+    for (sends, _) in &AT_THE_GATE {
+        comers.push(Some(Client::whole(*sends)))?;
+    }
+    Ok(comers)
+}
+
+/// What they are told.
+fn told_at_the_gate(alloc: Global) -> Result<Vec<&'static str>, AllocError> {
+    let mut texts = Vec::new(alloc);
+    for (_, told) in &AT_THE_GATE {
+        texts.push(*told)?;
+    }
+    Ok(texts)
+}
+
+/// An evening with codes: each is told by his own alone.
+fn come_with_codes<M: Machine + Drop>(
+    rt: &(impl Abort + AllocGlobal),
+    machine: M,
+) -> Result<M, Fail> {
+    let comers = knocking(rt.alloc())?;
+    let texts = told_at_the_gate(rt.alloc())?;
+    let evening = Evening {
+        codes: Some(CODES),
+        ..Evening::of(&comers)
+    };
+    serve_all(rt, machine, evening, &texts)
+}
+
 /// Of bodies of a megabyte each, 63 may be held at once. Where one more comes, who has waited longest is let go, and nobody else.
 fn hold_too_much<M: Machine + Drop>(
     rt: &(impl Abort + AllocGlobal),
@@ -318,6 +389,7 @@ fn come_at_once<M: Machine + Drop>(rt: &(impl Abort + AllocGlobal)) -> Result<()
     let machine = are_not_let_in(rt, machine)?;
     let machine = are_too_many(rt, machine)?;
     let machine = hold_too_much(rt, machine)?;
+    let machine = come_with_codes(rt, machine)?;
     have_their_turns(rt, machine)?;
     let machine: M = play_acts(rt, BEGUN)?;
     let machine = break_at_each_byte(rt, machine)?;

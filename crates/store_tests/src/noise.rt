@@ -5,7 +5,7 @@ use super::begun::{BEGUN, KEYED, KEYING};
 use super::clients::{Client, Evening};
 use super::disks::Disks;
 use super::machine::{Machine, hear, play_acts, rows};
-use super::steps::{Said, Step};
+use super::steps::{Said, Step, TERMS};
 use rand_core::utils::NextWord;
 use rand_pcg::Pcg32;
 use std::alloc::{AllocError, Global};
@@ -105,7 +105,7 @@ fn sent(alloc: Global, numbers: &mut Pcg32) -> Result<Vec<u8>, AllocError> {
 
 /// Whether a client who sends these bytes may be answered with this status.
 fn may_be_told(alloc: Global, bytes: &[u8], status: &str) -> bool {
-    match read_asked(alloc, None, &mut Counted::new(bytes)) {
+    match read_asked(alloc, TERMS.given, &mut Counted::new(bytes)) {
         Ok(Asked::Denied(Denial::BadRequest)) => status == "400",
         Ok(Asked::Denied(Denial::Forbidden)) => status == "403",
         Ok(Asked::Denied(Denial::NotFound)) => status == "404",

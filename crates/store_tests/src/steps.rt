@@ -4,6 +4,7 @@ ghost use Rattle.std.specs.Prelude.{◌≡◌, ◌+◌, ◌-◌, ◌^◌, ◌<�
 
 use super::clients::{Coming, Evening, Jumping, Port, Taking, joined, pages_of};
 use super::loads::loads;
+use codes::{Codes, Tries};
 use desk::perform::perform;
 use desk::{Failure, Folder, Order, copy_office, order, tell_failure, tell_words};
 use hall::{Aside, FileNumbers, Terms, serve_hall};
@@ -14,6 +15,7 @@ use std::alloc::{AllocError, Global};
 use std::test::Fail;
 use store::Fault;
 use votes::{Broken, Counted, Sink};
+use wire::{Gate, Given, Page};
 
 /// One step of a script.
 #[derive(Clone, Copy, Debug)]
@@ -154,7 +156,7 @@ fn give<S: Alter + Drop, O: Sink, E: Sink>(
             };
             perform(alloc, &task, conn, &folder, out, err)
         }
-        Ok(Order::Serve { .. } | Order::Copy { .. } | Order::Journal) => {
+        Ok(Order::Serve { .. } | Order::Copy { .. } | Order::Journal | Order::Codes { .. }) => {
             (tell_failure(Failure::Output, err), conn)
         }
         Err(fault) => (tell_words(&fault, out, err), conn),
@@ -228,14 +230,47 @@ fn work<S: Alter + Drop>(
     Ok((Said::quietly(alloc, text), conn))
 }
 
-/// The file that is served, and no proxy.
+/// The file that is served, no proxy, and no codes.
 pub const TERMS: Terms<'static> = Terms {
-    origin: None,
+    given: Given {
+        origin: None,
+        gate: None,
+    },
     file: FileNumbers {
         device: 7,
         inode: 12,
     },
 };
+
+/// The codes of an evening, if they are asked for; and the wrong ones that came before, which are none.
+fn codes_of(alloc: Global, evening: Evening<'_>) -> Result<(Option<Codes>, Tries), Fail> {
+    let Some(text) = evening.codes else {
+        return Ok((None, Tries::of_nobody(alloc)));
+    };
+    let Ok(held) = Codes::read(alloc, text.as_bytes()) else {
+        return Err(Fail::from("no codes are read"));
+    };
+    let tries = Tries::new(alloc, &held)?;
+    Ok((Some(held), tries))
+}
+
+/// What the office is served by, with these codes.
+fn terms_of(held: &Option<Codes>) -> Terms<'_> {
+    let gate = match held {
+        Some(codes) => Some(Gate {
+            codes,
+            page: Page {
+                text: "<p>keying</p>",
+                policy: "default-src 'none'",
+            },
+        }),
+        None => None,
+    };
+    Terms {
+        given: Given { origin: None, gate },
+        file: TERMS.file,
+    }
+}
 
 /// An office that has nothing beside it: no copy and no journal can be made.
 #[derive(Clone, Copy)]
@@ -270,6 +305,7 @@ fn serve<S: Alter + Drop>(
     evening: Evening<'_>,
 ) -> Result<(Said, Connection<S>), Fail> {
     let pages = pages_of(alloc, evening.comers.len())?;
+    let (held, tries) = codes_of(alloc, evening)?;
     let mut office = match Office::open_from(alloc, conn) {
         Ok(office) => office,
         Err((fault, conn)) => {
@@ -292,7 +328,8 @@ fn serve<S: Alter + Drop>(
             alloc,
             &clock,
             &mut coming,
-            TERMS,
+            terms_of(&held),
+            tries,
             &Unaided,
             evening.connections,
             &mut office,
@@ -328,6 +365,7 @@ fn listen<S: Alter + Drop>(
                 &clock,
                 &mut *watch,
                 TERMS,
+                Tries::of_nobody(alloc),
                 &Unaided,
                 most,
                 &mut office,

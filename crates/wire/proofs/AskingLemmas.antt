@@ -9,11 +9,10 @@ use Rattle.httparse.specs.Spans.{IsRequestAt, IsRequestOf, header_bytes, name_an
 use Rattle.httparse.specs.declared.spans.HeaderSpan.{HeaderSpan}
 use Rattle.httparse.specs.declared.spans.RequestSpans.{RequestSpans}
 use Rattle.wire.proofs.HeadLemmas.{HasOneHead-all}
-use Rattle.wire.specs.Asking.{AskedEntry, Asks, AsksOneThing, DeniesForeign, FailsAfter, IsWanting, LacksAt, LacksBehind, LacksBytes, LacksFound, TakesOwn, asked_at, asked_by, asked_entry, asked_of, denied, wanted}
+use Rattle.wire.specs.Asking.{AskedEntry, Asks, AsksOneThing, DeniesForeign, FailsAfter, IsWanting, LacksAt, LacksBehind, LacksBytes, LacksFound, TakesOwn, asked_at, asked_by, asked_entry, asked_of, denied, wanted, wanted_by}
+use Rattle.wire.specs.Gates.{GivenEntry}
 use Rattle.wire.specs.Heads.{BeginsWith, HasNoHead}
 use Rattle.wire.specs.Lengths.{NamedValue, body_length}
-use Rattle.wire.specs.Origins.{is_foreign}
-use Rattle.wire.specs.Targets.{named_by}
 use Rattle.wire.specs.declared.asked.Asked.{Asked}
 use Rattle.wire.specs.declared.denial.Denial.TheVariants.{BadRequest}
 use Rattle.wire.specs.declared.unread.Unread.{Unread}
@@ -21,7 +20,7 @@ use Rattle.wire.specs.declared.unread.Unread.TheVariants.{Broken, Memory}
 
 -- ---- one thing is asked
 
-pub AsksOneThing-all : (given : Option (List ℕ)) (bytes : List ℕ) → AsksOneThing given bytes
+pub AsksOneThing-all : (given : GivenEntry) (bytes : List ℕ) → AsksOneThing given bytes
 AsksOneThing-all given bytes one two (inl (none, is)) (inl (none_too, is_too)) = is ∙ sym is_too
 AsksOneThing-all given bytes one two (inl (none, is)) (inr (head, behind, begins, is_too)) = absurd (none head behind begins)
 AsksOneThing-all given bytes one two (inr (head, behind, begins, is)) (inl (none, is_too)) = absurd (none head behind begins)
@@ -31,20 +30,20 @@ AsksOneThing-all given bytes one two (inr (head, behind, begins, is)) (inr (othe
 
 -- ---- a page from elsewhere
 
-pub DeniesForeign-all : (given : Option (List ℕ)) (bytes : List ℕ) → DeniesForeign given bytes
+pub DeniesForeign-all : (given : GivenEntry) (bytes : List ℕ) → DeniesForeign given bytes
 DeniesForeign-all given bytes head behind begins foreign asked asks =
     AsksOneThing-all given bytes asked (asked_by given head behind) asks (inr (head, behind, begins, refl))
-    ∙ ap (λ b. asked_of (wanted b head.method (named_by head.target)) (body_length (map name_and_value head.fields)) behind) foreign
+    ∙ ap (λ b. asked_of given.gate (wanted_by b given.gate (map name_and_value head.fields) head.method head.target) (body_length (map name_and_value head.fields)) behind) foreign
 
-pub TakesOwn-all : (given : Option (List ℕ)) (bytes : List ℕ) → TakesOwn given bytes
+pub TakesOwn-all : (given : GivenEntry) (bytes : List ℕ) → TakesOwn given bytes
 TakesOwn-all given bytes head behind begins own asked asks =
     AsksOneThing-all given bytes asked (asked_by given head behind) asks (inr (head, behind, begins, refl))
-    ∙ ap (λ b. asked_of (wanted b head.method (named_by head.target)) (body_length (map name_and_value head.fields)) behind) own
+    ∙ ap (λ b. asked_of given.gate (wanted_by b given.gate (map name_and_value head.fields) head.method head.target) (body_length (map name_and_value head.fields)) behind) own
 
 -- ---- from what was read
 
 -- there is no head
-pub Asks-none : (given old : Option (List ℕ)) → IfSome old HasNoHead → IfSome old (λ bytes. Asks given bytes (denied BadRequest))
+pub Asks-none : (given : GivenEntry) (old : Option (List ℕ)) → IfSome old HasNoHead → IfSome old (λ bytes. Asks given bytes (denied BadRequest))
 Asks-none given None none = tt
 Asks-none given (Some bytes) none = inl (none, refl)
 
@@ -59,7 +58,7 @@ begins bytes got left headers spans head is fits places e = record {
 }
 
 -- what a head asks, with what is left behind it
-Asks-entry : (given old mid : Option (List ℕ)) (got : List ℕ) (headers : List HeaderSpan) (spans : RequestSpans) → IsRequestOf got headers spans → (asked : AskedEntry)
+Asks-entry : (given : GivenEntry) (old mid : Option (List ℕ)) (got : List ℕ) (headers : List HeaderSpan) (spans : RequestSpans) → IsRequestOf got headers spans → (asked : AskedEntry)
     → length got ≤ 8192 → length headers ≡ 32 → Consumes old mid got → IfSome mid (λ left. asked ≡ asked_at given got headers spans left) → IfSome old (λ bytes. Asks given bytes asked)
 Asks-entry given None mid got headers spans found asked fits places took is = tt
 Asks-entry given (Some bytes) None got headers spans found asked fits places took is = absurd took
@@ -70,12 +69,12 @@ Asks-entry given (Some bytes) (Some left) got headers spans (head, there) asked 
       head,
       behind,
       begins bytes got left headers spans head there fits places took,
-      is ∙ ap (λ m. asked_of (wanted (is_foreign given fields) m (named_by (span_bytes got spans.path))) (body_length fields) behind) there.method
-          ∙ ap (λ p. asked_of (wanted (is_foreign given fields) head.method (named_by p)) (body_length fields) behind) there.path
-          ∙ ap (λ (f : List NamedValue). asked_of (wanted (is_foreign given f) head.method (named_by head.target)) (body_length f) behind) there.fields,
+      is ∙ ap (λ m. asked_of given.gate (wanted given fields m (span_bytes got spans.path)) (body_length fields) behind) there.method
+          ∙ ap (λ p. asked_of given.gate (wanted given fields head.method p) (body_length fields) behind) there.path
+          ∙ ap (λ (f : List NamedValue). asked_of given.gate (wanted given f head.method head.target) (body_length f) behind) there.fields,
     )
 
-pub Asks-head : {E : Type 0} (given old mid : Option (List ℕ)) (got : List ℕ) (headers : List HeaderSpan) (spans : RequestSpans) → IsRequestOf got headers spans → (r : Result Asked E)
+pub Asks-head : {E : Type 0} (given : GivenEntry) (old mid : Option (List ℕ)) (got : List ℕ) (headers : List HeaderSpan) (spans : RequestSpans) → IsRequestOf got headers spans → (r : Result Asked E)
     → length got ≤ 8192 → length headers ≡ 32 → Consumes old mid got → IfSome mid (λ left. IfOk r (λ asked. asked_entry asked ≡ asked_at given got headers spans left))
     → IfSome old (λ bytes. IfOk r (λ asked. Asks given bytes (asked_entry asked)))
 Asks-head given None mid got headers spans found r fits places took is = tt
@@ -84,22 +83,22 @@ Asks-head given (Some bytes) mid got headers spans found (Ok asked) fits places 
 
 -- ---- what doesn't say yet what is asked
 
-module _ (given : Option (List ℕ)) (got : List ℕ) (headers : List HeaderSpan) (spans : RequestSpans) where
+module _ (given : GivenEntry) (got : List ℕ) (headers : List HeaderSpan) (spans : RequestSpans) where
   -- a head lacks what was found of it lacks
   LacksBehind-of : (head : RequestHead) → IsRequestAt got headers spans head → (behind : List ℕ) → LacksFound given got headers spans behind → LacksBehind given head behind
   LacksBehind-of head there behind lacks =
       let fields = map (header_bytes got) (take spans.headers headers) in
-      subst (λ (f : List NamedValue). LacksBytes (wanted (is_foreign given f) head.method (named_by head.target)) (body_length f) behind) there.fields
-      (subst (λ p. LacksBytes (wanted (is_foreign given fields) head.method (named_by p)) (body_length fields) behind) there.path
-      (subst (λ m. LacksBytes (wanted (is_foreign given fields) m (named_by (span_bytes got spans.path))) (body_length fields) behind) there.method lacks))
+      subst (λ (f : List NamedValue). LacksBytes (wanted given f head.method head.target) (body_length f) behind) there.fields
+      (subst (λ p. LacksBytes (wanted given fields head.method p) (body_length fields) behind) there.path
+      (subst (λ m. LacksBytes (wanted given fields m (span_bytes got spans.path)) (body_length fields) behind) there.method lacks))
 
   -- and the other way round
   pub LacksFound-of : (head : RequestHead) → IsRequestAt got headers spans head → (behind : List ℕ) → LacksBehind given head behind → LacksFound given got headers spans behind
   LacksFound-of head there behind lacks =
       let fields = map (header_bytes got) (take spans.headers headers) in
-      subst (λ m. LacksBytes (wanted (is_foreign given fields) m (named_by (span_bytes got spans.path))) (body_length fields) behind) (sym there.method)
-      (subst (λ p. LacksBytes (wanted (is_foreign given fields) head.method (named_by p)) (body_length fields) behind) (sym there.path)
-      (subst (λ (f : List NamedValue). LacksBytes (wanted (is_foreign given f) head.method (named_by head.target)) (body_length f) behind) (sym there.fields) lacks))
+      subst (λ m. LacksBytes (wanted given fields m (span_bytes got spans.path)) (body_length fields) behind) (sym there.method)
+      (subst (λ p. LacksBytes (wanted given fields head.method p) (body_length fields) behind) (sym there.path)
+      (subst (λ (f : List NamedValue). LacksBytes (wanted given f head.method head.target) (body_length f) behind) (sym there.fields) lacks))
 
   -- bytes that begin with what was read don't say what is asked, where what was found in that lacks more
   pub IsWanting-found : (bytes left : List ℕ) → IsRequestOf got headers spans → length got ≤ 8192 → length headers ≡ 32 → bytes ≡ got ++ left
@@ -109,7 +108,7 @@ module _ (given : Option (List ℕ)) (got : List ℕ) (headers : List HeaderSpan
       inr (head, behind, begins bytes got left headers spans head there fits places e, LacksBehind-of head there behind lacks)
 
 -- there is a whole head, and what it asks for isn't all there
-pub FailsAfter-behind : (given old mid new : Option (List ℕ)) (got : List ℕ) (headers : List HeaderSpan) (spans : RequestSpans) → IsRequestOf got headers spans → (r : Result Asked Unread)
+pub FailsAfter-behind : (given : GivenEntry) (old mid new : Option (List ℕ)) (got : List ℕ) (headers : List HeaderSpan) (spans : RequestSpans) → IsRequestOf got headers spans → (r : Result Asked Unread)
     → length got ≤ 8192 → length headers ≡ 32 → Consumes old mid got → IfErr r (FailsAfter mid new (LacksAt given got headers spans)) → IfErr r (FailsAfter old new (IsWanting given))
 FailsAfter-behind given old mid new got headers spans found (Ok asked) fits places took after = tt
 FailsAfter-behind given old mid new got headers spans found (Err Memory) fits places took after = tt

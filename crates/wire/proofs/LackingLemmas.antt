@@ -7,8 +7,9 @@ use Rattle.httparse.specs.Grammar.{HasNoRequest, MayBecomeRequest, RequestHead, 
 use Rattle.httparse.specs.Spans.{IsRequestOf, RequestOverflows}
 use Rattle.httparse.specs.declared.spans.HeaderSpan.{HeaderSpan}
 use Rattle.httparse.specs.declared.spans.RequestSpans.{RequestSpans}
-use Rattle.wire.specs.Asking.{AskedEntry, Asks, IsWanting, LacksBehind, LacksBytes, LacksFound, asked_by, asked_in, asked_of}
+use Rattle.wire.specs.Asking.{IsWanting, LacksBehind, LacksBytes, LacksFound, asked_by, asked_in, asked_of}
 use Rattle.wire.specs.Bodies.{body_in, keying_of}
+use Rattle.wire.specs.Gates.{GateEntry, GivenEntry}
 use Rattle.wire.specs.Heads.{BeginsWith, HasNoHead}
 use Rattle.wire.specs.Lacking.{IsLackOf, IsWhole}
 use Rattle.wire.specs.declared.denial.Denial.{Denial}
@@ -29,14 +30,17 @@ body_stays n behind more enough =
     ]
 
 -- what is asked of what a target names, where no byte is lacking for it
-asked_stays : (t : Result Target Denial) (size : Result ℕ Denial) (behind more : List ℕ) → (LacksBytes t size behind → ⊥) → asked_of t size (behind ++ more) ≡ asked_of t size behind
-asked_stays (Ok (target.Keying clerk batch)) (Ok n) behind more enough = ap (λ b. asked_in clerk batch (option_and_then keying_of b)) (body_stays n behind more enough)
-asked_stays (Ok (target.Keying clerk batch)) (Err why) behind more enough = refl
-asked_stays (Ok (target.Reading what)) size behind more enough = refl
-asked_stays (Err why) size behind more enough = refl
+asked_stays : (gate : Option GateEntry) (t : Result Target Denial) (size : Result ℕ Denial) (behind more : List ℕ) → (LacksBytes t size behind → ⊥)
+    → asked_of gate t size (behind ++ more) ≡ asked_of gate t size behind
+asked_stays gate (Ok (target.Keying clerk batch)) (Ok n) behind more enough = ap (λ b. asked_in clerk batch (option_and_then keying_of b)) (body_stays n behind more enough)
+asked_stays gate (Ok (target.Keying clerk batch)) (Err why) behind more enough = refl
+asked_stays gate (Ok (target.Page clerk)) size behind more enough = refl
+asked_stays gate (Ok (target.Leave clerk)) size behind more enough = refl
+asked_stays gate (Ok (target.Reading what)) size behind more enough = refl
+asked_stays gate (Err why) size behind more enough = refl
 
 -- a request that begins with a head, for which no byte behind it is lacking
-whole_behind : (given : Option (List ℕ)) (got : List ℕ) (head : RequestHead) (behind : List ℕ) → BeginsWith got head behind → (LacksBehind given head behind → ⊥) → IsWhole given got
+whole_behind : (given : GivenEntry) (got : List ℕ) (head : RequestHead) (behind : List ℕ) → BeginsWith got head behind → (LacksBehind given head behind → ⊥) → IsWhole given got
 whole_behind given got head behind begun enough more asked asks =
     let one : asked ≡ asked_by given head behind = AsksOneThing-all given got asked (asked_by given head behind) asks (inr (head, behind, begun, refl)) in
     inr (
@@ -48,13 +52,13 @@ whole_behind given got head behind begun enough more asked asks =
         short = begun.short;
         few = begun.few;
       },
-      one ∙ sym (asked_stays _ _ behind more enough),
+      one ∙ sym (asked_stays given.gate _ _ behind more enough),
     )
 
 -- ---- a head that was found
 
 -- what it asks for lacks no bytes
-pub whole_found : (given : Option (List ℕ)) (got : List ℕ) (n : ℕ) (headers : List HeaderSpan) (spans : RequestSpans) (behind : ℕ) → IsRequestOf (take n got) headers spans → n ≤ 8192 → length headers ≡ 32
+pub whole_found : (given : GivenEntry) (got : List ℕ) (n : ℕ) (headers : List HeaderSpan) (spans : RequestSpans) (behind : ℕ) → IsRequestOf (take n got) headers spans → n ≤ 8192 → length headers ≡ 32
     → spans.len ≤ length (take n got) → behind ≡ length got - spans.len → ((rest : List ℕ) → length rest ≡ behind → LacksFound given (take n got) headers spans rest → ⊥) → IsWhole given got
 whole_found given got n headers spans behind (head, there) small places inside is enough =
     let front = take n got in
@@ -66,7 +70,7 @@ whole_found given got n headers spans behind (head, there) small places inside i
     whole_behind given got head rest (begins got front back headers spans head there fits places e) (λ lacks. enough rest long (LacksFound-of given front headers spans head there rest lacks))
 
 -- what it asks for lacks bytes, until so many are behind it
-pub lacks_found : (given : Option (List ℕ)) (got : List ℕ) (n : ℕ) (headers : List HeaderSpan) (spans : RequestSpans) (size : ℕ) → IsRequestOf (take n got) headers spans → n ≤ 8192 → length headers ≡ 32
+pub lacks_found : (given : GivenEntry) (got : List ℕ) (n : ℕ) (headers : List HeaderSpan) (spans : RequestSpans) (size : ℕ) → IsRequestOf (take n got) headers spans → n ≤ 8192 → length headers ≡ 32
     → spans.len ≤ length (take n got) → length got - spans.len < size → ((rest : List ℕ) → length rest < size → LacksFound given (take n got) headers spans rest)
     → IsLackOf given got (Bytes (spans.len + size))
 lacks_found given got n headers spans size found small places inside few lacks =
@@ -88,7 +92,7 @@ lacks_found given got n headers spans size found small places inside few lacks =
 -- ---- no head
 
 -- whatever follows, there is none
-whole_none : (given : Option (List ℕ)) (got : List ℕ) → ((more : List ℕ) → HasNoHead (got ++ more)) → IsWhole given got
+whole_none : (given : GivenEntry) (got : List ℕ) → ((more : List ℕ) → HasNoHead (got ++ more)) → IsWhole given got
 whole_none given got never more asked (inl (none, is)) = inl (never more, is)
 whole_none given got never more asked (inr (head, behind, begun, is)) = absurd (subst HasNoHead (append-nil got) (never []) head behind begun)
 
@@ -99,7 +103,7 @@ never_full front back full none more head behind begun =
     let parts = sym (append_assoc front back more) ∙ begun.parts in
     none head _ (begun.is_head, within front (back ++ more) (print_request head) behind parts (omega (arith, short, full)))
 
-pub whole_full : (given : Option (List ℕ)) (got : List ℕ) (n : ℕ) → length (take n got) ≡ 8192 → HasNoRequest (take n got) → IsWhole given got
+pub whole_full : (given : GivenEntry) (got : List ℕ) (n : ℕ) → length (take n got) ≡ 8192 → HasNoRequest (take n got) → IsWhole given got
 whole_full given got n full none =
     whole_none given got (λ more. subst (λ (xs : List ℕ). HasNoHead (xs ++ more)) (take-append-drop n got) (never_full (take n got) (drop n got) full none more))
 
@@ -110,13 +114,13 @@ never_over front back room is over more head behind begun =
     let few = begun.few in
     absurd (omega (arith, is, many, few))
 
-pub whole_over : (given : Option (List ℕ)) (got : List ℕ) (n room : ℕ) → room ≡ 32 → RequestOverflows room (take n got) → IsWhole given got
+pub whole_over : (given : GivenEntry) (got : List ℕ) (n room : ℕ) → room ≡ 32 → RequestOverflows room (take n got) → IsWhole given got
 whole_over given got n room is over =
     whole_none given got (λ more. subst (λ (xs : List ℕ). HasNoHead (xs ++ more)) (take-append-drop n got) (never_over (take n got) (drop n got) room is over more))
 
 -- ---- a head that isn't whole yet
 
-pub lacks_head : (given : Option (List ℕ)) (got : List ℕ) (n : ℕ) → length got ≤ n → length got < 8192 → HasNoRequest (take n got) → MayBecomeRequest (take n got)
+pub lacks_head : (given : GivenEntry) (got : List ℕ) (n : ℕ) → length got ≤ n → length got < 8192 → HasNoRequest (take n got) → MayBecomeRequest (take n got)
     → IsLackOf given got (Bytes (length got + 1))
 lacks_head given got n all short none may =
     let same : take n got ≡ got = take_all n got all in

@@ -9,6 +9,8 @@ pub mod PartLemmas
 pub mod PathLemmas
 pub mod LengthLemmas
 pub mod AskingLemmas
+pub mod GateLemmas
+pub mod KnockLemmas
 pub mod LackingLemmas
 pub mod ReplyLemmas
 pub mod ResponseLemmas

@@ -101,7 +101,7 @@ first-low (x ∷ part) low d ds is =
     let few : x < 128 = ltb-true x 128 own in
     omega arith
 
-chosen-true : (b : Bool) (n m : ℕ) → (if b then Some n else None) ≡ Some m → b ≡ true
+pub chosen-true : (b : Bool) (n m : ℕ) → (if b then Some n else None) ≡ Some m → b ≡ true
 chosen-true true n m is = refl
 chosen-true false n m is = let no : ⊥ = cc in absurd no
 

@@ -15,9 +15,9 @@ use Rattle.wire.proofs.RowLemmas.{Fits, Gives, GoBySlash, HasNoSlash, seek-end, 
 use Rattle.wire.specs.Targets.{IsTargetOf, NamesItsOwn, named_at, named_by, number_in, office_routes}
 use Rattle.wire.specs.declared.target.Place.{Place}
 use Rattle.wire.specs.declared.target.Place.TheVariants as place
-use Rattle.wire.specs.declared.target.Reading.TheVariants.{Declaration, Sheet, Work}
+use Rattle.wire.specs.declared.target.Reading.TheVariants.{Candidates, Declaration, Sheet, Work}
 use Rattle.wire.specs.declared.target.Target.{Target}
-use Rattle.wire.specs.declared.target.Target.TheVariants.{Keying, Reading}
+use Rattle.wire.specs.declared.target.Target.TheVariants.{Keying, Leave, Page, Reading}
 use Rattle.wire.proofs.PartLemmas.{IsNumeric, numeric, one-part, one-taken, two-parts, walk-part, with_taken}
 
 -- ---- a target of one of the routes names something
@@ -86,6 +86,12 @@ one-named r is part n own found =
 work : OneRoute
 work = record { word = codes "/clerks/"; rest = codes "work"; text = codes "/clerks/{c}/work"; name = (9, 10); to = place.Work; kind = λ n. Reading (Work n) }
 
+page : OneRoute
+page = record { word = codes "/clerks/"; rest = []; text = codes "/clerks/{c}/"; name = (9, 10); to = place.Page; kind = λ n. Page n }
+
+leaving : OneRoute
+leaving = record { word = codes "/clerks/"; rest = codes "leave"; text = codes "/clerks/{c}/leave"; name = (9, 10); to = place.Leave; kind = λ n. Leave n }
+
 sheet : OneRoute
 sheet = record { word = codes "/wards/"; rest = codes "sheet"; text = codes "/wards/{w}/sheet"; name = (8, 9); to = place.Sheet; kind = λ n. Reading (Sheet n) }
 
@@ -96,6 +102,14 @@ is-work : IsOneRoute work
 unfolding work
 is-work = record { word_bytes = refl; rest_bytes = refl; word_low = refl; rest_low = refl; stops = λ path from. refl; names = λ part. refl; own = λ target part n is own. (part, is, own) }
 
+is-page : IsOneRoute page
+unfolding page
+is-page = record { word_bytes = refl; rest_bytes = refl; word_low = refl; rest_low = refl; stops = λ path from. refl; names = λ part. refl; own = λ target part n is own. (part, is, own) }
+
+is-leaving : IsOneRoute leaving
+unfolding leaving
+is-leaving = record { word_bytes = refl; rest_bytes = refl; word_low = refl; rest_low = refl; stops = λ path from. refl; names = λ part. refl; own = λ target part n is own. (part, is, own) }
+
 is-sheet : IsOneRoute sheet
 unfolding sheet
 is-sheet = record { word_bytes = refl; rest_bytes = refl; word_low = refl; rest_low = refl; stops = λ path from. refl; names = λ part. refl; own = λ target part n is own. (part, is, own) }
@@ -104,43 +118,103 @@ is-declaration : IsOneRoute declaration
 unfolding declaration
 is-declaration = record { word_bytes = refl; rest_bytes = refl; word_low = refl; rest_low = refl; stops = λ path from. refl; names = λ part. refl; own = λ target part n is own. (part, is, own) }
 
--- ---- the route of a keying, with two parameters
+-- ---- the routes of a keying and of candidates, with two parameters
 
-abbrev keying_pattern : List ℕ
-keying_pattern = codes "/clerks/" ++ (param_token ∷ (codes "/batches/" ++ (param_token ∷ codes "/keying")))
+-- a route with two parameters: what stands behind the slash at its end, its text, where it leads, and what it names by two numbers
+pub record TwoRoute : Type 0 where
+  pub end : List ℕ
+  pub text : List ℕ
+  pub to : Place
+  pub kind : ℕ → ℕ → Target
 
-abbrev keying_path : List ℕ → List ℕ → List ℕ
-keying_path c b = codes "/clerks/" ++ (c ++ (codes "/batches/" ++ (b ++ codes "/keying")))
+abbrev pattern_of : TwoRoute → List ℕ
+pattern_of r = codes "/clerks/" ++ (param_token ∷ (codes "/batches/" ++ (param_token ∷ (47 ∷ r.end))))
 
-keying_route : RouteOf Place
-keying_route = record { pattern = keying_pattern; text = codes "/clerks/{c}/batches/{b}/keying"; names = (9, 10) ∷ (21, 22) ∷ []; value = place.Keying }
+abbrev two_path : TwoRoute → List ℕ → List ℕ → List ℕ
+two_path r c b = codes "/clerks/" ++ (c ++ (codes "/batches/" ++ (b ++ (47 ∷ r.end))))
 
-keying-taken : (target c b : List ℕ) → target ≡ keying_path c b → HasNoSlash c → HasNoSlash b
-    → walk keying_route.pattern keying_route.text target keying_route.names 0 0 ≡ with_taken (codes "c") c (with_taken (codes "b") b [])
-unfolding keying_route
-keying-taken target c b is c_whole b_whole =
-    walk-part keying_pattern (codes "/clerks/{c}/batches/{b}/keying") target (9, 10) ((21, 22) ∷ []) (codes "/clerks/") (codes "/batches/" ++ (param_token ∷ codes "/keying")) [] c
-    (codes "batches/" ++ (b ++ codes "/keying")) 0 0 refl refl refl is c_whole (λ from. refl)
-    ∙ ap (with_taken (codes "c") c)
-    (walk-part keying_pattern (codes "/clerks/{c}/batches/{b}/keying") target (21, 22) [] (codes "/batches/") (codes "/keying") (codes "/clerks/" ++ c) b (codes "keying") 9 (8 + length c)
-    (sym (length-append (codes "/clerks/") c)) refl refl (is ∙ sym (append_assoc (codes "/clerks/") c (codes "/batches/" ++ (b ++ codes "/keying")))) b_whole (λ from. refl))
+abbrev route_of_two : TwoRoute → RouteOf Place
+route_of_two r = record { pattern = pattern_of r; text = r.text; names = (9, 10) ∷ (21, 22) ∷ []; value = r.to }
 
 -- what two numbers name
-abbrev keying_by : Option ℕ → Option ℕ → Option Target
-keying_by clerk batch = option_and_then (λ c. option_map (λ b. Keying c b) batch) clerk
+abbrev pub kind_by : TwoRoute → Option ℕ → Option ℕ → Option Target
+kind_by r clerk batch = option_and_then (λ c. option_map (λ b. r.kind c b) batch) clerk
 
-keying-own : (target : List ℕ) → Fits keying_pattern target → NamesOwn target keying_route
-unfolding keying_route
-keying-own target fits = λ there named.
-    let path = two-parts (codes "/clerks/") (codes "/batches/") (codes "/keying") target refl refl refl fits in
-    let taken = keying-taken target path.one path.two path.is path.one_whole path.two_whole in
-    by there path.one path.two path.is (number_in path.one) (number_in path.two) refl refl (sym (ap (named_at place.Keying) taken) ∙ named)
+-- what is computed of such a route
+pub record IsTwoRoute (r : TwoRoute) : Type 0 where
+  pub end_bytes : list_all (λ x. ltb x param_token) (47 ∷ r.end) ≡ true
+  pub end_low : list_all is_ascii (47 ∷ r.end) ≡ true
+  pub clerk : part_of r.text 9 10 ≡ codes "c"
+  pub batch : part_of r.text 21 22 ≡ codes "b"
+  pub stops_one : (path : List ℕ) (from : ℕ) → wild_stop (pattern_of r) 8 path from ≡ from + length (segment (drop from path)) - 1
+  pub stops_two : (path : List ℕ) (from : ℕ) → wild_stop (pattern_of r) 18 path from ≡ from + length (segment (drop from path)) - 1
+  pub names : (c b : List ℕ) → named_at r.to (with_taken (codes "c") c (with_taken (codes "b") b [])) ≡ kind_by r (number_in c) (number_in b)
+  pub own : (target c b : List ℕ) (clerk batch : ℕ) → target ≡ two_path r c b → number_in c ≡ Some clerk → number_in b ≡ Some batch → IsTargetOf (r.kind clerk batch) target
+
+two-taken : (r : TwoRoute) → IsTwoRoute r → (target c b : List ℕ) → target ≡ two_path r c b → HasNoSlash c → HasNoSlash b
+    → walk (pattern_of r) r.text target ((9, 10) ∷ (21, 22) ∷ []) 0 0 ≡ with_taken (codes "c") c (with_taken (codes "b") b [])
+two-taken r is target c b at c_whole b_whole =
+    walk-part (pattern_of r) r.text target (9, 10) ((21, 22) ∷ []) (codes "/clerks/") (codes "/batches/" ++ (param_token ∷ (47 ∷ r.end))) [] c
+    (codes "batches/" ++ (b ++ (47 ∷ r.end))) 0 0 refl refl refl at c_whole (is.stops_one target)
+    ∙ ap (λ n. with_taken n c (walk (pattern_of r) r.text target ((21, 22) ∷ []) 9 (8 + length c))) is.clerk
+    ∙ ap (with_taken (codes "c") c)
+    (walk-part (pattern_of r) r.text target (21, 22) [] (codes "/batches/") (47 ∷ r.end) (codes "/clerks/" ++ c) b r.end 9 (8 + length c)
+    (sym (length-append (codes "/clerks/") c)) refl refl (at ∙ sym (append_assoc (codes "/clerks/") c (codes "/batches/" ++ (b ++ (47 ∷ r.end))))) b_whole (is.stops_two target)
+    ∙ ap (λ n. with_taken n b []) is.batch)
+
+two-own : (r : TwoRoute) → IsTwoRoute r → (target : List ℕ) → Fits (pattern_of r) target → NamesOwn target (route_of_two r)
+two-own r is target fits = λ there named.
+    let path = two-parts (codes "/clerks/") (codes "/batches/") (47 ∷ r.end) target refl refl is.end_bytes fits in
+    let taken = two-taken r is target path.one path.two path.is path.one_whole path.two_whole in
+    by there path.one path.two path.is (number_in path.one) (number_in path.two) refl refl (sym (is.names path.one path.two) ∙ sym (ap (named_at r.to) taken) ∙ named)
   where
-    by : (there : Target) (c b : List ℕ) → target ≡ keying_path c b → (clerk batch : Option ℕ) → number_in c ≡ clerk → number_in b ≡ batch → keying_by clerk batch ≡ Some there
+    by : (there : Target) (c b : List ℕ) → target ≡ two_path r c b → (clerk batch : Option ℕ) → number_in c ≡ clerk → number_in b ≡ batch → kind_by r clerk batch ≡ Some there
         → IsTargetOf there target
-    by there c b is None batch own other named = let no : ⊥ = cc in absurd no
-    by there c b is (Some clerk) None own other named = let no : ⊥ = cc in absurd no
-    by there c b is (Some clerk) (Some batch) own other named = let same : Keying clerk batch ≡ there = cc in subst (λ t. IsTargetOf t target) same (c, b, is, own, other)
+    by there c b at None batch own other named = let no : ⊥ = cc in absurd no
+    by there c b at (Some clerk) None own other named = let no : ⊥ = cc in absurd no
+    by there c b at (Some clerk) (Some batch) own other named = let same : r.kind clerk batch ≡ there = cc in subst (λ t. IsTargetOf t target) same (is.own target c b clerk batch at own other)
+
+keyings : TwoRoute
+keyings = record { end = codes "keying"; text = codes "/clerks/{c}/batches/{b}/keying"; to = place.Keying; kind = λ c b. Keying c b }
+
+candidates : TwoRoute
+candidates = record { end = codes "candidates"; text = codes "/clerks/{c}/batches/{b}/candidates"; to = place.Candidates; kind = λ c b. Reading (Candidates c b) }
+
+is-keyings : IsTwoRoute keyings
+unfolding keyings
+is-keyings = record {
+  end_bytes = refl;
+  end_low = refl;
+  clerk = refl;
+  batch = refl;
+  stops_one = λ path from. refl;
+  stops_two = λ path from. refl;
+  names = λ c b. refl;
+  own = λ target c b clerk batch at own other. (c, b, at, own, other);
+}
+
+is-candidates : IsTwoRoute candidates
+unfolding candidates
+is-candidates = record {
+  end_bytes = refl;
+  end_low = refl;
+  clerk = refl;
+  batch = refl;
+  stops_one = λ path from. refl;
+  stops_two = λ path from. refl;
+  names = λ c b. refl;
+  own = λ target c b clerk batch at own other. (c, b, at, own, other);
+}
+
+two-named : (r : TwoRoute) → IsTwoRoute r → (c b : List ℕ) (clerk batch : ℕ) → number_in c ≡ Some clerk → number_in b ≡ Some batch
+    → first office_routes (two_path r c b) ≡ Some (route_of_two r) → named_by (two_path r c b) ≡ Some (r.kind clerk batch)
+two-named r is c b clerk batch own other found =
+    let is_c = numeric c clerk own in
+    let is_b = numeric b batch other in
+    let low = low-path (codes "/clerks/") c (codes "/batches/" ++ (b ++ (47 ∷ r.end))) refl is_c.low (low-path (codes "/batches/") b (47 ∷ r.end) refl is_b.low is.end_low) in
+    named-found (two_path r c b) (route_of_two r) low found
+    ∙ ap (named_at r.to) (two-taken r is (two_path r c b) c b refl is_c.whole is_b.whole)
+    ∙ is.names c b ∙ ap (λ n. kind_by r n (number_in b)) own ∙ ap (kind_by r (Some clerk)) other
 
 -- ---- what the routes find
 
@@ -186,20 +260,52 @@ declaration-found part is =
     (seek-part ward_rows part (codes "result") (route_of_one declaration) wards-go is.some is.whole is.below
     (seek-word (codes "/result") (step param_token ward_rows) [] (route_of_one declaration) (seek-end _ _ refl)))
 
-keying-found : (c b : List ℕ) → IsNumeric c → IsNumeric b → first office_routes (keying_path c b) ≡ Some keying_route
-unfolding keying_route batch_rows clerk_rows scan
-keying-found c b is_c is_b =
-    seek-word (codes "/clerks/") office_routes (c ++ (codes "/batches/" ++ (b ++ codes "/keying"))) keying_route
-    (seek-part clerk_rows c (codes "batches/" ++ (b ++ codes "/keying")) keying_route clerks-go is_c.some is_c.whole is_c.below
-    (seek-word (codes "/batches/") (step param_token clerk_rows) (b ++ codes "/keying") keying_route
-    (seek-part batch_rows b (codes "keying") keying_route batches-go is_b.some is_b.whole is_b.below
-    (seek-word (codes "/keying") (step param_token batch_rows) [] keying_route (seek-end _ _ refl)))))
+page-found : (part : List ℕ) → IsNumeric part → first office_routes (path_of page part) ≡ Some (route_of_one page)
+unfolding page clerk_rows scan
+page-found part is =
+    seek-word (codes "/clerks/") office_routes (part ++ codes "/") (route_of_one page)
+    (seek-part clerk_rows part [] (route_of_one page) clerks-go is.some is.whole is.below
+    (seek-word (codes "/") (step param_token clerk_rows) [] (route_of_one page) (seek-end _ _ refl)))
+
+leaving-found : (part : List ℕ) → IsNumeric part → first office_routes (path_of leaving part) ≡ Some (route_of_one leaving)
+unfolding leaving clerk_rows scan
+leaving-found part is =
+    seek-word (codes "/clerks/") office_routes (part ++ codes "/leave") (route_of_one leaving)
+    (seek-part clerk_rows part (codes "leave") (route_of_one leaving) clerks-go is.some is.whole is.below
+    (seek-word (codes "/leave") (step param_token clerk_rows) [] (route_of_one leaving) (seek-end _ _ refl)))
+
+keyings-found : (c b : List ℕ) → IsNumeric c → IsNumeric b → first office_routes (two_path keyings c b) ≡ Some (route_of_two keyings)
+unfolding keyings batch_rows clerk_rows scan
+keyings-found c b is_c is_b =
+    seek-word (codes "/clerks/") office_routes (c ++ (codes "/batches/" ++ (b ++ codes "/keying"))) (route_of_two keyings)
+    (seek-part clerk_rows c (codes "batches/" ++ (b ++ codes "/keying")) (route_of_two keyings) clerks-go is_c.some is_c.whole is_c.below
+    (seek-word (codes "/batches/") (step param_token clerk_rows) (b ++ codes "/keying") (route_of_two keyings)
+    (seek-part batch_rows b (codes "keying") (route_of_two keyings) batches-go is_b.some is_b.whole is_b.below
+    (seek-word (codes "/keying") (step param_token batch_rows) [] (route_of_two keyings) (seek-end _ _ refl)))))
+
+candidates-found : (c b : List ℕ) → IsNumeric c → IsNumeric b → first office_routes (two_path candidates c b) ≡ Some (route_of_two candidates)
+unfolding candidates batch_rows clerk_rows scan
+candidates-found c b is_c is_b =
+    seek-word (codes "/clerks/") office_routes (c ++ (codes "/batches/" ++ (b ++ codes "/candidates"))) (route_of_two candidates)
+    (seek-part clerk_rows c (codes "batches/" ++ (b ++ codes "/candidates")) (route_of_two candidates) clerks-go is_c.some is_c.whole is_c.below
+    (seek-word (codes "/batches/") (step param_token clerk_rows) (b ++ codes "/candidates") (route_of_two candidates)
+    (seek-part batch_rows b (codes "candidates") (route_of_two candidates) batches-go is_b.some is_b.whole is_b.below
+    (seek-word (codes "/candidates") (step param_token batch_rows) [] (route_of_two candidates) (seek-end _ _ refl)))))
 
 -- ---- both ways
 
 routes-own : (target : List ℕ) → Gives (NamesOwn target) office_routes target
-unfolding keying_route work sheet declaration scan
-routes-own target = (keying-own target, (one-own work is-work target, (one-own declaration is-declaration target, (one-own sheet is-sheet target, tt))))
+unfolding keyings candidates work page leaving sheet declaration scan
+routes-own target = (
+  two-own candidates is-candidates target,
+  (
+    two-own keyings is-keyings target,
+    (
+      one-own leaving is-leaving target,
+      (one-own work is-work target, (one-own page is-page target, (one-own declaration is-declaration target, (one-own sheet is-sheet target, tt)))),
+    ),
+  ),
+)
 
 named-own : (target : List ℕ) (there : Target) → named_by target ≡ Some there → IsTargetOf there target
 named-own target there named = by (list_all is_ascii target) (first office_routes target) (seek-gives (NamesOwn target) 0 office_routes target (routes-own target)) named
@@ -211,18 +317,16 @@ named-own target there named = by (list_all is_ascii target) (first office_route
     by true (Some route) own named = own there named
 
 own-named : (target : List ℕ) (there : Target) → IsTargetOf there target → named_by target ≡ Some there
-unfolding work sheet declaration keying_route
+unfolding work page leaving sheet declaration keyings candidates
+own-named target (Page n) (part, is, own) = ap named_by is ∙ one-named page is-page part n own (page-found part (numeric part n own))
+own-named target (Leave n) (part, is, own) = ap named_by is ∙ one-named leaving is-leaving part n own (leaving-found part (numeric part n own))
 own-named target (Reading (Work n)) (part, is, own) = ap named_by is ∙ one-named work is-work part n own (work-found part (numeric part n own))
 own-named target (Reading (Sheet n)) (part, is, own) = ap named_by is ∙ one-named sheet is-sheet part n own (sheet-found part (numeric part n own))
 own-named target (Reading (Declaration n)) (part, is, own) = ap named_by is ∙ one-named declaration is-declaration part n own (declaration-found part (numeric part n own))
+own-named target (Reading (Candidates clerk batch)) (c, b, is, own, other) =
+    ap named_by is ∙ two-named candidates is-candidates c b clerk batch own other (candidates-found c b (numeric c clerk own) (numeric b batch other))
 own-named target (Keying clerk batch) (c, b, is, own, other) =
-    let is_c = numeric c clerk own in
-    let is_b = numeric b batch other in
-    let low = low-path (codes "/clerks/") c (codes "/batches/" ++ (b ++ codes "/keying")) refl is_c.low (low-path (codes "/batches/") b (codes "/keying") refl is_b.low refl) in
-    ap named_by is
-    ∙ named-found (keying_path c b) keying_route low (keying-found c b is_c is_b)
-    ∙ ap (named_at place.Keying) (keying-taken (keying_path c b) c b refl is_c.whole is_b.whole)
-    ∙ ap (λ n. keying_by n (number_in b)) own ∙ ap (keying_by (Some clerk)) other
+    ap named_by is ∙ two-named keyings is-keyings c b clerk batch own other (keyings-found c b (numeric c clerk own) (numeric b batch other))
 
 pub NamesItsOwn-all : (target : List ℕ) → NamesItsOwn target
 NamesItsOwn-all target there = (named-own target there, own-named target there)

@@ -1,10 +1,12 @@
 -- The answers that stand fixed, letter by letter.
-use Rattle.std.proofs.Common.{◌≡◌, refl}
+use Rattle.std.proofs.Common.{◌≡◌, Some, ap, refl, ℕ}
 use Rattle.std.specs.Fmt.{digits}
-use Rattle.wire.specs.Responses.{denied_response, fault_response, lines_and_body, response_bytes}
-use Rattle.wire.specs.declared.denial.Denial.TheVariants.{BadRequest, Forbidden, MethodNotAllowed, NotFound, TooLarge}
+use Rattle.wire.specs.Asking.{has_left}
+use Rattle.wire.specs.Responses.{clerk_kept_out, denied_response, fault_response, lines_and_body, response_bytes, shown_response, unauthorized_response, waits_response}
+use Rattle.wire.specs.declared.denial.Denial.{Denial}
+use Rattle.wire.specs.declared.denial.Denial.TheVariants.{BadRequest, Forbidden, MethodNotAllowed, NotFound, TooLarge, Unauthorized, WrongCode}
 use Rattle.wire.specs.declared.denial.Verb.TheVariants.{Get, Post}
-use Rattle.wire.specs.declared.response.TheConstants.{BAD_REQUEST, FORBIDDEN, NOT_FOUND, NO_MEMORY, ONLY_GET, ONLY_POST, TOO_LARGE}
+use Rattle.wire.specs.declared.response.TheConstants.{BAD_REQUEST, FORBIDDEN, LEFT, NOT_FOUND, NO_MEMORY, ONLY_GET, ONLY_POST, TOO_LARGE, WAITS}
 
 pub bad_request-told : BAD_REQUEST.now ≡ response_bytes (denied_response BadRequest)
 unfolding digits lines_and_body
@@ -33,3 +35,21 @@ too_large-told = refl
 pub no_memory-told : NO_MEMORY.now ≡ response_bytes (fault_response 101)
 unfolding digits lines_and_body
 no_memory-told = refl
+
+pub waits-told : WAITS.now ≡ response_bytes waits_response
+unfolding digits lines_and_body
+waits-told = refl
+
+pub left-told : LEFT.now ≡ response_bytes (shown_response has_left)
+unfolding digits lines_and_body
+left-told = refl
+
+-- a denial by which a clerk's code is asked for
+pub unauthorized-told : (why : Denial) (clerk : ℕ) → clerk_kept_out why ≡ Some clerk → denied_response why ≡ unauthorized_response clerk
+unauthorized-told (Unauthorized c) clerk is = let same : c ≡ clerk = cc in ap unauthorized_response same
+unauthorized-told (WrongCode c) clerk is = let same : c ≡ clerk = cc in ap unauthorized_response same
+unauthorized-told BadRequest clerk is = let no : ⊥ = cc in absurd no
+unauthorized-told Forbidden clerk is = let no : ⊥ = cc in absurd no
+unauthorized-told NotFound clerk is = let no : ⊥ = cc in absurd no
+unauthorized-told (MethodNotAllowed verb) clerk is = let no : ⊥ = cc in absurd no
+unauthorized-told TooLarge clerk is = let no : ⊥ = cc in absurd no

@@ -3,15 +3,16 @@ use Rattle.std.proofs.Common.{ℕ, Bool, List, Option, inl, refl}
 use Rattle.std.specs.Prelude.{IfSome}
 use Rattle.sqlite.specs.State.{State}
 use Rattle.register.specs.Offices.{OfficeState}
-use Rattle.wire.specs.Asking.{AskedEntry, Asks}
-use Rattle.wire.specs.Serving.{IsDeniedAlike, IsPut, OnAnswered, OnReadFailed, OnWriteFailed, Readies, ReadiesFor, Serves}
+use Rattle.wire.specs.Asking.{AskedEntry, Asks, ShowEntry}
+use Rattle.wire.specs.Gates.{GivenEntry}
+use Rattle.wire.specs.Serving.{IsDeniedAlike, IsPut, IsServed, IsShownAlike, OnAnswered, OnReadFailed, OnWriteFailed, Readies, ReadiesFor, Serves}
 use Rattle.wire.specs.declared.denial.Denial.{Denial}
 use Rattle.wire.specs.declared.response.Response.{Response}
 use Rattle.wire.specs.declared.serving.Served.{Served}
 use Rattle.wire.specs.declared.serving.Served.TheVariants.{Answered, ReadFailed, WriteFailed}
 
 -- what was asked was answered
-pub ReadiesFor-asked : (given bytes : Option (List ℕ)) (s : OfficeState) (asked : AskedEntry) (response : Response) (closed : Bool) (st : State) → IfSome bytes (λ xs. Asks given xs asked)
+pub ReadiesFor-asked : (given : GivenEntry) (bytes : Option (List ℕ)) (s : OfficeState) (asked : AskedEntry) (response : Response) (closed : Bool) (st : State) → IfSome bytes (λ xs. Asks given xs asked)
     → Readies s asked response closed st → ReadiesFor given bytes s response closed st
 ReadiesFor-asked given bytes s asked response closed st asks ready = inl (record { asked = asked; asks = asks; readies = ready })
 
@@ -19,8 +20,17 @@ ReadiesFor-asked given bytes s asked response closed st asks ready = inl (record
 pub IsDeniedAlike-all : (why : Denial) → IsDeniedAlike why
 IsDeniedAlike-all why s t next answer is = (is.0, (refl, is.1), is.1)
 
+-- and so is what is shown
+pub IsShownAlike-all : (show : ShowEntry) → IsShownAlike show
+IsShownAlike-all show clerk s t next answer is = (is.0, (refl, is.1), is.1)
+
+-- an answer was put
+pub IsServed-put : (IsReady : Response → Type 0) (old new : Option (List ℕ)) (response : Response) (served : Served) → IsReady response → IsPut old new response served
+    → IsServed IsReady old new served
+IsServed-put IsReady old new response served ready put = record { response = response; ready = ready; put = put }
+
 -- the answer that was ready was put
-pub Serves-put : (given bytes old new : Option (List ℕ)) (s : OfficeState) (response : Response) (served : Served) (closed : Bool) (st : State) → ReadiesFor given bytes s response closed st
+pub Serves-put : (given : GivenEntry) (bytes old new : Option (List ℕ)) (s : OfficeState) (response : Response) (served : Served) (closed : Bool) (st : State) → ReadiesFor given bytes s response closed st
     → IsPut old new response served → Serves given bytes old new s served closed st
 Serves-put given bytes old new s response (Answered status) closed st ready put = record { response = response; ready = ready; put = put }
 Serves-put given bytes old new s response ReadFailed closed st ready put = absurd put

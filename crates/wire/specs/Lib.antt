@@ -4,6 +4,7 @@ pub mod Targets
 pub mod Lengths
 pub mod Origins
 pub mod Bodies
+pub mod Gates
 pub mod Asking
 pub mod Lacking
 pub mod Replies

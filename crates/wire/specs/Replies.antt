@@ -4,7 +4,8 @@ use Rattle.json.specs.Print.{quoted}
 use Rattle.serde_json.specs.Data.{Data, array, boolean, member, no_members, number, object, string, unsigned}
 use Rattle.serde_json.specs.View.{items_of}
 use Rattle.serde_json.specs.Written.{compact_text}
-use Rattle.register.specs.Standings.{WorkEntry}
+use Rattle.register.specs.Offices.{CandidateEntry}
+use Rattle.register.specs.Standings.{BallotPaperEntry, WorkEntry}
 
 -- a reply
 abbrev pub reply_data : List ℕ → Data
@@ -52,3 +53,19 @@ clerk_data clerk work = object (member (codes "clerk") (number_data clerk) (memb
 -- its JSON
 abbrev pub work_body : ℕ → List WorkEntry → List ℕ
 work_body clerk work = compact_text (clerk_data clerk work)
+
+-- a candidate of a ballot paper
+abbrev pub candidate_data : CandidateEntry → Data
+candidate_data c = object (member (codes "candidate") (number_data c.number) (member (codes "name") (string c.name) no_members))
+
+-- what stands on the papers of a batch: its ward with its name, and the candidates there
+abbrev pub paper_data : ℕ → BallotPaperEntry → Data
+paper_data batch p = object
+    (member (codes "batch") (number_data batch)
+    (member (codes "candidates") (list_data candidate_data p.candidates)
+    (member (codes "name") (string p.name)
+    (member (codes "ward") (number_data p.ward) no_members))))
+
+-- its JSON
+abbrev pub paper_body : ℕ → BallotPaperEntry → List ℕ
+paper_body batch p = compact_text (paper_data batch p)

@@ -1,18 +1,28 @@
 -- The bytes of an answer over HTTP.
 use Rattle.std.specs.Prelude.{◌∷◌, List, [], ◌++◌, Option, Some, None, codes, decimal, length, unwrap_or, ℕ}
 use Rattle.http.specs.StatusCode.{reason_phrase}
-use Rattle.wire.specs.Asking.{verb_text}
+use Rattle.wire.specs.Asking.{ShowEntry, has_left, page, verb_text}
 use Rattle.wire.specs.Replies.{fault_body, refusal_body, reply_body}
 use Rattle.wire.specs.declared.denial.Denial.{Denial}
-use Rattle.wire.specs.declared.denial.Denial.TheVariants.{BadRequest, Forbidden, MethodNotAllowed, NotFound, TooLarge}
+use Rattle.wire.specs.declared.denial.Denial.TheVariants.{BadRequest, Forbidden, MethodNotAllowed, NotFound, TooLarge, Unauthorized, WrongCode}
 use Rattle.wire.specs.declared.denial.Verb.{Verb}
 use Rattle.wire.specs.declared.response.Content.{Content}
-use Rattle.wire.specs.declared.response.Content.TheVariants.{Json, Text}
+use Rattle.wire.specs.declared.response.Content.TheVariants.{Html, Json, Text}
 
--- an answer: its status; the verb that it tells to be the one served, if it does; and its body, with what kind of text that is
+-- what an answer tells beside: nothing; the verb that is served; that a clerk's code is asked for; that he is to wait a minute; what a browser may do with
+-- a page, by its policy; or that it is to forget a code
+pub data More : Type 0 where
+  nothing : More
+  allows : Verb → More
+  asks_code : ℕ → More
+  waits : More
+  guards : List ℕ → More
+  forgets : More
+
+-- an answer: its status; what it tells beside; and its body, with what kind of text that is
 pub record ResponseEntry : Type 0 where
   pub status : ℕ
-  pub allowed : Option Verb
+  pub more : More
   pub content : Content
   pub body : List ℕ
 
@@ -30,44 +40,85 @@ phrase status = unwrap_or (reason_phrase status) []
 abbrev pub media_type : Content → List ℕ
 media_type Text = codes "text/plain; charset=utf-8"
 media_type Json = codes "application/json"
+media_type Html = codes "text/html; charset=utf-8"
 
--- the line that tells the verb
-abbrev pub allow_line : Option Verb → List ℕ
-allow_line None = []
-allow_line (Some verb) = codes "Allow: " ++ (verb_text verb ++ line_end)
+-- the line that asks for a clerk's code; its realm names the clerk, so that no browser sends another one's
+unfoldable pub code_line : ℕ → List ℕ
+code_line clerk = codes "WWW-Authenticate: Basic realm=\"clerk " ++ (decimal clerk ++ (codes "\", charset=\"UTF-8\"" ++ line_end))
+
+-- the lines that keep a page as it is: by its policy; in no frame; taken for nothing else; apart from windows and pages of other servers; kept nowhere
+unfoldable pub guard_lines : List ℕ → List ℕ
+guard_lines policy =
+    codes "Content-Security-Policy: " ++ (policy ++ (line_end
+    ++ (codes "X-Frame-Options: DENY" ++ (line_end
+    ++ (codes "X-Content-Type-Options: nosniff" ++ (line_end
+    ++ (codes "Referrer-Policy: same-origin" ++ (line_end
+    ++ (codes "Cross-Origin-Opener-Policy: same-origin" ++ (line_end
+    ++ (codes "Cross-Origin-Resource-Policy: same-origin" ++ (line_end
+    ++ (codes "Cache-Control: no-store" ++ line_end)))))))))))))
+
+-- the lines of what is told beside
+abbrev pub more_lines : More → List ℕ
+more_lines nothing = []
+more_lines (allows verb) = codes "Allow: " ++ (verb_text verb ++ line_end)
+more_lines (asks_code clerk) = code_line clerk
+more_lines waits = codes "Retry-After: 60" ++ line_end
+more_lines (guards policy) = guard_lines policy
+more_lines forgets = codes "Clear-Site-Data: \"cookies\"" ++ (line_end ++ (codes "Cache-Control: no-store" ++ line_end))
 
 -- the lines of an answer, an empty line, and the body
 unfoldable pub lines_and_body : ℕ → List ℕ → List ℕ → ℕ → List ℕ → List ℕ → List ℕ
-lines_and_body status its_phrase its_type size allow body =
+lines_and_body status its_phrase its_type size beside body =
     codes "HTTP/1.1 " ++ (decimal status ++ (codes " " ++ (its_phrase ++ (line_end
     ++ (codes "Content-Type: " ++ (its_type ++ (line_end
     ++ (codes "Content-Length: " ++ (decimal size ++ (line_end
-    ++ (allow
+    ++ (beside
     ++ (codes "Connection: close" ++ (line_end
     ++ (line_end
     ++ body))))))))))))))
 
 -- the bytes of an answer
 abbrev pub response_bytes : ResponseEntry → List ℕ
-response_bytes r = lines_and_body r.status (phrase r.status) (media_type r.content) (length r.body) (allow_line r.allowed) r.body
+response_bytes r = lines_and_body r.status (phrase r.status) (media_type r.content) (length r.body) (more_lines r.more) r.body
 
 -- ---- the answers
 
 -- an answer whose body is JSON
 abbrev pub json_response : ℕ → List ℕ → ResponseEntry
-json_response status body = record { status = status; allowed = None; content = Json; body = body }
+json_response status body = record { status = status; more = nothing; content = Json; body = body }
 
 -- a text that was asked for
 abbrev pub text_response : List ℕ → ResponseEntry
-text_response text = record { status = 200; allowed = None; content = Text; body = text }
+text_response text = record { status = 200; more = nothing; content = Text; body = text }
+
+-- that a clerk's code is asked for
+abbrev pub unauthorized_response : ℕ → ResponseEntry
+unauthorized_response clerk = record { status = 401; more = asks_code clerk; content = Json; body = codes "{\"error\":\"unauthorized\"}" }
+
+-- the clerk whose code is asked for by a denial, if one's is
+abbrev pub clerk_kept_out : Denial → Option ℕ
+clerk_kept_out (Unauthorized clerk) = Some clerk
+clerk_kept_out (WrongCode clerk) = Some clerk
+clerk_kept_out other = None
+
+-- that a clerk is to wait
+abbrev pub waits_response : ResponseEntry
+waits_response = record { status = 429; more = waits; content = Json; body = codes "{\"error\":\"too many wrong codes\"}" }
+
+-- what is shown to a clerk whatever the state is
+abbrev pub shown_response : ShowEntry → ResponseEntry
+shown_response (page its) = record { status = 200; more = guards its.policy; content = Html; body = its.text }
+shown_response has_left = record { status = 200; more = forgets; content = Json; body = codes "{\"left\":true}" }
 
 -- why a request is denied
 abbrev pub denied_response : Denial → ResponseEntry
 denied_response BadRequest = json_response 400 (codes "{\"error\":\"bad request\"}")
 denied_response Forbidden = json_response 403 (codes "{\"error\":\"forbidden\"}")
 denied_response NotFound = json_response 404 (codes "{\"error\":\"not found\"}")
-denied_response (MethodNotAllowed verb) = record { status = 405; allowed = Some verb; content = Json; body = codes "{\"error\":\"method not allowed\"}" }
+denied_response (MethodNotAllowed verb) = record { status = 405; more = allows verb; content = Json; body = codes "{\"error\":\"method not allowed\"}" }
 denied_response TooLarge = json_response 413 (codes "{\"error\":\"too large\"}")
+denied_response (Unauthorized clerk) = unauthorized_response clerk
+denied_response (WrongCode clerk) = unauthorized_response clerk
 
 -- the reply to a keying
 abbrev pub reply_response : List ℕ → ResponseEntry

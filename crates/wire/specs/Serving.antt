@@ -10,27 +10,28 @@ use Rattle.register.specs.declared.command.Command.TheVariants as command
 use Rattle.register.specs.declared.command.Request.{Request}
 use Rattle.register.specs.declared.keyings.KeyingCommand.{KeyingCommand}
 use Rattle.register.specs.declared.refusal.Reason.{Reason}
-use Rattle.register.specs.Standings.{WorkEntry}
+use Rattle.register.specs.Standings.{BallotPaperEntry, WorkEntry}
 use Rattle.tables.specs.Faults.{fault_number}
 use Rattle.tables.specs.declared.fault.Fault.{Fault}
 use Rattle.tables.specs.declared.fault.Fault.TheVariants.{Closed}
 use Rattle.office.specs.Answers.{IsClosedIn, IsKeptOpen, IsOpenAt, Told, again, done, no, told_of}
-use Rattle.office.specs.Reads.{IsClosedReading, work_told}
+use Rattle.office.specs.Reads.{IsClosedReading, paper_told, work_told}
 use Rattle.office.specs.Sheets.{text_told}
 use Rattle.office.specs.declared.answers.Stop.{Stop}
 use Rattle.office.specs.declared.answers.Stop.TheVariants.{Refused, Fault as Failed}
 use Rattle.office.specs.declared.sheets.Text.TheVariants as text
-use Rattle.wire.specs.Asking.{AskedEntry, Asks, denied, keying, reading}
+use Rattle.wire.specs.Asking.{AskedEntry, Asks, ShowEntry, denied, keying, reading, shown}
 use Rattle.wire.specs.Bodies.{KeyingEntry}
-use Rattle.wire.specs.Replies.{work_body}
-use Rattle.wire.specs.Responses.{ResponseEntry, denied_response, fault_response, json_response, refusal_response, reply_response, text_response}
+use Rattle.wire.specs.Gates.{GivenEntry}
+use Rattle.wire.specs.Replies.{paper_body, work_body}
+use Rattle.wire.specs.Responses.{ResponseEntry, denied_response, fault_response, json_response, refusal_response, reply_response, shown_response, text_response}
 use Rattle.wire.specs.Told.{IsTold, IsWritten, told_bytes}
 use Rattle.wire.specs.declared.denial.Denial.{Denial}
 use Rattle.wire.specs.declared.response.Response.{Response}
 use Rattle.wire.specs.declared.serving.Served.{Served}
 use Rattle.wire.specs.declared.serving.Served.TheVariants.{Answered, ReadFailed, WriteFailed}
 use Rattle.wire.specs.declared.target.Reading.{Reading}
-use Rattle.wire.specs.declared.target.Reading.TheVariants.{Declaration, Sheet, Work}
+use Rattle.wire.specs.declared.target.Reading.TheVariants.{Candidates, Declaration, Sheet, Work}
 
 -- the refusal for a reason
 abbrev pub refused_for : Reason → ResponseEntry
@@ -51,9 +52,14 @@ read_response told (Err why) = refused_for why
 abbrev pub work_response : ℕ → List WorkEntry → ResponseEntry
 work_response clerk work = json_response 200 (work_body clerk work)
 
+-- the candidates of a batch
+abbrev pub paper_response : ℕ → BallotPaperEntry → ResponseEntry
+paper_response batch paper = json_response 200 (paper_body batch paper)
+
 -- what is told to a reading at a state
 abbrev pub reading_response : OfficeState → Reading → ResponseEntry
 reading_response s (Work clerk) = read_response (work_response clerk) (work_told s clerk)
+reading_response s (Candidates clerk batch) = read_response (paper_response batch) (paper_told s clerk batch)
 reading_response s (Sheet ward) = read_response text_response (text_told text.Sheet s ward)
 reading_response s (Declaration ward) = read_response text_response (text_told text.Declaration s ward)
 
@@ -76,6 +82,7 @@ pub record IsOutcome (s : OfficeState) (clerk batch : ℕ) (entry : KeyingEntry)
 -- the answer to what is asked at a state, and the state after it
 abbrev pub IsAnswer : OfficeState → AskedEntry → OfficeState → ResponseEntry → Type 0
 IsAnswer s (denied why) next answer = (next ≡ s) × (answer ≡ denied_response why)
+IsAnswer s (shown clerk show) next answer = (next ≡ s) × (answer ≡ shown_response show)
 IsAnswer s (reading what) next answer = (next ≡ s) × (answer ≡ reading_response s what)
 IsAnswer s (keying clerk batch entry) next answer =
     (outcome : Outcome) × IsOutcome s clerk batch entry outcome × (next ≡ state_after s outcome) × (answer ≡ told_response (told_of outcome))
@@ -92,6 +99,7 @@ pub record IsAnswered (s : OfficeState) (asked : AskedEntry) (answer : ResponseE
 -- accepted, the one after
 abbrev pub FaultLeaves : OfficeState → AskedEntry → Fault → Bool → State → Type 0
 FaultLeaves s (denied why) f closed st = ⊥
+FaultLeaves s (shown clerk show) f closed st = ⊥
 FaultLeaves s (reading what) f closed st = IsKeptOpen s f closed st ⊎ IsClosedReading s f closed st
 FaultLeaves s (keying clerk batch entry) f closed st =
     (outcome : Outcome) × IsOutcome s clerk batch entry outcome × (IsKeptOpen s f closed st ⊎ IsClosedIn s outcome f closed st)
@@ -116,6 +124,7 @@ IsReadTold entry view (Err (Failed f)) response = IsTold (fault_response (fault_
 -- the requests that are handed on for what is asked at a state, and what is told: a clerk's keying is handed on, and what the office says to it is told
 abbrev pub TellsAsked : OfficeState → AskedEntry → Response → List Request → Type 0
 TellsAsked s (denied why) response sent = IsTold (denied_response why) response × (sent ≡ [])
+TellsAsked s (shown clerk show) response sent = IsTold (shown_response show) response × (sent ≡ [])
 TellsAsked s (reading what) response sent = IsTold (reading_response s what) response × (sent ≡ [])
 TellsAsked s (keying clerk batch entry) response sent =
     (request : Request) × IsHandedOn clerk batch entry request × IsTold (told_response (told_of (step_of s request))) response × (sent ≡ request ∷ [])
@@ -125,14 +134,15 @@ abbrev pub TellsFault : Response → Type 0
 TellsFault response = (fault : Fault) × IsTold (fault_response (fault_number fault)) response
 
 -- what is asked is told; or a fault is, and nothing was handed on, or what was is as if it had never come
-abbrev pub TellsFor : Option (List ℕ) → Option (List ℕ) → OfficeState → List Request → Response → Type 0
+abbrev pub TellsFor : GivenEntry → Option (List ℕ) → OfficeState → List Request → Response → Type 0
 TellsFor given bytes s sent response = ((asked : AskedEntry) × IfSome bytes (λ xs. Asks given xs asked) × TellsAsked s asked response sent) ⊎ (TellsFault response × (sent ≡ []))
 
 -- ---- a closed office
 
--- its answer to what is asked: what is denied is denied, and everything else meets the fault that it is closed
+-- its answer to what is asked: what is denied is denied, what is shown whatever the state is is shown, and everything else meets the fault that it is closed
 abbrev pub closed_response : AskedEntry → ResponseEntry
 closed_response (denied why) = denied_response why
+closed_response (shown clerk show) = shown_response show
 closed_response (reading what) = fault_response (fault_number Closed)
 closed_response (keying clerk batch entry) = fault_response (fault_number Closed)
 
@@ -141,26 +151,32 @@ abbrev pub IsDeniedAlike : Denial → Type 0
 IsDeniedAlike why =
     (s t next : OfficeState) (answer : ResponseEntry) → IsAnswer s (denied why) next answer → (next ≡ s) × IsAnswer t (denied why) t answer × (answer ≡ closed_response (denied why))
 
+-- so is what is shown whatever the state is
+abbrev pub IsShownAlike : ShowEntry → Type 0
+IsShownAlike show =
+    (clerk : ℕ) (s t next : OfficeState) (answer : ResponseEntry) → IsAnswer s (shown clerk show) next answer
+    → (next ≡ s) × IsAnswer t (shown clerk show) t answer × (answer ≡ closed_response (shown clerk show))
+
 -- this answer is ready to be written, and where the client's bytes are known, they ask just that
-pub record TellsClosed (given bytes : Option (List ℕ)) (response : Response) : Type 0 where
+pub record TellsClosed (given : GivenEntry) (bytes : Option (List ℕ)) (response : Response) : Type 0 where
   pub asked : AskedEntry
   pub asks : IfSome bytes (λ xs. Asks given xs asked)
   pub tells : IsTold (closed_response asked) response
 
 -- that; or memory was wanting to read what he asks
-abbrev pub ReadiesClosed : Option (List ℕ) → Option (List ℕ) → Response → Type 0
+abbrev pub ReadiesClosed : GivenEntry → Option (List ℕ) → Response → Type 0
 ReadiesClosed given bytes response = TellsClosed given bytes response ⊎ IsWritten (fault_response 101) response
 
 -- ---- one connection
 
 -- the answer to what a client asks is ready, with what it leaves, and where his bytes are known, they ask just that
-pub record ReadiesAsked (given bytes : Option (List ℕ)) (s : OfficeState) (response : Response) (closed : Bool) (st : State) : Type 0 where
+pub record ReadiesAsked (given : GivenEntry) (bytes : Option (List ℕ)) (s : OfficeState) (response : Response) (closed : Bool) (st : State) : Type 0 where
   pub asked : AskedEntry
   pub asks : IfSome bytes (λ xs. Asks given xs asked)
   pub readies : Readies s asked response closed st
 
 -- that; or memory was wanting to read what he asks, and nothing was handed on
-abbrev pub ReadiesFor : Option (List ℕ) → Option (List ℕ) → OfficeState → Response → Bool → State → Type 0
+abbrev pub ReadiesFor : GivenEntry → Option (List ℕ) → OfficeState → Response → Bool → State → Type 0
 ReadiesFor given bytes s response closed st = ReadiesAsked given bytes s response closed st ⊎ (IsWritten (fault_response 101) response × IsOpenAt s closed st)
 
 -- an answer was written whole, or, where the writer failed, a beginning of it
@@ -182,11 +198,11 @@ EndsWith IsReady Unread old new ReadFailed = Unread
 EndsWith IsReady Unread old new WriteFailed = IsServed IsReady old new WriteFailed
 
 -- what each end of a connection tells and leaves: where the reader failed, nothing was handed on
-abbrev pub Serves : Option (List ℕ) → Option (List ℕ) → Option (List ℕ) → Option (List ℕ) → OfficeState → Served → Bool → State → Type 0
+abbrev pub Serves : GivenEntry → Option (List ℕ) → Option (List ℕ) → Option (List ℕ) → OfficeState → Served → Bool → State → Type 0
 Serves given bytes old new s served closed st = EndsWith (λ response. ReadiesFor given bytes s response closed st) (IsOpenAt s closed st) old new served
 
 -- what each end of a connection tells where the office is closed: where the reader failed, nothing was written
-abbrev pub ServesClosed : Option (List ℕ) → Option (List ℕ) → Option (List ℕ) → Option (List ℕ) → Served → Type 0
+abbrev pub ServesClosed : GivenEntry → Option (List ℕ) → Option (List ℕ) → Option (List ℕ) → Served → Type 0
 ServesClosed given bytes old new served = EndsWith (ReadiesClosed given bytes) (new ≡ old) old new served
 
 -- P, where an answer was written whole

@@ -1,4 +1,4 @@
--- What the targets of requests name: four routes, as `matchit` finds them for the whole target, with numbers in them.
+-- What the targets of requests name: seven routes, as `matchit` finds them for the whole target, with numbers in them.
 use Rattle.std.specs.Prelude.{◌≡◌, ◌↔◌, ◌++◌, ◌&&◌, ◌∷◌, ◌==◌, Bool, List, [], Option, Some, None, Result, Ok, Err, codes, false, if◌then◌else◌, length, nat_le, not, option_and_then, option_map, ℕ}
 use Rattle.std.specs.Char.{is_ascii, is_ascii_digit}
 use Rattle.std.specs.List.{list_all}
@@ -13,9 +13,9 @@ use Rattle.matchit.specs.declared.error.InsertError.{InsertError}
 use Rattle.matchit.specs.declared.params.Params.{Params}
 use Rattle.wire.specs.declared.target.Place.{Place}
 use Rattle.wire.specs.declared.target.Place.TheVariants as place
-use Rattle.wire.specs.declared.target.Reading.TheVariants.{Declaration, Sheet, Work}
+use Rattle.wire.specs.declared.target.Reading.TheVariants.{Candidates, Declaration, Sheet, Work}
 use Rattle.wire.specs.declared.target.Target.{Target}
-use Rattle.wire.specs.declared.target.Target.TheVariants.{Keying, Reading}
+use Rattle.wire.specs.declared.target.Target.TheVariants.{Keying, Leave, Page, Reading}
 
 -- the most digits of a number
 abbrev pub most_digits : ℕ
@@ -38,13 +38,16 @@ with_scanned (Err e) value routes = routes
 abbrev pub with_route : List ℕ → Place → RowsOf (RouteOf Place) → RowsOf (RouteOf Place)
 with_route text value routes = with_scanned (parse_route text) value routes
 
--- the four routes
+-- the seven routes
 abbrev pub office_routes : RowsOf (RouteOf Place)
 office_routes =
     with_route (codes "/wards/{w}/result") place.Declaration
     (with_route (codes "/wards/{w}/sheet") place.Sheet
+    (with_route (codes "/clerks/{c}/leave") place.Leave
+    (with_route (codes "/clerks/{c}/") place.Page
+    (with_route (codes "/clerks/{c}/batches/{b}/candidates") place.Candidates
     (with_route (codes "/clerks/{c}/work") place.Work
-    (with_route (codes "/clerks/{c}/batches/{b}/keying") place.Keying [])))
+    (with_route (codes "/clerks/{c}/batches/{b}/keying") place.Keying []))))))
 
 -- what the parameters of a route took of a target, each with its name
 abbrev pub Taken : Type 0
@@ -61,6 +64,10 @@ parameter name taken = option_and_then number_in (named name taken)
 abbrev pub named_at : Place → Taken → Option Target
 named_at place.Keying taken =
     option_and_then (λ clerk. option_map (λ batch. Keying clerk batch) (parameter (codes "b") taken)) (parameter (codes "c") taken)
+named_at place.Candidates taken =
+    option_and_then (λ clerk. option_map (λ batch. Reading (Candidates clerk batch)) (parameter (codes "b") taken)) (parameter (codes "c") taken)
+named_at place.Page taken = option_map (λ clerk. Page clerk) (parameter (codes "c") taken)
+named_at place.Leave taken = option_map (λ clerk. Leave clerk) (parameter (codes "c") taken)
 named_at place.Work taken = option_map (λ clerk. Reading (Work clerk)) (parameter (codes "c") taken)
 named_at place.Sheet taken = option_map (λ ward. Reading (Sheet ward)) (parameter (codes "w") taken)
 named_at place.Declaration taken = option_map (λ ward. Reading (Declaration ward)) (parameter (codes "w") taken)
@@ -79,6 +86,10 @@ named_by target = option_and_then (λ (route : RouteOf Place). named_at route.va
 abbrev pub IsTargetOf : Target → List ℕ → Type 0
 IsTargetOf (Keying clerk batch) target =
     (c b : List ℕ) × (target ≡ codes "/clerks/" ++ (c ++ (codes "/batches/" ++ (b ++ codes "/keying")))) × (number_in c ≡ Some clerk) × (number_in b ≡ Some batch)
+IsTargetOf (Reading (Candidates clerk batch)) target =
+    (c b : List ℕ) × (target ≡ codes "/clerks/" ++ (c ++ (codes "/batches/" ++ (b ++ codes "/candidates")))) × (number_in c ≡ Some clerk) × (number_in b ≡ Some batch)
+IsTargetOf (Page clerk) target = (c : List ℕ) × (target ≡ codes "/clerks/" ++ (c ++ codes "/")) × (number_in c ≡ Some clerk)
+IsTargetOf (Leave clerk) target = (c : List ℕ) × (target ≡ codes "/clerks/" ++ (c ++ codes "/leave")) × (number_in c ≡ Some clerk)
 IsTargetOf (Reading (Work clerk)) target = (c : List ℕ) × (target ≡ codes "/clerks/" ++ (c ++ codes "/work")) × (number_in c ≡ Some clerk)
 IsTargetOf (Reading (Sheet ward)) target = (w : List ℕ) × (target ≡ codes "/wards/" ++ (w ++ codes "/sheet")) × (number_in w ≡ Some ward)
 IsTargetOf (Reading (Declaration ward)) target = (w : List ℕ) × (target ≡ codes "/wards/" ++ (w ++ codes "/result")) × (number_in w ≡ Some ward)

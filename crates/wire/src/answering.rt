@@ -1,7 +1,7 @@
 //! What is asked of the office, and its answers.
 
 ghost use Rattle.std.specs.Prelude.{◌≡◌, false, map, true, string_bytes};
-ghost use Rattle.register.specs.Standings.{work_entry};
+ghost use Rattle.register.specs.Standings.{paper_entry, work_entry};
 ghost use Rattle.sqlite.specs.State.{HasCleanDisk};
 ghost use Rattle.sqlite.specs.Held.{state};
 ghost use Rattle.register.specs.Offices.{OfficeState};
@@ -10,17 +10,18 @@ ghost use Rattle.tables.specs.Faults.{fault_number};
 ghost use Rattle.office.specs.Answers.{told};
 ghost use Rattle.wire.specs.Asking.{asked_entry, reading};
 ghost use Rattle.wire.specs.Responses.{fault_response, reply_response, text_response};
-ghost use Rattle.wire.specs.Serving.{IsReadTold, Readies, closed_response, refused_for, told_response, work_response};
+ghost use Rattle.wire.specs.Serving.{IsReadTold, Readies, closed_response, paper_response, refused_for, told_response, work_response};
 ghost use Rattle.wire.specs.Told.{IsTold};
 
 use crate::asked::{Asked, Keying};
 use crate::bodies::{fault_body, refusal_body, reply_body};
+use crate::candidates::paper_body;
 use crate::response::{Content, Response};
 use crate::target::Reading;
 use crate::work::work_body;
 use http::StatusCode;
 use office::{Answer, Office, Stop};
-use register::{Command, KeyingCommand, Refusal, Work};
+use register::{BallotPaper, Command, KeyingCommand, Refusal, Work};
 use sqlite::Alter;
 use std::alloc::{AllocError, Global};
 use store::Fault;
@@ -115,6 +116,20 @@ fn answer_work(alloc: Global, clerk: u32, told: Result<Vec<Work>, Stop>) -> Resp
     }
 }
 
+/// The answer that tells the candidates of a batch, or why there is none.
+fn answer_paper(alloc: Global, batch: u32, told: Result<BallotPaper, Stop>) -> Response
+    ensures { IsReadTold (paper_response batch) paper_entry told result }
+{
+    match told {
+        Ok(paper) => {
+            let body = paper_body(alloc, batch, &paper);
+            Response::made(alloc, StatusCode::OK, Content::Json, body)
+        }
+        Err(Stop::Refused(why)) => refused(alloc, &why),
+        Err(Stop::Fault(fault)) => faulted(alloc, fault),
+    }
+}
+
 /// Reads from the office, and answers that.
 fn answer_reading<S: Alter>(alloc: Global, office: &mut Office<S>, what: Reading) -> Response
     ensures answers { HasCleanDisk (state S.Store office.new.held) → office.old.closed ≡ false → (s : OfficeState) → IsAt s (state S.Store office.old.held)
@@ -125,21 +140,25 @@ fn answer_reading<S: Alter>(alloc: Global, office: &mut Office<S>, what: Reading
 {
     match what {
         Reading::Work { clerk } => answer_work(alloc, clerk, office.work(clerk)),
+        Reading::Candidates { clerk, batch } => {
+            answer_paper(alloc, batch, office.paper(clerk, batch))
+        }
         Reading::Sheet { ward } => answer_text(alloc, office.sheet(ward)),
         Reading::Declaration { ward } => answer_text(alloc, office.result(ward)),
     }
 }
 
 /// Asks the office what a request asks, and answers that.
-pub(crate) fn answer<S: Alter>(alloc: Global, office: &mut Office<S>, asked: Asked) -> Response
+pub(crate) fn answer<S: Alter>(alloc: Global, office: &mut Office<S>, asked: Asked<'_>) -> Response
     ensures answers { HasCleanDisk (state S.Store office.new.held) → office.old.closed ≡ false → (s : OfficeState) → IsAt s (state S.Store office.old.held)
-        → Readies s (asked_entry asked) result office.new.closed (state S.Store office.new.held) }
+        → Readies s (asked_entry asked.entry) result office.new.closed (state S.Store office.new.held) }
     ensures closed { office.old.closed ≡ true → office.new ≡ office.old }
-    ensures closed_told { office.old.closed ≡ true → IsTold (closed_response (asked_entry asked)) result }
+    ensures closed_told { office.old.closed ≡ true → IsTold (closed_response (asked_entry asked.entry)) result }
     ensures clean { HasCleanDisk (state S.Store office.new.held) → HasCleanDisk (state S.Store office.old.held) }
 {
     match asked {
-        Asked::Denied(why) => Response::denied(why),
+        Asked::Denied(why) => Response::denied(alloc, why),
+        Asked::Shown(_, show) => Response::shown(alloc, show),
         Asked::Keying(keying) => answer_keying(alloc, office, keying),
         Asked::Reading(what) => answer_reading(alloc, office, what),
     }

@@ -1,18 +1,21 @@
 //! What a request asks.
 
-ghost use Rattle.std.specs.Prelude.{◌≡◌, ◌≢◌, ◌-◌, ◌^◌, ◌<◌, ◌++◌, IfErr, IfOk, IfSome, List, Ok, OnOk, Option, map, take, ℕ};
-ghost use Rattle.wire.specs.Asking.{Asks, AsksOneThing, DeniesForeign, FailsAfter, IsUnread, IsWanting, LacksAt, LacksBody, TakesOwn, asked_at, asked_entry, asked_with, verb_of, verb_text, wanted};
+ghost use Rattle.std.specs.Prelude.{◌≡◌, ◌≢◌, ◌-◌, ◌^◌, ◌<◌, ◌++◌, IfErr, IfOk, IfSome, List, Ok, OnOk, Option, length, map, option_map, take, ℕ};
+ghost use Rattle.wire.specs.Asking.{Asks, AsksByHolder, AsksOneThing, ShowEntry, DeniesForeign, FailsAfter, IsUnread, IsWanting, LacksAt, LacksBody, TakesOwn, asked_at, asked_entry, asked_for, asked_with, page_at, verb_of, verb_text, wanted};
+ghost use Rattle.wire.specs.Gates.{GateEntry, GivenEntry, gate_entry, given_entry, needs_gate, reading_needs_gate, served_at};
 ghost use Rattle.wire.specs.Targets.{NamesItsOwn, named_by};
-ghost use Rattle.wire.specs.Origins.{given_by, is_foreign};
-ghost use Rattle.wire.specs.Serving.{IsDeniedAlike};
+ghost use Rattle.wire.specs.Serving.{IsDeniedAlike, IsShownAlike};
 ghost use Rattle.wire.specs.declared.denial.Denial.{Denial};
-ghost use Rattle.httparse.specs.Spans.{IsRequestWithin, header_bytes, span_bytes};
+ghost use Rattle.httparse.specs.Spans.{IsHeaderWithin, IsRequestWithin, header_bytes, span_bytes};
+ghost use Rattle.std.specs.List.{All};
 
 use crate::body::{KeyingBody, keying_of, read_body};
 use crate::denial::{Denial, Verb};
+use crate::given::{Gate, Given, Show};
 use crate::head::{MAX_HEAD_BYTES, MAX_HEADERS, read_head};
+use crate::knock::{clerk_under, kept_out};
 use crate::length::body_length;
-use crate::origin::{Origin, is_foreign};
+use crate::origin::is_foreign;
 use crate::target::{Reading, Target, named_by};
 use crate::unread::Unread;
 use httparse::spans::{EMPTY_HEADER_SPAN, HeaderSpan, RequestSpans};
@@ -33,9 +36,11 @@ pub struct Keying {
 
 /// What a request asks.
 #[derive(Drop)]
-pub enum Asked {
+pub enum Asked<'a> {
     /// Nothing that the office could be asked.
     Denied(Denial),
+    /// To be shown something that is a clerk's, whatever the office's state is.
+    Shown(u32, Show<'a>),
     /// To keep a clerk's keying.
     Keying(Keying),
     /// To read something.
@@ -54,6 +59,20 @@ impl Verb {
     }
 }
 
+impl Reading {
+    /// Whether it is served only where codes are asked for.
+    fn needs_gate(&self) -> bool
+        ensures { result ≡ reading_needs_gate self.now }
+    {
+        match self {
+            Reading::Work { .. } => false,
+            Reading::Candidates { .. } => true,
+            Reading::Sheet { .. } => false,
+            Reading::Declaration { .. } => false,
+        }
+    }
+}
+
 impl Target {
     /// The one verb of what the target names.
     pub(crate) fn verb(&self) -> Verb
@@ -61,20 +80,32 @@ impl Target {
     {
         match self {
             Target::Keying { .. } => Verb::Post,
-            Target::Reading(_) => Verb::Get,
+            Target::Page { .. } | Target::Leave { .. } | Target::Reading(_) => Verb::Get,
+        }
+    }
+
+    /// Whether it is served only where codes are asked for.
+    fn needs_gate(&self) -> bool
+        ensures { result ≡ needs_gate self.now }
+    {
+        match self {
+            Target::Keying { .. } => false,
+            Target::Page { .. } => true,
+            Target::Leave { .. } => true,
+            Target::Reading(what) => what.needs_gate(),
         }
     }
 }
 
 /// Reads a clerk's keying of a batch, of which the head was read, and some bytes behind it.
-fn read_keying<R: Source>(
+fn read_keying<'a, R: Source>(
     alloc: Global,
     reader: &mut R,
     size: Result<usize, Denial>,
     behind: &[u8],
     clerk: u32,
     batch: u32,
-) -> Result<Asked, Unread>
+) -> Result<Asked<'a>, Unread>
     requires { R.failed reader.old < 2 ^ 64 - 1 }
     ensures asks { IfSome (R.held reader.old) (λ left. IfOk result (λ asked. asked_entry asked ≡ asked_with clerk batch size (behind.now ++ left))) }
     ensures ok { OnOk result (R.failed reader.new ≡ R.failed reader.old) }
@@ -100,53 +131,95 @@ fn read_keying<R: Source>(
     }
 }
 
-/// What is asked for: what a target names, if it is asked for by its own verb, and not by a page from elsewhere; or
-/// why it is denied. The only error is want of memory.
-pub(crate) fn wanted(
+/// What a target names that is served at a gate, or where there is none. The only error is want of memory.
+fn served_at(
     alloc: Global,
-    is_foreign: bool,
-    method: &[u8],
+    gate: Option<Gate<'_>>,
     target: &[u8],
-) -> Result<Result<Target, Denial>, AllocError>
-    ensures { IfOk result (λ found. found ≡ wanted is_foreign method.now (named_by target.now)) }
+) -> Result<Option<Target>, AllocError>
+    ensures { IfOk result (λ found. found ≡ served_at (option_map gate_entry gate.entry) (named_by target.now)) }
 {
-    if is_foreign {
-        return Ok(Err(Denial::Forbidden));
-    }
     let Some(there) = named_by(alloc, target)? else {
-        return Ok(Err(Denial::NotFound));
+        return Ok(None);
+    };
+    if gate.is_none() && there.needs_gate() {
+        return Ok(None);
+    }
+    Ok(Some(there))
+}
+
+/// What is asked for there, if by its own verb.
+fn asked_for(method: &[u8], there: Option<Target>) -> Result<Target, Denial>
+    ensures { result ≡ asked_for method.now there }
+{
+    let Some(there) = there else {
+        return Err(Denial::NotFound);
     };
     let allowed = there.verb();
     if method == allowed.text().as_bytes() {
-        Ok(Ok(there))
+        Ok(there)
     } else {
-        Ok(Err(Denial::MethodNotAllowed { allowed }))
+        Err(Denial::MethodNotAllowed { allowed })
+    }
+}
+
+/// What is asked for: what a target names, if it is asked for by its own verb, and neither by a page from elsewhere nor by
+/// who isn't let in at the gate; or why it is denied. The only error is want of memory.
+pub(crate) fn wanted(
+    alloc: Global,
+    given: Given<'_>,
+    read: &[u8],
+    headers: &[HeaderSpan],
+    method: &[u8],
+    target: &[u8],
+) -> Result<Result<Target, Denial>, AllocError>
+    requires { All (IsHeaderWithin (length read.now)) headers.now }
+    ensures { IfOk result (λ found. found ≡ wanted (given_entry given.entry) (map (header_bytes read.now) headers.now) method.now target.now) }
+{
+    if is_foreign(given.origin, read, headers) {
+        return Ok(Err(Denial::Forbidden));
+    }
+    if let Some(why) = kept_out(given.gate, clerk_under(target), read, headers) {
+        return Ok(Err(why));
+    }
+    let there = served_at(alloc, given.gate, target)?;
+    Ok(asked_for(method, there))
+}
+
+/// The page of a gate, for a clerk.
+fn page_at<'a>(gate: Option<Gate<'a>>, clerk: u32) -> Asked<'a>
+    ensures { asked_entry result ≡ page_at (option_map gate_entry gate.entry) clerk }
+{
+    match gate {
+        Some(gate) => Asked::Shown(clerk, Show::Page(gate.page)),
+        None => Asked::Denied(Denial::NotFound),
     }
 }
 
 /// Reads what a request asks whose head was read, and some bytes behind it.
-fn read_behind<R: Source>(
+fn read_behind<'a, R: Source>(
     alloc: Global,
-    origin: Option<Origin<'_>>,
+    given: Given<'a>,
     reader: &mut R,
     read: &[u8],
     headers: &[HeaderSpan],
     spans: RequestSpans,
-) -> Result<Asked, Unread>
+) -> Result<Asked<'a>, Unread>
     requires within { IsRequestWithin read.now headers.now spans }
     requires failures { R.failed reader.old < 2 ^ 64 - 1 }
-    ensures asks { IfSome (R.held reader.old) (λ left. IfOk result (λ asked. asked_entry asked ≡ asked_at (given_by origin.entry) read.now headers.now spans left)) }
+    ensures asks { IfSome (R.held reader.old) (λ left. IfOk result (λ asked. asked_entry asked ≡ asked_at (given_entry given.entry) read.now headers.now spans left)) }
     ensures ok { OnOk result (R.failed reader.new ≡ R.failed reader.old) }
     ensures err { IfErr result (IsUnread (R.failed reader.old) (R.failed reader.new)) }
-    ensures wanting { IfErr result (FailsAfter (R.held reader.old) (R.held reader.new) (LacksAt (given_by origin.entry) read.now headers.now spans)) }
-    ensures untouched { ((clerk batch : ℕ) → wanted (is_foreign (given_by origin.entry) (map (header_bytes read.now) (take spans.headers headers.now)))
-        (span_bytes read.now spans.method) (named_by (span_bytes read.now spans.path)) ≢ Ok (Target.Keying clerk batch)) → reader.new ≡ reader.old }
+    ensures wanting { IfErr result (FailsAfter (R.held reader.old) (R.held reader.new) (LacksAt (given_entry given.entry) read.now headers.now spans)) }
+    ensures untouched { ((clerk batch : ℕ) → wanted (given_entry given.entry) (map (header_bytes read.now) (take spans.headers headers.now))
+        (span_bytes read.now spans.method) (span_bytes read.now spans.path) ≢ Ok (Target.Keying clerk batch)) → reader.new ≡ reader.old }
 {
     let headers = &headers[..spans.headers];
-    let is_foreign = is_foreign(origin, read, headers);
     match wanted(
         alloc,
-        is_foreign,
+        given,
+        read,
+        headers,
         spans.method.of(read),
         spans.path.of(read),
     )? {
@@ -154,22 +227,24 @@ fn read_behind<R: Source>(
             let size = body_length(read, headers);
             read_keying(alloc, reader, size, &read[spans.len..], clerk, batch)
         }
+        Ok(Target::Page { clerk }) => Ok(page_at(given.gate, clerk)),
+        Ok(Target::Leave { clerk }) => Ok(Asked::Shown(clerk, Show::Left)),
         Ok(Target::Reading(what)) => Ok(Asked::Reading(what)),
         Err(why) => Ok(Asked::Denied(why)),
     }
 }
 
 /// Reads what a request asks.
-fn read_request<R: Source>(
+fn read_request<'a, R: Source>(
     alloc: Global,
-    origin: Option<Origin<'_>>,
+    given: Given<'a>,
     reader: &mut R,
-) -> Result<Asked, Unread>
+) -> Result<Asked<'a>, Unread>
     requires { R.failed reader.old < 2 ^ 64 - 1 }
-    ensures asks { IfSome (R.held reader.old) (λ bytes. IfOk result (λ asked. Asks (given_by origin.entry) bytes (asked_entry asked))) }
+    ensures asks { IfSome (R.held reader.old) (λ bytes. IfOk result (λ asked. Asks (given_entry given.entry) bytes (asked_entry asked))) }
     ensures ok { OnOk result (R.failed reader.new ≡ R.failed reader.old) }
     ensures err { IfErr result (IsUnread (R.failed reader.old) (R.failed reader.new)) }
-    ensures wanting { IfErr result (FailsAfter (R.held reader.old) (R.held reader.new) (IsWanting (given_by origin.entry))) }
+    ensures wanting { IfErr result (FailsAfter (R.held reader.old) (R.held reader.new) (IsWanting (given_entry given.entry))) }
 {
     let mut buffer = [0; MAX_HEAD_BYTES];
     let mut headers = [EMPTY_HEADER_SPAN; MAX_HEADERS];
@@ -178,7 +253,7 @@ fn read_request<R: Source>(
     };
     read_behind(
         alloc,
-        origin,
+        given,
         reader,
         &buffer[..front.filled],
         &headers,
@@ -186,33 +261,38 @@ fn read_request<R: Source>(
     )
 }
 
-/// Reads what a request asks of an office to which pages of an origin may come through a proxy, if one was given.
+/// Reads what a request asks of an office that was given this: the origin of pages that come through a proxy, if any; and
+/// the gate, where clerks' codes are asked for.
 ///
 /// A request with a header which shows that a page from elsewhere sent it, or that it came by a foreign name, is
-/// `Forbidden`, whatever else it asks; every other one asks what it asks without such a check. What is denied is answered
-/// the same at every state of the office.
+/// `Forbidden`, whatever else it asks. At a gate a request whose target begins with a clerk's number, as `/clerks/4/`, is let
+/// in with that clerk's code alone: else it is `Unauthorized`, or of the `WrongCode`, whatever else it asks. So what is asked
+/// under a clerk's number is asked by the holder of his code. Every other request asks what it asks without such a check. What
+/// is denied is answered the same at every state of the office, and so is what is `Shown`.
 ///
 /// `Broken` comes only from the source, which then counts one failure more, and only while what was read doesn't
 /// say yet what is asked: once it does, nothing more is read, for the client may wait for its answer. Of the
 /// bytes behind the request some may have been read.
 ///
-/// What is asked for hangs on the target alone, which names just what it is the path of: one of the four of this crate,
+/// What is asked for hangs on the target alone, which names just what it is the path of: one of the seven of this crate,
 /// with numbers of 1 to 5 digits in it, the first not 0. Any other target names nothing.
-pub fn read_asked<R: Source>(
+pub fn read_asked<'a, R: Source>(
     alloc: Global,
-    origin: Option<Origin<'_>>,
+    given: Given<'a>,
     reader: &mut R,
-) -> Result<Asked, Unread>
+) -> Result<Asked<'a>, Unread>
     requires { R.failed reader.old < 2 ^ 64 - 1 }
-    ensures asks { IfSome (R.held reader.old) (λ bytes. IfOk result (λ asked. Asks (given_by origin.entry) bytes (asked_entry asked))) }
+    ensures asks { IfSome (R.held reader.old) (λ bytes. IfOk result (λ asked. Asks (given_entry given.entry) bytes (asked_entry asked))) }
     ensures ok { OnOk result (R.failed reader.new ≡ R.failed reader.old) }
     ensures err { IfErr result (IsUnread (R.failed reader.old) (R.failed reader.new)) }
-    ensures wanting { IfErr result (FailsAfter (R.held reader.old) (R.held reader.new) (IsWanting (given_by origin.entry))) }
-    ensures one { (bytes : List ℕ) → AsksOneThing (given_by origin.entry) bytes }
-    ensures foreign { (given : Option (List ℕ)) (bytes : List ℕ) → DeniesForeign given bytes }
-    ensures others { (given : Option (List ℕ)) (bytes : List ℕ) → TakesOwn given bytes }
+    ensures wanting { IfErr result (FailsAfter (R.held reader.old) (R.held reader.new) (IsWanting (given_entry given.entry))) }
+    ensures one { (bytes : List ℕ) → AsksOneThing (given_entry given.entry) bytes }
+    ensures foreign { (its : GivenEntry) (bytes : List ℕ) → DeniesForeign its bytes }
+    ensures others { (its : GivenEntry) (bytes : List ℕ) → TakesOwn its bytes }
+    ensures held { (its : GivenEntry) (bytes : List ℕ) → AsksByHolder its bytes }
     ensures alike { (why : Denial) → IsDeniedAlike why }
+    ensures shown { (show : ShowEntry) → IsShownAlike show }
     ensures targets { (target : List ℕ) → NamesItsOwn target }
 {
-    read_request(alloc, origin, reader)
+    read_request(alloc, given, reader)
 }

@@ -20,4 +20,8 @@ pub enum Denial {
     MethodNotAllowed { allowed: Verb },
     /// Its body is longer than the limit.
     TooLarge,
+    /// It asks under a clerk's number, without a code.
+    Unauthorized { clerk: u32 },
+    /// It asks under a clerk's number, and the code that came with it isn't his, or several did.
+    WrongCode { clerk: u32 },
 }

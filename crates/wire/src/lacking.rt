@@ -4,13 +4,13 @@ ghost use Rattle.std.specs.Prelude.{◌≡◌, ◌<◌, ◌≤◌, IfNone, IfOk,
 ghost use Rattle.httparse.specs.Spans.{IsRequestWithin};
 ghost use Rattle.wire.specs.Asking.{LacksFound};
 ghost use Rattle.wire.specs.Lacking.{IsLackOf};
-ghost use Rattle.wire.specs.Origins.{given_by};
+ghost use Rattle.wire.specs.Gates.{given_entry};
 
 use crate::asked::wanted;
+use crate::given::Given;
 use crate::head::{MAX_HEAD_BYTES, MAX_HEADERS};
 use crate::lack::Lacks;
 use crate::length::{MAX_BODY_BYTES, body_length};
-use crate::origin::{Origin, is_foreign};
 use crate::target::Target;
 use httparse::Status;
 use httparse::spans::{EMPTY_HEADER_SPAN, HeaderSpan, RequestSpans, parse_request};
@@ -20,22 +20,23 @@ use std::alloc::{AllocError, Global};
 /// keying asks for one.
 fn body_lacking(
     alloc: Global,
-    origin: Option<Origin<'_>>,
+    given: Given<'_>,
     read: &[u8],
     headers: &[HeaderSpan],
     spans: RequestSpans,
     behind: usize,
 ) -> Result<Option<usize>, AllocError>
     requires { IsRequestWithin read.now headers.now spans }
-    ensures some { IfOk result (λ found. IfSome found (λ size. (rest : List ℕ) → length rest < size → LacksFound (given_by origin.entry) read.now headers.now spans rest)) }
+    ensures some { IfOk result (λ found. IfSome found (λ size. (rest : List ℕ) → length rest < size → LacksFound (given_entry given.entry) read.now headers.now spans rest)) }
     ensures more { IfOk result (λ found. IfSome found (λ size. (behind < size) × (size ≤ MAX_BODY_BYTES))) }
-    ensures none { IfOk result (λ found. IfNone found ((rest : List ℕ) → length rest ≡ behind → ¬ (LacksFound (given_by origin.entry) read.now headers.now spans rest))) }
+    ensures none { IfOk result (λ found. IfNone found ((rest : List ℕ) → length rest ≡ behind → ¬ (LacksFound (given_entry given.entry) read.now headers.now spans rest))) }
 {
     let headers = &headers[..spans.headers];
-    let is_foreign = is_foreign(origin, read, headers);
     let asked_for = wanted(
         alloc,
-        is_foreign,
+        given,
+        read,
+        headers,
         spans.method.of(read),
         spans.path.of(read),
     )?;
@@ -48,20 +49,19 @@ fn body_lacking(
     }
 }
 
-/// What a request lacks of which these bytes came, of an office to which pages of an origin may come through a proxy, if
-/// one was given. The only error is want of memory.
+/// What a request lacks of which these bytes came, of an office that was given this. The only error is want of memory.
 ///
 /// What bytes ask that lack nothing, they ask whatever follows them. So a client who was heard so far is answered: he may
 /// wait for it, and send no more.
-pub fn lacks(alloc: Global, origin: Option<Origin<'_>>, got: &[u8]) -> Result<Lacks, AllocError>
-    ensures { IfOk result (IsLackOf (given_by origin.entry) got.now) }
+pub fn lacks(alloc: Global, given: Given<'_>, got: &[u8]) -> Result<Lacks, AllocError>
+    ensures { IfOk result (IsLackOf (given_entry given.entry) got.now) }
 {
     let mut headers = [EMPTY_HEADER_SPAN; MAX_HEADERS];
     let front = &got[..got.len().min(MAX_HEAD_BYTES)];
     match parse_request(front, &mut headers) {
         Ok(Status::Complete(spans)) => {
             let behind = got.len() - spans.len;
-            match body_lacking(alloc, origin, front, &headers, spans, behind)? {
+            match body_lacking(alloc, given, front, &headers, spans, behind)? {
                 Some(size) => Ok(Lacks::Bytes(spans.len + size)),
                 None => Ok(Lacks::Nothing),
             }

@@ -36,7 +36,7 @@ pub(crate) fn is_named(name: &[u8], other: &[u8]) -> bool
 }
 
 /// The value of the header of a name, if there is one; `BadRequest` where there are several.
-fn value_of<'b>(
+pub(crate) fn value_of<'b>(
     buffer: &'b [u8],
     headers: &[HeaderSpan],
     name: &[u8],

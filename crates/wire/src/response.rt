@@ -1,10 +1,13 @@
 //! The bytes of an answer.
 
-ghost use Rattle.std.specs.Prelude.{◌≡◌, [], IfOk, None, OnErr, string_bytes};
+ghost use Rattle.std.specs.Prelude.{◌≡◌, IfOk, None, OnErr, length, string_bytes};
 ghost use Rattle.wire.specs.Told.{IsTold, IsWritten, told_bytes};
-ghost use Rattle.wire.specs.Responses.{denied_response, fault_response, lines_and_body, media_type, phrase, response_bytes};
+ghost use Rattle.wire.specs.Asking.{has_left, show_entry};
+ghost use Rattle.wire.specs.Gates.{page_entry};
+ghost use Rattle.wire.specs.Responses.{clerk_kept_out, code_line, denied_response, fault_response, guard_lines, lines_and_body, media_type, nothing, phrase, response_bytes, shown_response, unauthorized_response, waits_response};
 
 use crate::denial::{Denial, Verb};
+use crate::given::{Page, Show};
 use http::StatusCode;
 use std::alloc::{AllocError, Global};
 
@@ -13,6 +16,7 @@ use std::alloc::{AllocError, Global};
 pub(crate) enum Content {
     Text,
     Json,
+    Html,
 }
 
 /// The bytes of an answer: those that stand fixed take no memory.
@@ -60,6 +64,17 @@ const ONLY_POST: &str =
 const TOO_LARGE: &str =
     "HTTP/1.1 413 Payload Too Large\r\nContent-Type: application/json\r\nContent-Length: 21\r\nConnection: close\r\n\r\n{\"error\":\"too large\"}";
 
+/// The answer to who must wait.
+const WAITS: &str =
+    "HTTP/1.1 429 Too Many Requests\r\nContent-Type: application/json\r\nContent-Length: 32\r\nRetry-After: 60\r\nConnection: close\r\n\r\n{\"error\":\"too many wrong codes\"}";
+
+/// The answer to who leaves.
+const LEFT: &str =
+    "HTTP/1.1 200 OK\r\nContent-Type: application/json\r\nContent-Length: 13\r\nClear-Site-Data: \"cookies\"\r\nCache-Control: no-store\r\nConnection: close\r\n\r\n{\"left\":true}";
+
+/// What is told to who comes without a code, or with a wrong one.
+const NO_CODE: &str = "{\"error\":\"unauthorized\"}";
+
 /// The answer where memory is wanting, and none is left to write another.
 const NO_MEMORY: &str =
     "HTTP/1.1 503 Service Unavailable\r\nContent-Type: application/json\r\nContent-Length: 13\r\nConnection: close\r\n\r\n{\"fault\":101}";
@@ -74,8 +89,20 @@ fn only_text(allowed: Verb) -> &'static str
     }
 }
 
-/// The answer to a request that is denied.
+/// The clerk whose code is asked for by a denial, if one's is.
+fn clerk_kept_out(why: Denial) -> Option<u32>
+    ensures { result ≡ clerk_kept_out why }
+{
+    match why {
+        Denial::Unauthorized { clerk } => Some(clerk),
+        Denial::WrongCode { clerk } => Some(clerk),
+        _ => None,
+    }
+}
+
+/// The answer to a request that is denied, which stands fixed where no clerk's code is asked for.
 pub(crate) fn denied_text(why: Denial) -> &'static str
+    requires { clerk_kept_out why ≡ None }
     ensures { result.now ≡ response_bytes (denied_response why) }
 {
     match why {
@@ -84,6 +111,8 @@ pub(crate) fn denied_text(why: Denial) -> &'static str
         Denial::NotFound => NOT_FOUND,
         Denial::MethodNotAllowed { allowed } => only_text(allowed),
         Denial::TooLarge => TOO_LARGE,
+        Denial::Unauthorized { .. } => "",
+        Denial::WrongCode { .. } => "",
     }
 }
 
@@ -93,6 +122,7 @@ fn denied_status(why: Denial) -> u16
 {
     match why {
         Denial::BadRequest => 400,
+        Denial::Unauthorized { .. } | Denial::WrongCode { .. } => 401,
         Denial::Forbidden => 403,
         Denial::NotFound => 404,
         Denial::MethodNotAllowed { .. } => 405,
@@ -107,6 +137,7 @@ fn media_type(content: Content) -> &'static str
     match content {
         Content::Text => "text/plain; charset=utf-8",
         Content::Json => "application/json",
+        Content::Html => "text/html; charset=utf-8",
     }
 }
 
@@ -121,19 +152,63 @@ fn phrase(status: StatusCode) -> &'static str
 }
 
 #[tactic(auto, unfolding(crate::specs::Responses::lines_and_body))]
-/// The lines of an answer, an empty line, and the body.
+/// The lines of an answer, with those of what it tells beside, an empty line, and the body.
 fn lines_and_body(
     alloc: Global,
     code: u16,
     phrase: &str,
     media_type: &str,
     size: usize,
+    beside: &str,
     body: &str,
 ) -> Result<String, AllocError>
-    ensures { IfOk result (λ text. string_bytes text ≡ lines_and_body code phrase.now media_type.now size [] body.now) }
+    ensures { IfOk result (λ text. string_bytes text ≡ lines_and_body code phrase.now media_type.now size beside.now body.now) }
 {
     format!(in alloc;
-        "HTTP/1.1 {code} {phrase}\r\nContent-Type: {media_type}\r\nContent-Length: {size}\r\nConnection: close\r\n\r\n{body}"
+        "HTTP/1.1 {code} {phrase}\r\nContent-Type: {media_type}\r\nContent-Length: {size}\r\n{beside}Connection: close\r\n\r\n{body}"
+    )
+}
+
+#[tactic(auto, unfolding(crate::specs::Responses::code_line))]
+/// The line that asks for a clerk's code.
+fn code_line(alloc: Global, clerk: u32) -> Result<String, AllocError>
+    ensures { IfOk result (λ text. string_bytes text ≡ code_line clerk) }
+{
+    format!(in alloc; "WWW-Authenticate: Basic realm=\"clerk {clerk}\", charset=\"UTF-8\"\r\n")
+}
+
+#[tactic(auto, unfolding(crate::specs::Responses::guard_lines))]
+/// The lines that keep a page as it is.
+fn guard_lines(alloc: Global, policy: &str) -> Result<String, AllocError>
+    ensures { IfOk result (λ text. string_bytes text ≡ guard_lines policy.now) }
+{
+    format!(in alloc;
+        "Content-Security-Policy: {policy}\r\nX-Frame-Options: DENY\r\n\
+X-Content-Type-Options: nosniff\r\nReferrer-Policy: same-origin\r\n\
+Cross-Origin-Opener-Policy: same-origin\r\nCross-Origin-Resource-Policy: same-origin\r\n\
+Cache-Control: no-store\r\n"
+    )
+}
+
+/// An answer with a status, lines beside, and a body. The only error is want of memory.
+fn response_with(
+    alloc: Global,
+    status: StatusCode,
+    content: Content,
+    beside: &str,
+    body: &str,
+) -> Result<String, AllocError>
+    ensures { IfOk result (λ text. string_bytes text ≡ lines_and_body status (phrase status) (media_type content) (length body.now) beside.now body.now) }
+{
+    let (phrase, media_type) = (phrase(status), media_type(content));
+    lines_and_body(
+        alloc,
+        status.as_u16(),
+        phrase,
+        media_type,
+        body.len(),
+        beside,
+        body,
     )
 }
 
@@ -144,20 +219,94 @@ pub(crate) fn response_text(
     content: Content,
     body: &str,
 ) -> Result<String, AllocError>
-    ensures { IfOk result (λ text. string_bytes text ≡ response_bytes (record { status = status; allowed = None; content = content; body = body.now })) }
+    ensures { IfOk result (λ text. string_bytes text ≡ response_bytes (record { status = status; more = nothing; content = content; body = body.now })) }
 {
-    let (phrase, media_type) = (phrase(status), media_type(content));
-    lines_and_body(alloc, status.as_u16(), phrase, media_type, body.len(), body)
+    response_with(alloc, status, content, "", body)
+}
+
+/// The answer that asks for a clerk's code.
+fn unauthorized_text(alloc: Global, clerk: u32) -> Result<String, AllocError>
+    ensures { IfOk result (λ text. string_bytes text ≡ response_bytes (unauthorized_response clerk)) }
+{
+    let beside = code_line(alloc, clerk)?;
+    response_with(
+        alloc,
+        StatusCode::UNAUTHORIZED,
+        Content::Json,
+        beside.as_str(),
+        NO_CODE,
+    )
+}
+
+/// The answer that is a page.
+fn page_response_text(alloc: Global, page: Page<'_>) -> Result<String, AllocError>
+    ensures { IfOk result (λ text. string_bytes text ≡ response_bytes (shown_response (show_entry (Show.Page page.entry)))) }
+{
+    let beside = guard_lines(alloc, page.policy)?;
+    response_with(
+        alloc,
+        StatusCode::OK,
+        Content::Html,
+        beside.as_str(),
+        page.text,
+    )
 }
 
 impl Response {
-    /// The answer to a request that is denied.
-    pub(crate) fn denied(why: Denial) -> Response
-        ensures { IsWritten (denied_response why) result }
+    /// An answer of a status by its text, or the one that tells that memory is wanting.
+    fn of_text(status: u16, text: Result<String, AllocError>) -> Response
+        ensures told { IfOk text (λ made. (result.status ≡ status) × (told_bytes result.bytes ≡ string_bytes made)) }
+        ensures memory { OnErr text (IsWritten (fault_response 101) result) }
+    {
+        match text {
+            Ok(text) => Response {
+                status,
+                bytes: Bytes::Made(text),
+            },
+            Err(_) => Response::no_memory(),
+        }
+    }
+
+    /// The answer to a request that is denied; or the one that tells that memory is wanting, where a clerk's code is asked for.
+    pub(crate) fn denied(alloc: Global, why: Denial) -> Response
+        ensures { IsTold (denied_response why) result }
+    {
+        match clerk_kept_out(why) {
+            Some(clerk) => Response::of_text(401, unauthorized_text(alloc, clerk)),
+            None => Response {
+                status: denied_status(why),
+                bytes: Bytes::Fixed(denied_text(why)),
+            },
+        }
+    }
+
+    /// The answer to who leaves.
+    fn left() -> Response
+        ensures { IsWritten (shown_response has_left) result }
     {
         Response {
-            status: denied_status(why),
-            bytes: Bytes::Fixed(denied_text(why)),
+            status: 200,
+            bytes: Bytes::Fixed(LEFT),
+        }
+    }
+
+    /// What is shown to a clerk whatever the state is; or the answer that tells that memory is wanting.
+    pub(crate) fn shown(alloc: Global, show: Show<'_>) -> Response
+        ensures { IsTold (shown_response (show_entry show.entry)) result }
+    {
+        match show {
+            Show::Page(page) => Response::of_text(200, page_response_text(alloc, page)),
+            Show::Left => Response::left(),
+        }
+    }
+
+    /// The answer to who must wait.
+    pub(crate) fn waits() -> Response
+        ensures { IsWritten waits_response result }
+    {
+        Response {
+            status: 429,
+            bytes: Bytes::Fixed(WAITS),
         }
     }
 
@@ -178,7 +327,7 @@ impl Response {
         content: Content,
         body: Result<String, AllocError>,
     ) -> Response
-        ensures told { IfOk body (λ text. IsTold (record { status = status; allowed = None; content = content; body = string_bytes text }) result) }
+        ensures told { IfOk body (λ text. IsTold (record { status = status; more = nothing; content = content; body = string_bytes text }) result) }
         ensures memory { OnErr body (IsWritten (fault_response 101) result) }
     {
         let Ok(body) = body else {

@@ -6,12 +6,14 @@ ghost use Rattle.sqlite.specs.Held.{state};
 ghost use Rattle.register.specs.Offices.{OfficeState};
 ghost use Rattle.store.specs.Offices.{IsAt};
 ghost use Rattle.wire.specs.Asking.{HasRead, IsWanting};
-ghost use Rattle.wire.specs.Origins.{given_by};
-ghost use Rattle.wire.specs.Serving.{IsPut, OnAnswered, OnReadFailed, OnWriteFailed, ReadiesClosed, ReadiesFor, Serves, ServesClosed};
+ghost use Rattle.wire.specs.Gates.{given_entry};
+ghost use Rattle.wire.specs.Responses.{waits_response};
+ghost use Rattle.wire.specs.Told.{IsWritten};
+ghost use Rattle.wire.specs.Serving.{IsPut, IsServed, OnAnswered, OnReadFailed, OnWriteFailed, ReadiesClosed, ReadiesFor, Serves, ServesClosed};
 
 use crate::answering::answer;
 use crate::asked::read_asked;
-use crate::origin::Origin;
+use crate::given::Given;
 use crate::response::Response;
 use crate::unread::Unread;
 use office::Office;
@@ -33,22 +35,22 @@ pub enum Served {
 /// The answer to what a client asks, which the office is asked.
 fn response_to<R: Source, S: Alter>(
     alloc: Global,
-    origin: Option<Origin<'_>>,
+    given: Given<'_>,
     reader: &mut R,
     office: &mut Office<S>,
 ) -> Result<Response, Broken>
     requires { R.failed reader.old < 2 ^ 64 - 1 }
     ensures answers { HasCleanDisk (state S.Store office.new.held) → office.old.closed ≡ false → (s : OfficeState) → IsAt s (state S.Store office.old.held)
-        → IfOk result (λ response. ReadiesFor (given_by origin.entry) (R.held reader.old) s response office.new.closed (state S.Store office.new.held)) }
+        → IfOk result (λ response. ReadiesFor (given_entry given.entry) (R.held reader.old) s response office.new.closed (state S.Store office.new.held)) }
     ensures read { OnOk result (R.failed reader.new ≡ R.failed reader.old) }
     ensures failed { OnErr result (R.failed reader.new ≡ R.failed reader.old + 1) }
-    ensures wanting { OnErr result (HasRead (R.held reader.old) (R.held reader.new) (IsWanting (given_by origin.entry))) }
+    ensures wanting { OnErr result (HasRead (R.held reader.old) (R.held reader.new) (IsWanting (given_entry given.entry))) }
     ensures unasked { OnErr result (office.new ≡ office.old) }
     ensures closed { office.old.closed ≡ true → office.new ≡ office.old }
-    ensures closed_told { office.old.closed ≡ true → IfOk result (λ response. ReadiesClosed (given_by origin.entry) (R.held reader.old) response) }
+    ensures closed_told { office.old.closed ≡ true → IfOk result (λ response. ReadiesClosed (given_entry given.entry) (R.held reader.old) response) }
     ensures clean { HasCleanDisk (state S.Store office.new.held) → HasCleanDisk (state S.Store office.old.held) }
 {
-    match read_asked(alloc, origin, reader) {
+    match read_asked(alloc, given, reader) {
         Ok(asked) => Ok(answer(alloc, office, asked)),
         Err(Unread::Memory) => Ok(Response::no_memory()),
         Err(Unread::Broken) => Err(Broken),
@@ -68,6 +70,18 @@ fn put<W: Sink>(writer: &mut W, response: &Response) -> Served
     }
 }
 
+/// Tells who must wait that he must: wrong codes came under the number for which he asks.
+///
+/// `WriteFailed` comes only from the writer, which counts one failure more: a beginning of the answer was written.
+pub fn tell_to_wait<W: Sink>(writer: &mut W) -> Served
+    requires { W.failed writer.old < 2 ^ 64 - 1 }
+    ensures told { IsServed (IsWritten waits_response) (W.taken writer.old) (W.taken writer.new) result }
+    ensures answered { OnAnswered result (W.failed writer.new ≡ W.failed writer.old) }
+    ensures write_failed { OnWriteFailed result (W.failed writer.new ≡ W.failed writer.old + 1) }
+{
+    put(writer, &Response::waits())
+}
+
 /// Serves one connection: reads a request, hands it on to the office, and writes the answer.
 ///
 /// `Answered`: the answer to what the reader's bytes ask was written whole, the office is at the state
@@ -82,10 +96,10 @@ fn put<W: Sink>(writer: &mut W, response: &Response) -> Served
 /// was. `WriteFailed` comes only from the writer, which counts one failure more, where the reader counts
 /// none: a beginning of the answer was written, the write isn't tried again, and what the office answered
 /// stands. A closed office tells that it is closed, 104 (503), where it is asked anything, and stays as it
-/// is. A request that is denied, as one of a page from elsewhere, is answered the same at every state.
+/// is. A request that is denied, as one of a page from elsewhere, is answered the same at every state, and so is a page that is shown.
 pub fn serve_one<R: Source, W: Sink, S: Alter>(
     alloc: Global,
-    origin: Option<Origin<'_>>,
+    given: Given<'_>,
     reader: &mut R,
     writer: &mut W,
     office: &mut Office<S>,
@@ -93,16 +107,16 @@ pub fn serve_one<R: Source, W: Sink, S: Alter>(
     requires reads { R.failed reader.old < 2 ^ 64 - 1 }
     requires writes { W.failed writer.old < 2 ^ 64 - 1 }
     ensures served { HasCleanDisk (state S.Store office.new.held) → office.old.closed ≡ false → (s : OfficeState) → IsAt s (state S.Store office.old.held)
-        → Serves (given_by origin.entry) (R.held reader.old) (W.taken writer.old) (W.taken writer.new) s result office.new.closed (state S.Store office.new.held) }
+        → Serves (given_entry given.entry) (R.held reader.old) (W.taken writer.old) (W.taken writer.new) s result office.new.closed (state S.Store office.new.held) }
     ensures read_failed { OnReadFailed result ((R.failed reader.new ≡ R.failed reader.old + 1) × (writer.new ≡ writer.old) × (office.new ≡ office.old)) }
-    ensures wanting { OnReadFailed result (HasRead (R.held reader.old) (R.held reader.new) (IsWanting (given_by origin.entry))) }
+    ensures wanting { OnReadFailed result (HasRead (R.held reader.old) (R.held reader.new) (IsWanting (given_entry given.entry))) }
     ensures answered { OnAnswered result ((R.failed reader.new ≡ R.failed reader.old) × (W.failed writer.new ≡ W.failed writer.old)) }
     ensures write_failed { OnWriteFailed result ((R.failed reader.new ≡ R.failed reader.old) × (W.failed writer.new ≡ W.failed writer.old + 1)) }
     ensures closed { office.old.closed ≡ true → office.new ≡ office.old }
-    ensures closed_served { office.old.closed ≡ true → ServesClosed (given_by origin.entry) (R.held reader.old) (W.taken writer.old) (W.taken writer.new) result }
+    ensures closed_served { office.old.closed ≡ true → ServesClosed (given_entry given.entry) (R.held reader.old) (W.taken writer.old) (W.taken writer.new) result }
     ensures clean { HasCleanDisk (state S.Store office.new.held) → HasCleanDisk (state S.Store office.old.held) }
 {
-    match response_to(alloc, origin, reader, office) {
+    match response_to(alloc, given, reader, office) {
         Ok(response) => put(writer, &response),
         Err(Broken) => Served::ReadFailed,
     }

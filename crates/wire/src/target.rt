@@ -14,6 +14,8 @@ use std::str;
 pub enum Reading {
     /// The batches that a clerk is to key.
     Work { clerk: u32 },
+    /// The candidates on the papers of a batch that a clerk keys.
+    Candidates { clerk: u32, batch: u32 },
     /// The stage sheet of a ward.
     Sheet { ward: u32 },
     /// The declaration of a ward.
@@ -25,6 +27,10 @@ pub enum Reading {
 pub(crate) enum Target {
     /// A clerk's keying of a batch, which is sent.
     Keying { clerk: u32, batch: u32 },
+    /// The page on which a clerk keys.
+    Page { clerk: u32 },
+    /// That a clerk leaves his place.
+    Leave { clerk: u32 },
     /// What may be read.
     Reading(Reading),
 }
@@ -33,18 +39,24 @@ pub(crate) enum Target {
 #[derive(Clone, Copy)]
 enum Place {
     Keying,
+    Candidates,
+    Page,
+    Leave,
     Work,
     Sheet,
     Declaration,
 }
 
-/// The four routes.
+/// The seven routes.
 fn office_router(alloc: Global) -> Result<Router<Place>, InsertError>
     ensures { IfOk result (λ router. router ≡ office_routes) }
 {
     let mut router = Router::new(alloc);
     router.insert("/clerks/{c}/batches/{b}/keying", Place::Keying)?;
     router.insert("/clerks/{c}/work", Place::Work)?;
+    router.insert("/clerks/{c}/batches/{b}/candidates", Place::Candidates)?;
+    router.insert("/clerks/{c}/", Place::Page)?;
+    router.insert("/clerks/{c}/leave", Place::Leave)?;
     router.insert("/wards/{w}/sheet", Place::Sheet)?;
     router.insert("/wards/{w}/result", Place::Declaration)?;
     Ok(router)
@@ -68,6 +80,19 @@ fn named_at(place: Place, params: &Params<'_, '_>) -> Option<Target>
             let clerk = parameter(params, "c")?;
             let batch = parameter(params, "b")?;
             Some(Target::Keying { clerk, batch })
+        }
+        Place::Candidates => {
+            let clerk = parameter(params, "c")?;
+            let batch = parameter(params, "b")?;
+            Some(Target::Reading(Reading::Candidates { clerk, batch }))
+        }
+        Place::Page => {
+            let clerk = parameter(params, "c")?;
+            Some(Target::Page { clerk })
+        }
+        Place::Leave => {
+            let clerk = parameter(params, "c")?;
+            Some(Target::Leave { clerk })
         }
         Place::Work => {
             let clerk = parameter(params, "c")?;

@@ -2,7 +2,7 @@
 use Rattle.std.proofs.Common.{◌∙◌, Ok, ap, refl, subst, sym}
 use Rattle.sqlite.specs.Held.{state}
 use Rattle.gathering.specs.Lines.{line_of}
-use Rattle.hall.specs.Reads.{desk_at, reads_in}
+use Rattle.hall.specs.Reads.{desk_at, kept_in}
 use Rattle.gathering.specs.declared.client.Door.{Door}
 use Rattle.hall.specs.Terms.{given_in}
 use Rattle.hall.specs.Turns.{HasComeAt}
@@ -14,8 +14,8 @@ returns-in-Ok-true-clause-turn g c =
     let heard = c.in-Ok-true.ensures in
     let same = heard.same.0 in
     let given = given_in c.args.terms in
-    has_turn (line_of g.L.Line.held g.L.Line.taken) given (state g.S.Store) c.args.client c.hear.new.client c.take_turn.result.0 (desk_at c.args.office.now (reads_in c.args.kept.now))
-    (desk_at c.take_turn.new.office (reads_in c.take_turn.new.kept)) (none_from c.args.client.answer (sym c.is_some.ensures ∙ c.if-is_some.false)) heard.gathers same.0 same.1
+    has_turn (line_of g.L.Line.held g.L.Line.taken) given (state g.S.Store) c.args.now c.args.client c.hear.new.client c.take_turn.result.0 (desk_at c.args.office.now (kept_in c.args.kept.now))
+    (desk_at c.take_turn.new.office (kept_in c.take_turn.new.kept)) (none_from c.args.client.answer (sym c.is_some.ensures ∙ c.if-is_some.false)) heard.gathers same.0 same.1
     (heard.come (ap Ok c.in-Ok-true.field-0-test) given refl) c.take_turn.ensures.turn
 
 -- the message of an order came whole

@@ -1,7 +1,7 @@
 -- Why `take_turn` keeps its promise.
 use Rattle.std.proofs.Common.{List, refl, subst, ℕ}
 use Rattle.sqlite.specs.Held.{state}
-use Rattle.hall.specs.Reads.{desk_at, reads_in}
+use Rattle.hall.specs.Reads.{desk_at, kept_in}
 use Rattle.hall.specs.Terms.{given_in}
 use Rattle.hall.specs.Visits.{ServesVisit}
 use Rattle.hall.proofs.attending.take_turn.Goals as goal
@@ -13,12 +13,13 @@ pub returns-in-Waits-clause-turn : goal.returns-in-Waits-clause-turn
 returns-in-Waits-clause-turn g c =
     let client = c.args.client in
     let answer = c.answer_to-line.result.1.bytes.items in (
-      record { door = client.door; number = client.number; got = client.got.items; answer = answer },
+      record { door = client.door; number = client.number; moment = c.args.now; got = client.got.items; answer = answer },
       refl,
       refl,
       refl,
-      subst (λ (bytes : List ℕ). ServesVisit (given_in c.args.terms) (state g.S.Store) (desk_at c.args.office.now (reads_in c.args.kept.now))
-          (record { door = client.door; number = client.number; got = bytes; answer = answer }) (desk_at c.answer_to-line.new.office (reads_in c.answer_to-line.new.kept)))
+      refl,
+      subst (λ (bytes : List ℕ). ServesVisit (given_in c.args.terms) (state g.S.Store) (desk_at c.args.office.now (kept_in c.args.kept.now))
+          (record { door = client.door; number = client.number; moment = c.args.now; got = bytes; answer = answer }) (desk_at c.answer_to-line.new.office (kept_in c.answer_to-line.new.kept)))
           c.as_slice.ensures.value (c.answer_to-line.ensures.served client.number),
       c.tell_more.ensures.his,
     )
@@ -31,12 +32,13 @@ returns g c =
       is = λ start. c.tell_more.ensures.is start c.answer_to-line.ensures.told;
       same = c.tell_more.ensures.same;
       turn = (
-        record { door = client.door; number = client.number; got = client.got.items; answer = answer },
+        record { door = client.door; number = client.number; moment = c.args.now; got = client.got.items; answer = answer },
         refl,
         refl,
         refl,
-        subst (λ (bytes : List ℕ). ServesVisit (given_in c.args.terms) (state g.S.Store) (desk_at c.args.office.now (reads_in c.args.kept.now))
-            (record { door = client.door; number = client.number; got = bytes; answer = answer }) (desk_at c.answer_to-line.new.office (reads_in c.answer_to-line.new.kept)))
+        refl,
+        subst (λ (bytes : List ℕ). ServesVisit (given_in c.args.terms) (state g.S.Store) (desk_at c.args.office.now (kept_in c.args.kept.now))
+            (record { door = client.door; number = client.number; moment = c.args.now; got = bytes; answer = answer }) (desk_at c.answer_to-line.new.office (kept_in c.answer_to-line.new.kept)))
             c.as_slice.ensures.value (c.answer_to-line.ensures.served client.number),
         c.tell_more.ensures.his,
       );

@@ -1,10 +1,12 @@
 -- Why `answer_reading` keeps its promise.
 use Rattle.std.proofs.Common.{ap}
 use Rattle.std.specs.Prelude.{string_bytes}
+use Rattle.register.specs.Standings.{paper_entry}
+use Rattle.office.specs.Reads.{paper_told}
 use Rattle.office.specs.Sheets.{text_told}
 use Rattle.office.specs.declared.sheets.Text.TheVariants as text
 use Rattle.wire.specs.Responses.{text_response}
-use Rattle.wire.specs.Serving.{reading_response}
+use Rattle.wire.specs.Serving.{paper_response, reading_response}
 use Rattle.wire.proofs.AnswerLemmas.{Readies-read}
 use Rattle.wire.proofs.answering.answer_reading.Goals as goal
 
@@ -17,3 +19,8 @@ pub returns-in-Declaration-clause-answers : goal.returns-in-Declaration-clause-a
 returns-in-Declaration-clause-answers g c = λ clean open_before s at.
     Readies-read s c.args.what text_response string_bytes (text_told text.Declaration s c.in-Declaration.ward) c.result.result c.answer_text-in-Declaration.result _ _
     (ap (reading_response s) c.in-Declaration.is) (c.result.ensures.reads clean open_before s at) c.answer_text-in-Declaration.ensures
+
+pub returns-in-Candidates-clause-answers : goal.returns-in-Candidates-clause-answers
+returns-in-Candidates-clause-answers g c = λ clean open_before s at.
+    Readies-read s c.args.what (paper_response c.in-Candidates.batch) paper_entry (paper_told s c.in-Candidates.clerk c.in-Candidates.batch) c.paper.result c.answer_paper.result _ _
+    (ap (reading_response s) c.in-Candidates.is) (c.paper.ensures.reads clean open_before s at) c.answer_paper.ensures

@@ -1,12 +1,13 @@
 -- Why `read_asked` keeps its promise.
-use Rattle.wire.specs.Origins.{given_by}
+use Rattle.wire.specs.Gates.{given_entry}
 use Rattle.wire.proofs.AskingLemmas.{AsksOneThing-all, DeniesForeign-all, TakesOwn-all}
+use Rattle.wire.proofs.GateLemmas.{AsksByHolder-all}
 use Rattle.wire.proofs.PathLemmas.{NamesItsOwn-all}
-use Rattle.wire.proofs.ServingLemmas.{IsDeniedAlike-all}
+use Rattle.wire.proofs.ServingLemmas.{IsDeniedAlike-all, IsShownAlike-all}
 use Rattle.wire.proofs.asked.read_asked.Goals as goal
 
 pub returns-clause-one : goal.returns-clause-one
-returns-clause-one g c = AsksOneThing-all (given_by c.args.origin)
+returns-clause-one g c = AsksOneThing-all (given_entry c.args.given)
 
 pub returns-clause-foreign : goal.returns-clause-foreign
 returns-clause-foreign g c = DeniesForeign-all
@@ -19,3 +20,9 @@ returns-clause-alike g c = IsDeniedAlike-all
 
 pub returns-clause-targets : goal.returns-clause-targets
 returns-clause-targets g c = NamesItsOwn-all
+
+pub returns-clause-held : goal.returns-clause-held
+returns-clause-held g c = AsksByHolder-all
+
+pub returns-clause-shown : goal.returns-clause-shown
+returns-clause-shown g c = IsShownAlike-all

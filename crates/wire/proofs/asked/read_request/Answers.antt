@@ -1,15 +1,15 @@
 -- Why `read_request` keeps its promise.
 use Rattle.std.proofs.Common.{rules}
-use Rattle.wire.specs.Origins.{given_by}
+use Rattle.wire.specs.Gates.{given_entry}
 use Rattle.wire.proofs.AskingLemmas.{Asks-head, FailsAfter-behind}
 use Rattle.wire.proofs.asked.read_request.Goals as goal
 
 pub returns-clause-asks : goal.returns-clause-asks
 returns-clause-asks g c =
-    Asks-head (given_by c.args.origin) (g.R.Source.held c.args.reader.now) (g.R.Source.held c.read_head.new.reader) _ _ _ (rw c.in-Some.is at c.in_ok-front.ensures.head) c.read_behind.result
+    Asks-head (given_entry c.args.given) (g.R.Source.held c.args.reader.now) (g.R.Source.held c.read_head.new.reader) _ _ _ (rw c.in-Some.is at c.in_ok-front.ensures.head) c.read_behind.result
     (search rules) (search rules) (rw c.in-Some.is at c.in_ok-front.ensures.consumed) c.read_behind.ensures.asks
 
 pub returns-clause-wanting : goal.returns-clause-wanting
 returns-clause-wanting g c =
-    FailsAfter-behind (given_by c.args.origin) (g.R.Source.held c.args.reader.now) (g.R.Source.held c.read_head.new.reader) _ _ _ _ (rw c.in-Some.is at c.in_ok-front.ensures.head) c.read_behind.result
+    FailsAfter-behind (given_entry c.args.given) (g.R.Source.held c.args.reader.now) (g.R.Source.held c.read_head.new.reader) _ _ _ _ (rw c.in-Some.is at c.in_ok-front.ensures.head) c.read_behind.result
     (search rules) (search rules) (rw c.in-Some.is at c.in_ok-front.ensures.consumed) c.read_behind.ensures.wanting

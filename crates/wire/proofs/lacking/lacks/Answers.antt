@@ -1,29 +1,28 @@
 -- Why `lacks` keeps its promise.
-use Rattle.std.proofs.Common.{rules, ◌-◌, arith, length, refl}
-use Rattle.std.proofs.lemmas.List.{length-take}
-use Rattle.wire.specs.Origins.{given_by}
+use Rattle.std.proofs.Common.{rules, ◌-◌, length, refl}
+use Rattle.wire.specs.Gates.{given_entry}
 use Rattle.wire.proofs.LackingLemmas.{lacks_found, lacks_head, whole_found, whole_full, whole_over}
 use Rattle.wire.proofs.lacking.lacks.Goals as goal
 
 pub returns-in-Some : goal.returns-in-Some
 returns-in-Some c =
     let more = rw c.in-Some.is at c.in_ok-size-in-Ok-Complete.ensures.more in
-    lacks_found (given_by c.args.origin) c.args.got.now c.min.result _ c.in-Ok-Complete.spans c.in-Some.size (rw c.in-Ok-Complete.field-0-is at c.in-Ok-Complete.ensures.complete) (search rules)
+    lacks_found (given_entry c.args.given) c.args.got.now c.min.result _ c.in-Ok-Complete.spans c.in-Some.size (rw c.in-Ok-Complete.field-0-is at c.in-Ok-Complete.ensures.complete) (search rules)
     (search rules) (search rules) more.0 (rw c.in-Some.is at c.in_ok-size-in-Ok-Complete.ensures.some)
 
 pub returns-in-None : goal.returns-in-None
 returns-in-None c =
-    whole_found (given_by c.args.origin) c.args.got.now c.min.result _ c.in-Ok-Complete.spans (length c.args.got.now - c.in-Ok-Complete.spans.len)
+    whole_found (given_entry c.args.given) c.args.got.now c.min.result _ c.in-Ok-Complete.spans (length c.args.got.now - c.in-Ok-Complete.spans.len)
     (rw c.in-Ok-Complete.field-0-is at c.in-Ok-Complete.ensures.complete) (search rules) (search rules) (search rules) refl (rw c.in-None.is at c.in_ok-size-in-Ok-Complete.ensures.none)
 
 pub returns-in-Ok-Partial : goal.returns-in-Ok-Partial
 returns-in-Ok-Partial c =
-    lacks_head (given_by c.args.origin) c.args.got.now c.min.result (search rules) (search rules) (rw c.in-Ok-Partial.field-0-is at c.in-Ok-Partial.ensures.partial)
+    lacks_head (given_entry c.args.given) c.args.got.now c.min.result (search rules) (search rules) (rw c.in-Ok-Partial.field-0-is at c.in-Ok-Partial.ensures.partial)
     (rw c.in-Ok-Partial.field-0-is at c.in-Ok-Partial.ensures.unfinished)
 
 pub returns-in-Ok-Partial-2 : goal.returns-in-Ok-Partial-2
 returns-in-Ok-Partial-2 c =
-    whole_full (given_by c.args.origin) c.args.got.now c.min.result (search rules) (rw c.in-Ok-Partial.field-0-is at c.in-Ok-Partial.ensures.partial)
+    whole_full (given_entry c.args.given) c.args.got.now c.min.result (search rules) (rw c.in-Ok-Partial.field-0-is at c.in-Ok-Partial.ensures.partial)
 
 pub returns-in-Err : goal.returns-in-Err
-returns-in-Err c = whole_over (given_by c.args.origin) c.args.got.now c.min.result _ (search rules) c.in-Err.ensures.no_room
+returns-in-Err c = whole_over (given_entry c.args.given) c.args.got.now c.min.result _ (search rules) c.in-Err.ensures.no_room

@@ -1,0 +1,4 @@
+-- Lemmas.
+pub mod LetterLemmas
+pub mod NumberLemmas
+pub mod TryLemmas

@@ -1,0 +1,6 @@
+-- Clerks' codes.
+pub mod Codes
+pub mod Faults
+pub mod Files
+pub mod Making
+pub mod Tries

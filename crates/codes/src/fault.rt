@@ -1,0 +1,122 @@
+//! Why a text is no file of codes.
+
+ghost use Rattle.std.specs.Prelude.{◌≡◌};
+ghost use Rattle.codes.specs.Faults.{fault_line, fault_number, fault_text, flaw_number, flaw_text};
+ghost use Rattle.codes.specs.declared.fault.ReadError.TheVariants.{Memory};
+
+use std::alloc::AllocError;
+use thiserror::Error;
+
+/// What is wrong with a line.
+#[derive(Clone, Copy, Debug, PartialEq, Eq, Drop)]
+pub enum Flaw {
+    /// It doesn't begin with a clerk's number, 1 to 999, and a blank.
+    NoEntry,
+    /// What stands behind the blank is no code: 8 to 64 letters, digits and signs.
+    BadCode,
+    /// Its clerk stands in a line before.
+    ClerkTwice,
+    /// Its code stands in a line before.
+    CodeTwice,
+}
+
+/// Why codes aren't taken, or not made.
+#[derive(Clone, Copy, Debug, PartialEq, Eq, Drop, Error)]
+#[error("{}", self.text())]
+pub enum CodesFault {
+    /// This is wrong with the line of this number.
+    Line(usize, Flaw),
+    /// Others than its owner may read the file.
+    OpenToOthers,
+    /// The file can't be read, or it is too long.
+    Unread,
+    /// A file is there already, or none can be made.
+    Unmade,
+    /// The system gives no random bytes.
+    NoRandom,
+    /// The word for the clerks names none, as 1-40 does.
+    NoClerks,
+}
+
+impl Flaw {
+    /// Its number.
+    fn number(self) -> u32
+        ensures { result ≡ flaw_number self }
+    {
+        match self {
+            Flaw::NoEntry => 1,
+            Flaw::BadCode => 2,
+            Flaw::ClerkTwice => 3,
+            Flaw::CodeTwice => 4,
+        }
+    }
+
+    /// It in words.
+    fn text(self) -> &'static str
+        ensures { result.now ≡ flaw_text self }
+    {
+        match self {
+            Flaw::NoEntry => "no clerk and code",
+            Flaw::BadCode => "bad code",
+            Flaw::ClerkTwice => "clerk twice",
+            Flaw::CodeTwice => "code twice",
+        }
+    }
+}
+
+impl CodesFault {
+    /// Its number.
+    pub fn number(&self) -> u32
+        ensures { result ≡ fault_number self.now }
+    {
+        match self {
+            CodesFault::Line(_, flaw) => flaw.number(),
+            CodesFault::OpenToOthers => 5,
+            CodesFault::Unread => 6,
+            CodesFault::Unmade => 7,
+            CodesFault::NoRandom => 8,
+            CodesFault::NoClerks => 9,
+        }
+    }
+
+    /// It in words.
+    pub fn text(&self) -> &'static str
+        ensures { result.now ≡ fault_text self.now }
+    {
+        match self {
+            CodesFault::Line(_, flaw) => flaw.text(),
+            CodesFault::OpenToOthers => "file open to others",
+            CodesFault::Unread => "file not read",
+            CodesFault::Unmade => "file not made",
+            CodesFault::NoRandom => "no random bytes",
+            CodesFault::NoClerks => "no clerks, as 1-40",
+        }
+    }
+
+    /// The number of its line, if it is that of one.
+    pub fn line(&self) -> Option<usize>
+        ensures { result ≡ fault_line self.now }
+    {
+        match self {
+            CodesFault::Line(number, _) => Some(*number),
+            _ => None,
+        }
+    }
+}
+
+/// Why no codes were read or made.
+#[derive(Clone, Copy, Debug, PartialEq, Eq, Drop)]
+pub enum ReadError {
+    /// Memory was wanting.
+    Memory,
+    /// This is wrong.
+    Fault(CodesFault),
+}
+
+impl From<AllocError> for ReadError {
+    ghost from_gives = { λ _ why. why ≡ Memory };
+
+    fn from(_: AllocError) -> ReadError {
+        ReadError::Memory
+    }
+}

@@ -1,0 +1,46 @@
+//! The clerks for whom codes are made.
+
+ghost use Rattle.std.specs.Prelude.{◌≡◌, ◌≤◌, length, option_map};
+ghost use Rattle.std.specs.List.{prefix_len};
+ghost use Rattle.codes.specs.Making.{clerks_entry, clerks_in, is_no_hyphen};
+
+use crate::reading::clerk_in;
+
+/// Clerks in a row: the first and the last.
+#[derive(Clone, Copy)]
+pub struct Clerks {
+    pub first: u32,
+    pub last: u32,
+}
+
+/// How many bytes stand before the first hyphen of a text.
+fn front_length(text: &[u8]) -> usize
+    ensures bound { result ≤ length text.now }
+    ensures is { result ≡ prefix_len is_no_hyphen text.now }
+{
+    let mut length = 0;
+    for byte in text {
+        if *byte == b'-' {
+            return length;
+        }
+        length += 1;
+    }
+    length
+}
+
+impl Clerks {
+    /// The clerks that a text names, as `1-40`; None, where it names none.
+    pub fn parse(text: &str) -> Option<Clerks>
+        ensures { option_map clerks_entry result ≡ clerks_in text.now }
+    {
+        let text = text.as_bytes();
+        let length = front_length(text);
+        let first = clerk_in(&text[..length])?;
+        let last = clerk_in(&text[text.len().min(length + 1)..])?;
+        if first <= last {
+            Some(Clerks { first, last })
+        } else {
+            None
+        }
+    }
+}

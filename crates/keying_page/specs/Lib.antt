@@ -1,0 +1,2 @@
+-- The page on which a clerk keys.
+pub mod Page

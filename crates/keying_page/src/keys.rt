@@ -1,0 +1,176 @@
+//! The page's script, second part: a paper, key by key.
+
+/// What each key makes of the draft. A key that isn't taken gives the words that say why; nothing is put right.
+pub(crate) const KEYS: &str = r#"// ---- a paper, key by key
+
+// The draft that is keyed, and the candidates of its columns.
+let draft = null;
+let candidates = [];
+// Digits that are still to come, of a mark or of a candidate's number.
+let pending = null;
+// A key came behind the last candidate. So the paper has to be looked at again.
+let extra = false;
+// The last key was a mark, and the cursor went on by itself.
+let wentOn = false;
+
+const width = () => draft.columns.length;
+const row = () => draft.rows[draft.at];
+const paper = () => draft.at + 1;
+const isDoubtful = () => row().text === 'D';
+const isBehind = () => row().column === width();
+
+// Behind each of these nothing is half keyed any more.
+const settle = () => { pending = null; extra = false; wentOn = false; };
+
+const write = (column, mark) => {
+  const fields = row().text.split(',');
+  fields[column] = mark;
+  row().text = fields.join(',');
+  if (row().state === NEW) row().state = BEGUN;
+};
+
+const refuseBehind = () => {
+  extra = true;
+  return row().state === KEYED
+    ? `Paper ${paper()} is keyed. Arrows go to a mark; Delete empties the paper.`
+    : `Paper ${paper()} is at its end, and another key came. Look at the paper again. Backspace takes that key back.`;
+};
+
+// A mark for the candidate at the cursor, or none. The cursor goes on.
+const mark = (text) => {
+  if (isBehind()) return refuseBehind();
+  write(row().column, text);
+  row().column += 1;
+  wentOn = true;
+};
+
+const beginNumber = (what) => {
+  if (what === 'mark' && isBehind()) return refuseBehind();
+  if (isDoubtful()) return `Paper ${paper()} is doubtful. Delete empties it.`;
+  pending = {what, digits: ''};
+};
+
+const jump = (digits) => {
+  const number = Number(digits);
+  if (digits.length < 2 && number * 10 <= draft.columns.at(-1)) {
+    pending.digits = digits;
+    return undefined;
+  }
+  settle();
+  const column = draft.columns.indexOf(number);
+  if (column < 0) return `No candidate has the number ${number}.`;
+  row().column = column;
+};
+
+// A digit of a number of two digits.
+const digit = (key) => {
+  const digits = pending.digits + key;
+  if (pending.what === 'candidate') return jump(digits);
+  if (digits === '0') return 'No mark begins with 0.';
+  if (digits.length < 2) {
+    pending.digits = digits;
+    return undefined;
+  }
+  pending = null;
+  return mark(digits);
+};
+
+const doubt = () => {
+  settle();
+  Object.assign(row(), {text: 'D', column: width(), state: Math.max(row().state, BEGUN)});
+};
+
+const empty = () => {
+  settle();
+  draft.rows[draft.at] = newRow(draft.columns);
+};
+
+// Before the first key of a paper the last one was Enter: the paper before is open again, as it was.
+const reopen = () => {
+  if (draft.at === 0 || draft.rows[draft.at - 1].state !== KEYED) return;
+  draft.at -= 1;
+  row().state = BEGUN;
+};
+
+// Takes back the last key.
+const back = () => {
+  if (pending || extra) return settle();
+  if (isDoubtful()) return empty();
+  if (row().state === NEW && row().column === 0) return reopen();
+  row().column = Math.max(row().column - 1, 0);
+  write(row().column, '');
+  if (row().column === 0 && !/[0-9]/.test(row().text)) row().state = NEW;
+};
+
+const moveTo = (column) => {
+  settle();
+  if (!isDoubtful()) row().column = Math.min(Math.max(column, 0), width());
+};
+
+// Another paper comes under the cursor, as far as papers have been keyed.
+const goTo = (index) => {
+  settle();
+  const {rows, size} = draft;
+  if (index < 0 || index >= size) return undefined;
+  if (index > rows.length || (index === rows.length && rows.at(-1).state !== KEYED)) return `Paper ${firstOpen() + 1} comes first.`;
+  if (index === rows.length) rows.push(newRow(draft.columns));
+  draft.at = index;
+  if (row().state === KEYED) row().column = width();
+};
+
+// The first paper that isn't keyed, or none.
+const firstOpen = () => {
+  const index = draft.rows.findIndex((it) => it.state !== KEYED);
+  if (index >= 0) return index;
+  return draft.rows.length < draft.size ? draft.rows.length : -1;
+};
+
+const goOn = () => (isWhole(draft) ? askToSend() : goTo(firstOpen()));
+
+// Ends a paper. The next one comes; behind the last the first that was left out.
+const finish = () => {
+  if (pending) return 'Two digits are wanted. Backspace takes the key back.';
+  if (extra) return refuseBehind();
+  if (row().state === NEW) return `Nothing is keyed for paper ${paper()}. Has it no number at all? Then press 0, and Enter.`;
+  row().state = KEYED;
+  return paper() < draft.size ? goTo(draft.at + 1) : goOn();
+};
+
+// A paper that was left out is put in before this one.
+const putIn = () => {
+  settle();
+  const {rows, at, size} = draft;
+  if (rows.length === size && rows.at(-1).state !== NEW) return `All ${size} papers are begun. Take one out first.`;
+  if (rows.length === size) rows.pop();
+  rows.splice(at, 0, newRow(draft.columns));
+};
+
+// A paper that was keyed twice is taken out.
+const takeOut = () => {
+  settle();
+  draft.rows.splice(draft.at, 1);
+  if (!row()) draft.rows.push(newRow(draft.columns));
+};
+
+const STEPS = {
+  Enter: finish, Backspace: back, Delete: empty, Insert: putIn, Escape: settle,
+  ArrowLeft: () => moveTo(row().column - 1), ArrowRight: () => moveTo(row().column + 1), Home: () => moveTo(0),
+  ArrowUp: () => goTo(draft.at - 1), PageUp: () => goTo(draft.at - 1),
+  ArrowDown: () => goTo(draft.at + 1), PageDown: () => goTo(draft.at + 1), End: goOn,
+  ' ': () => mark(''), '0': () => mark(''), '.': () => beginNumber('mark'), ',': () => beginNumber('mark'),
+  '/': () => beginNumber('candidate'), d: doubt, D: doubt, '*': doubt,
+};
+
+const isMarkKey = (key) => /^[1-9]$/.test(key);
+const isDigitKey = (key) => /^[0-9]$/.test(key);
+
+// Why a key isn't taken, or nothing where it is.
+const press = (key) => {
+  wentOn = false;
+  if (pending && isDigitKey(key)) return digit(key);
+  if (pending && key.length === 1) return 'A digit is wanted. Backspace takes the key back.';
+  if (isMarkKey(key)) return mark(key);
+  return STEPS[key] ? STEPS[key]() : `The key ${key} means nothing here.`;
+};
+
+"#;

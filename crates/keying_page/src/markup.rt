@@ -1,0 +1,96 @@
+//! The page's markup, around its style and its script.
+
+/// What comes before the style.
+pub(crate) const HEAD: &str = r#"<!DOCTYPE html>
+<html lang="en">
+<head>
+<meta charset="utf-8">
+<meta name="viewport" content="width=device-width, initial-scale=1">
+<title>Keying</title>
+<link rel="icon" href="data:,">
+<style>"#;
+
+/// What comes between the style and the script.
+pub(crate) const BODY: &str = r#"</style>
+</head>
+<body>
+<header><h1>Keying: <span id="who"></span></h1>
+<p id="unkept" class="warning" role="alert" hidden>This browser keeps nothing of what you key. If this page is closed, it is gone. Send the batch before, or take another browser.</p>
+<noscript><p class="warning">This page needs JavaScript. Switch it on for this address, or ask the returning officer.</p></noscript>
+</header>
+<main>
+
+<section id="batches" aria-labelledby="batches-title">
+<h2 id="batches-title" tabindex="-1">Your batches</h2>
+<p id="asked" role="status"></p>
+<ul id="list"></ul>
+<p class="acts"><button id="look" type="button">Ask for new batches</button> <button id="go-away" type="button">Leave this place</button></p>
+</section>
+
+<section id="start" aria-labelledby="start-title" hidden>
+<h2 id="start-title" tabindex="-1"></h2>
+<ol>
+<li>See that your pile has the number <b id="start-batch"></b>.</li>
+<li>Count its papers. There must be <b id="start-size"></b>. If there are more or fewer, key nothing, and tell the returning officer.</li>
+<li>Leave the papers in their order. The one on top is paper 1.</li>
+<li>Key what stands on a paper. You correct nothing.</li>
+<li id="anew">This is a new round. Key every paper anew, from the paper.</li>
+</ol>
+<p class="acts"><button id="begin" type="button" class="main">Begin (Enter)</button> <button id="not-now" type="button">Your batches</button></p>
+</section>
+
+<section id="papers" aria-labelledby="which" hidden>
+<div class="top">
+<h2 id="which" tabindex="-1"></h2>
+<p class="where"><b id="paper"></b> <span id="state"></span> <span id="done"></span></p>
+<p id="cursor"></p>
+</div>
+<div class="wide"><table id="table">
+<caption class="unseen">The papers, one in each row, with a column for each candidate</caption>
+<thead id="heads"></thead><tbody id="rows"></tbody></table></div>
+<p id="away" class="warning" role="alert" hidden>Keys don&rsquo;t reach this page now. Click on it.</p>
+<p id="notice" role="alert"></p>
+<details id="keys"><summary>The keys</summary>
+<dl>
+<dt><kbd>1</kbd> to <kbd>9</kbd></dt><dd>the number beside the candidate; the cursor goes on</dd>
+<dt><kbd>0</kbd> or the space bar</dt><dd>nothing beside the candidate; the cursor goes on</dd>
+<dt><kbd>.</kbd> or <kbd>,</kbd> and two digits</dt><dd>a number from 10 to 99</dd>
+<dt><kbd>/</kbd> and a candidate&rsquo;s number</dt><dd>the cursor goes to him</dd>
+<dt><kbd>D</kbd> or <kbd>*</kbd></dt><dd>the paper is doubtful: no official mark, a number that can&rsquo;t be read or is over 99, a name, a signature, a drawing</dd>
+<dt><kbd>Enter</kbd></dt><dd>the paper is keyed; the next one comes</dd>
+<dt><kbd>0</kbd> and <kbd>Enter</kbd></dt><dd>a paper without any number</dd>
+<dt><kbd>Backspace</kbd></dt><dd>takes the last key back, also Enter</dd>
+<dt><kbd>Delete</kbd></dt><dd>empties this paper, to be keyed anew</dd>
+<dt><kbd>&larr;</kbd> <kbd>&rarr;</kbd> <kbd>Home</kbd></dt><dd>to another candidate</dd>
+<dt><kbd>&uarr;</kbd> <kbd>&darr;</kbd></dt><dd>to another paper</dd>
+<dt><kbd>End</kbd></dt><dd>to the paper that comes next, or to the end of the batch</dd>
+<dt><kbd>G</kbd>, a number, <kbd>Enter</kbd></dt><dd>to the paper of that number</dd>
+<dt><kbd>Insert</kbd></dt><dd>puts in a paper before this one, where you left one out</dd>
+<dt><kbd>Shift</kbd>+<kbd>Delete</kbd></dt><dd>takes this paper out, where you keyed it twice</dd>
+</dl></details>
+<p class="tools"><button id="doubt" type="button">Doubtful (D)</button>
+<button id="put-in" type="button">Put a paper in (Insert)</button>
+<button id="take-out" type="button">Take this paper out (Shift+Delete)</button>
+<label>Go to paper (G) <input id="go" type="text" inputmode="numeric" autocomplete="off" size="4"></label>
+<button id="leave-papers" type="button">Your batches</button></p>
+<dialog id="out" aria-labelledby="out-text"><p id="out-text"></p>
+<p class="acts"><button id="out-no" type="button">Leave it in</button> <button id="out-yes" type="button">Take it out</button></p></dialog>
+</section>
+
+<section id="end" aria-labelledby="end-title" hidden>
+<h2 id="end-title" tabindex="-1"></h2>
+<div id="check"><p>Is your pile at its end? If a paper is left, or one was wanting, don&rsquo;t send. Go back and look for the place where it slipped. There you put a paper in, or take one out.</p>
+<ul id="summary"></ul></div>
+<p id="said" role="status"></p>
+<p class="acts"><button id="send" type="button" class="main">Send (S)</button>
+<button id="back" type="button">Back to the papers (&uarr;)</button> <button id="leave" type="button">Your batches</button></p>
+</section>
+
+</main>
+<script>"#;
+
+/// What comes behind the script.
+pub(crate) const END: &str = r#"</script>
+</body>
+</html>
+"#;

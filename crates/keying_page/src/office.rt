@@ -1,0 +1,98 @@
+//! The page's script, third part: what the office is asked, and what its answers mean.
+
+/// A keying is sent under an id of its own. It is sent again as it was until the office has answered.
+pub(crate) const OFFICE: &str = r#"// ---- what the office is asked
+
+const PATIENCE = 120;
+const WAITS = [5, 10, 20, 30];
+
+// The status of the office's answer, and what it says; nothing where the line broke, or somebody else answered.
+const ask = async (target, body) => {
+  const end = new AbortController();
+  const timer = setTimeout(() => end.abort(), 1000 * PATIENCE);
+  const sent = body === undefined ? {} : {method: 'POST', headers: {'Content-Type': 'application/json'}, body};
+  try {
+    const answer = await fetch(HERE + target, {...sent, cache: 'no-store', redirect: 'error', signal: end.signal});
+    return {status: answer.status, says: await answer.json()};
+  } catch {
+    return null;
+  } finally {
+    clearTimeout(timer);
+  }
+};
+
+// What to do about each refusal, by its number, and about each other answer, by its status.
+const AFTER_REFUSAL = {
+  2: 'Press Send once more: the batch goes out under a new id.',
+  7: 'Compare the number on your pile. If it is right, tell the returning officer.',
+  9: 'The ward isn\u2019t being keyed. Tell the returning officer.',
+  14: 'The office hasn\u2019t given this batch to your number. Tell the returning officer.',
+  15: 'The batch is in another round. Ask for your batches, and key every paper anew if it stands there.',
+  16: 'Your keying of this round is there already. Nothing is left to do.',
+  17: 'The batch has another number of papers. Tell the returning officer.',
+  18: 'Look at that paper, and mend it.',
+};
+const AFTER_STATUS = {
+  401: 'The office wants your number and your code. Load the page again, and type them.',
+  403: 'This page was opened by an address that the office doesn\u2019t know. Open it by the one you were given.',
+  429: 'Too many wrong codes came for your number. Wait a minute, and try again.',
+};
+const TELL = 'Tell the returning officer what stands here.';
+const NOBODY = 'The office doesn\u2019t answer.';
+const LATER = 'Ask again in a moment. What you keyed is kept here.';
+
+const isRefusal = (answer) => answer?.status === 409 && Number.isInteger(answer.says?.refusal);
+const isFault = (answer) => answer?.status === 503 && Number.isInteger(answer.says?.fault);
+// Nobody can tell from it whether the office kept what was sent.
+const isUnknown = (answer) => !answer || answer.status < 400 || answer.status >= 500;
+const isReply = (answer, {batch, round}) => answer?.status === 200 && answer.says?.reply === `batch ${batch} round ${round} keyed`;
+
+// What came of asking, in words, and what to do.
+const explained = (answer) => {
+  if (!answer) return [NOBODY, LATER];
+  if (isRefusal(answer)) return [`The office refused it: ${answer.says.text} (refused ${answer.says.refusal}).`, AFTER_REFUSAL[answer.says.refusal] ?? TELL];
+  if (isFault(answer)) return [`The office couldn\u2019t do it now (fault ${answer.says.fault}).`, TELL];
+  return [`The office answered with ${answer.status}.`, AFTER_STATUS[answer.status] ?? TELL];
+};
+
+const isWork = (it) => [it?.batch, it?.ward, it?.size, it?.round].every(Number.isInteger) && Array.isArray(it.columns);
+
+// This clerk's batches, or why they can't be had.
+const askWork = async () => {
+  const answer = await ask('work');
+  const list = answer?.status === 200 && answer.says?.work;
+  return Array.isArray(list) && list.every(isWork) ? {list} : {why: explained(answer)};
+};
+
+// The names of the candidates of a batch and of its ward, or why they can't be had.
+const askNames = async ({batch, columns}) => {
+  const answer = await ask(`batches/${batch}/candidates`);
+  const list = answer?.status === 200 && answer.says?.candidates;
+  if (!Array.isArray(list)) return {why: explained(answer)};
+  const names = new Map(list.map(({candidate, name}) => [candidate, name]));
+  return {ward: answer.says.name, candidates: columns.map((number) => ({number, name: shownName(names.get(number))}))};
+};
+
+// A name without marks that turn the direction in which the text beside it is read.
+const shownName = (name) => String(name ?? '').replace(/[\u202a-\u202e\u2066-\u2069]/g, '');
+
+const bodyOf = ({id, round, rows}) => JSON.stringify({id, round, papers: rows.map((it) => it.text)});
+
+// Sends the draft. While an answer is wanting the draft can't be changed: the office may have kept it as it was sent.
+// A refusal says that it kept nothing. Any other answer leaves open what was open before.
+const send = async () => {
+  const sent = draft;
+  const wasOpen = sent.sent;
+  sent.sent = true;
+  save(sent);
+  const answer = await ask(`batches/${sent.batch}/keying`, bodyOf(sent));
+  if (isReply(answer, sent)) return {kept: answer.says.reply};
+  const isOpen = !isRefusal(answer) && (wasOpen || isUnknown(answer));
+  sent.sent = isOpen;
+  if (isRefusal(answer) && answer.says.refusal === 2) sent.id = newId(sent.batch, sent.round);
+  save(sent);
+  const why = answer ? explained(answer) : [NOBODY];
+  return {why, isOpen, waits: isUnknown(answer), refusal: isRefusal(answer) ? answer.says.refusal : 0};
+};
+
+"#;

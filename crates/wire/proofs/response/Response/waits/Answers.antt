@@ -1,0 +1,7 @@
+-- Why `waits` keeps its promise.
+use Rattle.std.proofs.Common.{refl}
+use Rattle.wire.proofs.ResponseLemmas.{waits-told}
+use Rattle.wire.proofs.response.Response.waits.Goals as goal
+
+pub returns : goal.returns
+returns c = record { status = refl; bytes = waits-told }

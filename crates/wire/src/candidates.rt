@@ -1,0 +1,50 @@
+//! The JSON of what stands on the papers of a batch.
+
+ghost use Rattle.std.specs.Prelude.{◌≡◌, IfOk, map, string_bytes};
+ghost use Rattle.serde_json.specs.View.{view};
+ghost use Rattle.register.specs.Offices.{candidate_entry};
+ghost use Rattle.register.specs.Standings.{paper_entry};
+ghost use Rattle.wire.specs.Replies.{candidate_data, list_data, paper_body, paper_data};
+
+use register::{BallotPaper, Candidate};
+use serde_json::{Value, json};
+use std::alloc::{AllocError, Global};
+
+/// A candidate, as a value.
+fn candidate_value(alloc: Global, candidate: &Candidate) -> Result<Value, AllocError>
+    ensures { IfOk result (λ value. view value ≡ candidate_data (candidate_entry candidate.now)) }
+{
+    json!(in alloc; {"candidate": candidate.number, "name": candidate.name.as_str()})
+}
+
+/// The candidates, as a list of values.
+fn candidates_value(alloc: Global, candidates: &[Candidate]) -> Result<Value, AllocError>
+    ensures { IfOk result (λ value. view value ≡ list_data candidate_data (map candidate_entry candidates.now)) }
+{
+    let mut values = Vec::with_capacity(alloc, candidates.len())?;
+    for candidate in candidates {
+        values.push(candidate_value(alloc, candidate)?)?;
+    }
+    Ok(Value::Array(values))
+}
+
+/// What stands on the papers of a batch, as a value.
+fn paper_value(alloc: Global, batch: u32, paper: &BallotPaper) -> Result<Value, AllocError>
+    ensures { IfOk result (λ value. view value ≡ paper_data batch (paper_entry paper.now)) }
+{
+    let candidates = candidates_value(alloc, &paper.candidates)?;
+    json!(in alloc; {
+        "batch": batch, "candidates": candidates, "name": paper.ward.name.as_str(), "ward": paper.ward.number
+    })
+}
+
+/// The body that tells what stands on the papers of a batch.
+pub(crate) fn paper_body(
+    alloc: Global,
+    batch: u32,
+    paper: &BallotPaper,
+) -> Result<String, AllocError>
+    ensures { IfOk result (λ body. string_bytes body ≡ paper_body batch (paper_entry paper.now)) }
+{
+    paper_value(alloc, batch, paper)?.to_string(alloc)
+}

@@ -1,0 +1,117 @@
+#!/usr/bin/env bash
+# Plays clerks' codes: a new file of them, files that aren't taken, who is let in over HTTP, and who must wait.
+source "$(dirname "$(readlink -f "${BASH_SOURCE[0]}")")/play.bash"
+
+port=$((20000 + RANDOM % 20000))
+
+# Asks the office that serves, with the words of `curl`.
+ask() {
+    local target=$1
+    shift
+    echo "\$ curl $* $target"
+    curl --silent --show-error --max-time 60 --write-out '\nstatus %{http_code}, %{content_type}\n' "$@" "http://127.0.0.1:$port$target"
+}
+
+# The lines that an answer has besides its length and its body.
+look() {
+    local target=$1
+    shift
+    echo "\$ curl --head $* $target"
+    curl --silent --show-error --max-time 60 --dump-header - --output "$folder/body" "$@" "http://127.0.0.1:$port$target" |
+        tr -d '\r' | grep -v '^Content-Length\|^$' | sed 's/sha256-[^'\'']*/sha256-../g'
+    head -c 15 "$folder/body"
+    echo
+}
+
+# Serves with codes, until the commands of a function have been played.
+serve() {
+    local server tries=0
+    (cd "$folder" && exec "$office" town.db serve "$port" 0 --codes codes.txt) &
+    server=$!
+    until (exec 3<>"/dev/tcp/127.0.0.1/$port") 2>/dev/null; do
+        tries=$((tries + 1))
+        [[ $tries -lt 200 ]] || { echo "no office answers on port $port"; return 1; }
+        sleep 0.05
+    done
+    "$1"
+    kill -KILL "$server"
+    wait "$server" 2>/dev/null || true
+}
+
+# A file that isn't taken.
+refuse() {
+    local mode=$1
+    shift
+    rm -f "$folder/bad.txt"
+    (umask 077 && printf "$@" >"$folder/bad.txt")
+    chmod "$mode" "$folder/bad.txt"
+    play town.db serve "$port" 1 --codes bad.txt | sed "s/ $port / PORT /"
+}
+
+let_in() {
+    local keyed='{"id":"k1","round":1,"papers":["1,2,","D"]}' try
+    ask /clerks/4/work
+    ask /clerks/4/work -u 4:kf7m-2wxt
+    ask /clerks/4/work -u 4:KF7M-2WXT
+    ask /clerks/4/work -u 9:w3hd-4psn
+    ask /clerks/9/work -u 4:kf7m-2wxt
+    ask /clerks/4/batches/12/candidates -u 4:kf7m-2wxt
+    ask /clerks/4/batches/13/candidates -u 4:kf7m-2wxt
+    ask /clerks/4/batches/12/keying -d "$keyed"
+    ask /clerks/4/batches/12/keying -u 4:kf7m-2wxt -d "$keyed"
+    ask /clerks/4/batches/12/keying -u 4:kf7m-2wxt -d "$keyed"
+    ask /clerks/4/nothing
+    ask /clerks/4/nothing -u 4:kf7m-2wxt
+    ask /clerks/4/ -u 4:kf7m-2wxt -d "$keyed"
+    ask /clerks/4/work -u 4:kf7m-2wxt -H 'Sec-Fetch-Site: cross-site'
+    ask /wards/7/sheet
+    look /clerks/4/
+    look /clerks/4/ -u 4:kf7m-2wxt
+    look /clerks/4/leave -u 4:kf7m-2wxt
+    echo "ten wrong codes"
+    for try in {1..10}; do curl --silent -u "9:wrong-$try-code" "http://127.0.0.1:$port/clerks/9/work" >/dev/null; done
+    ask /clerks/9/work -u 9:w3hd-4psn
+    look /clerks/9/work
+    # nobody else waits
+    ask /clerks/4/work -u 4:kf7m-2wxt
+}
+
+{
+    play town.db init
+    play town.db ward 7 2 Harbour --id w1
+    play town.db candidate 7 1 Ann --id c1
+    play town.db candidate 7 2 Bob --id c2
+    play town.db candidate 7 3 Cy --id c3
+    play town.db close 7 --id n1
+    play town.db batch 12 7 2 4 9 --id b1
+
+    # a new file: a line a clerk, for its owner alone; the codes are others each time
+    play town.db codes made.txt 1-40
+    stat --format '%a' "$folder/made.txt"
+    sed 's/[a-z2-7]\{4\}-[a-z2-7]\{4\}$/CODE/' "$folder/made.txt" | sed -n '1p;$p'
+    sort -k 2 -u "$folder/made.txt" | wc -l
+    # what is there is left
+    play town.db codes made.txt 1-40
+    # it needs no database
+    play nothing.db codes other.txt 4-4
+    play town.db codes more.txt 40-1
+    play town.db codes more.txt 40
+    play town.db codes more.txt 1-1000
+    play town.db codes nowhere/more.txt 1-40
+
+    # files that aren't taken
+    refuse 644 '4 kf7m-2wxt\n'
+    refuse 640 '4 kf7m-2wxt\n'
+    refuse 600 'kf7m-2wxt\n'
+    refuse 600 '4 kf7m-2wxt\n\n04 w3hd-4psn\n'
+    refuse 600 '4 kf7m-2wxt\r\n9 short\r\n'
+    refuse 600 '4 kf7m-2wxt\n4 w3hd-4psn\n'
+    refuse 600 '4 kf7m-2wxt\n9 kf7m-2wxt\n'
+    play town.db serve "$port" 1 --codes missing.txt | sed "s/ $port / PORT /"
+    play town.db serve "$port" 1 --codes . | sed "s/ $port / PORT /"
+
+    (umask 077 && printf '4 kf7m-2wxt\n9 w3hd-4psn\n' >"$folder/codes.txt")
+    serve let_in
+} >"$folder/played" 2>&1
+
+compare codes
