@@ -11,6 +11,7 @@ use Rattle.register.specs.Items.{is_keyed_paper, IsState}
 use Rattle.register.proofs.KeyedLemmas.{rounds_more}
 use Rattle.register.proofs.MapLemmas.{kept_all, found_passes, found_number, found_filter}
 use Rattle.store.proofs.FitLemmas.{keyings_in_range}
+use Rattle.store.specs.Keyings.{is_paper_of}
 use Rattle.store.proofs.FindLemmas.{keyed_compared}
 
 -- ---- the first of those that pass a test
@@ -96,17 +97,13 @@ first_of_whole size k ks whole = eqb-true k.paper 1 (and_parts _ _ (and_parts _ 
 
 -- ---- the first paper of a keying
 
--- a paper is one of a clerk's keying of a batch in a round
-abbrev is_of : ℕ → ℕ → ℕ → KeyedEntry → Bool
-is_of batch round clerk k = (k.batch == batch) && ((k.round == round) && (k.clerk == clerk))
-
 -- the numbers of a paper
-record HasNumbers (batch round clerk : ℕ) (k : KeyedEntry) : Type 0 where
-  batch_is : k.batch ≡ batch
-  round_is : k.round ≡ round
-  clerk_is : k.clerk ≡ clerk
+pub record HasNumbers (batch round clerk : ℕ) (k : KeyedEntry) : Type 0 where
+  pub batch_is : k.batch ≡ batch
+  pub round_is : k.round ≡ round
+  pub clerk_is : k.clerk ≡ clerk
 
-has_numbers : (batch round clerk : ℕ) (k : KeyedEntry) → is_of batch round clerk k ≡ true → HasNumbers batch round clerk k
+pub has_numbers : (batch round clerk : ℕ) (k : KeyedEntry) → is_paper_of batch round clerk k ≡ true → HasNumbers batch round clerk k
 has_numbers batch round clerk k own =
     let rest = and_parts _ _ (and_parts _ _ own).1 in
     record { batch_is = eqb-true k.batch batch (and_parts _ _ own).0; round_is = eqb-true k.round round rest.0; clerk_is = eqb-true k.clerk clerk rest.1 }
@@ -116,14 +113,15 @@ unfolding is_keyed_paper
 round_low k fine = leb-true 1 k.round (and_parts _ _ (and_parts _ _ (and_parts _ _ fine).1).0).0
 
 module _ (s : OfficeState) (is : IsState s) (batch round clerk : ℕ) where
-  -- the first paper of a keying has the number 1
-  starts_at_one : (k : KeyedEntry) (ks : List KeyedEntry) → keying_of s batch round clerk ≡ k ∷ ks → k.paper ≡ 1
-  starts_at_one k ks there =
-      let own = has_numbers batch round clerk k (head_passes (is_of batch round clerk) k ks s.keyings there) in
-      let fine = head_has (is_of batch round clerk) is_keyed_paper k ks s.keyings (keyings_in_range s is) there in
-      go own fine (batch_at s k.batch) refl (head_has (is_of batch round clerk) (λ (x : KeyedEntry). is_keyed_for s x (batch_at s x.batch)) k ks s.keyings (and_parts _ _ is.keyed).0 there)
+  -- a keying that is there is one of a batch, and has each of its papers
+  pub there_whole_of : (k : KeyedEntry) (ks : List KeyedEntry) → keying_of s batch round clerk ≡ k ∷ ks → (b : BatchEntry) × (batch_at s batch ≡ Some b) × (is_whole b.size (k ∷ ks) ≡ true)
+  there_whole_of k ks there =
+      let own = has_numbers batch round clerk k (head_passes (is_paper_of batch round clerk) k ks s.keyings there) in
+      let fine = head_has (is_paper_of batch round clerk) is_keyed_paper k ks s.keyings (keyings_in_range s is) there in
+      go own fine (batch_at s k.batch) refl (head_has (is_paper_of batch round clerk) (λ (x : KeyedEntry). is_keyed_for s x (batch_at s x.batch)) k ks s.keyings (and_parts _ _ is.keyed).0 there)
     where
-      go : HasNumbers batch round clerk k → is_keyed_paper k ≡ true → (o : Option BatchEntry) → batch_at s k.batch ≡ o → is_keyed_for s k o ≡ true → k.paper ≡ 1
+      go : HasNumbers batch round clerk k → is_keyed_paper k ≡ true → (o : Option BatchEntry) → batch_at s k.batch ≡ o → is_keyed_for s k o ≡ true
+          → (b : BatchEntry) × (batch_at s batch ≡ Some b) × (is_whole b.size (k ∷ ks) ≡ true)
       go own fine None found keyed = absurd cc
       go own fine (Some b) found keyed =
           let parts = and_parts _ _ keyed in
@@ -132,20 +130,24 @@ module _ (s : OfficeState) (is : IsState s) (batch round clerk : ℕ) where
           let of_round = round_among s b b.round k.round rounds (round_low k fine) (leb-true k.round b.round parts.0) in
           let same : keying_of s b.number k.round k.clerk ≡ k ∷ ks =
           ap (λ n. keying_of s n k.round k.clerk) (sym number ∙ own.batch_is) ∙ ap (λ n. keying_of s batch n k.clerk) own.round_is ∙ ap (keying_of s batch round) own.clerk_is ∙ there in
-          first_of_whole b.size k ks (keying_whole s b k.round k.clerk k ks same (and_parts _ _ parts.1).0 of_round)
+          (b, ap (batch_at s) (sym own.batch_is) ∙ found, keying_whole s b k.round k.clerk k ks same (and_parts _ _ parts.1).0 of_round)
+
+  -- the first paper of a keying has the number 1
+  starts_at_one : (k : KeyedEntry) (ks : List KeyedEntry) → keying_of s batch round clerk ≡ k ∷ ks → k.paper ≡ 1
+  starts_at_one k ks there = let it = there_whole_of k ks there in first_of_whole it.0.size k ks it.2
 
   -- a paper with these numbers is found by them
-  found_by_numbers : (k : KeyedEntry) → is_of batch round clerk k ≡ true → k.paper ≡ 1 → is_eq (keyed_compared batch round clerk 1 k) ≡ true
+  found_by_numbers : (k : KeyedEntry) → is_paper_of batch round clerk k ≡ true → k.paper ≡ 1 → is_eq (keyed_compared batch round clerk 1 k) ≡ true
   found_by_numbers k own first = grind (arith, nat_tests)
 
   -- a paper that is found by them is of this keying
-  of_the_keying : (k : KeyedEntry) → is_eq (keyed_compared batch round clerk 1 k) ≡ true → is_of batch round clerk k ≡ true
+  of_the_keying : (k : KeyedEntry) → is_eq (keyed_compared batch round clerk 1 k) ≡ true → is_paper_of batch round clerk k ≡ true
   of_the_keying k found = grind (arith, nat_tests)
 
   -- a keying is there where its first paper is
   pub first_paper_tells : is_some (entry_at (keyed_compared batch round clerk 1) s.keyings) ≡ is_keyed (keying_of s batch round clerk)
-  first_paper_tells = ap is_some (sym (found_filter (keyed_compared batch round clerk 1) (is_of batch round clerk) s.keyings of_the_keying)) ∙ go (keying_of s batch round clerk) refl
+  first_paper_tells = ap is_some (sym (found_filter (keyed_compared batch round clerk 1) (is_paper_of batch round clerk) s.keyings of_the_keying)) ∙ go (keying_of s batch round clerk) refl
     where
       go : (ks : List KeyedEntry) → keying_of s batch round clerk ≡ ks → is_some (entry_at (keyed_compared batch round clerk 1) ks) ≡ is_keyed ks
       go [] there = refl
-      go (k ∷ ks) there = rw (found_by_numbers k (head_passes (is_of batch round clerk) k ks s.keyings there) (starts_at_one k ks there)) refl
+      go (k ∷ ks) there = rw (found_by_numbers k (head_passes (is_paper_of batch round clerk) k ks s.keyings there) (starts_at_one k ks there)) refl

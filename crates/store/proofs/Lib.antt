@@ -5,6 +5,7 @@ pub mod FitLemmas
 pub mod CountFits
 pub mod FindLemmas
 pub mod KeyingLemmas
+pub mod RunLemmas
 pub mod ClerkLemmas
 pub mod WriteLemmas
 pub mod KeepLemmas

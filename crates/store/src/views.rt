@@ -17,6 +17,7 @@ mod books;
 mod candidates;
 mod counts;
 mod elections;
+mod keyings;
 pub(crate) mod papers;
 mod receipts;
 mod settled;

@@ -141,7 +141,7 @@ module _ (schema : Schema) (sql : List ℕ) (tree : ℕ) (tests project : List T
     if_fails old new (Err f) clean has tells = subst (FailsBy old new) (sym tells.1) (query_fails old new tells.0 has (tells.2 clean))
 
 -- a query of a connection that was shut fails for that
-either_way : (sql : List ℕ) (params : Row) (old new : State) (f : Fault) → TellsQuery sql params old new f → (IsTrue old.is_open → FailsBy old new f) → FailsBy old new f
+pub either_way : (sql : List ℕ) (params : Row) (old new : State) (f : Fault) → TellsQuery sql params old new f → (IsTrue old.is_open → FailsBy old new f) → FailsBy old new f
 either_way sql params old new f tells fails = go old.is_open refl
   where
     go : (is_open : Bool) → old.is_open ≡ is_open → FailsBy old new f
@@ -150,7 +150,7 @@ either_way sql params old new f tells fails = go old.is_open refl
 
 -- ---- the parameters are of the right kinds
 
-places_length : (k n : ℕ) → length (tests_from k n) ≡ n
+pub places_length : (k n : ℕ) → length (tests_from k n) ≡ n
 places_length k n = mapped_length _ (places_from k n) ∙ counted k n
   where
     counted : (j m : ℕ) → length (places_from j m) ≡ m
@@ -158,19 +158,19 @@ places_length k n = mapped_length _ (places_from k n) ∙ counted k n
     counted j (suc m) = ap suc (counted (suc j) m)
 
 -- a value that is an integer, a text, or bytes
-number_in : (v : Value) (more : Bool) → is_of Integer v && more ≡ true → (n : ℤ) × (v ≡ Int n)
+pub number_in : (v : Value) (more : Bool) → is_of Integer v && more ≡ true → (n : ℤ) × (v ≡ Int n)
 number_in (Int n) more h = (n, refl)
 number_in _ more h = absurd (true≢false (sym h))
 
-text_in : (v : Value) (more : Bool) → is_of Words v && more ≡ true → (t : List ℕ) × (v ≡ Text t)
+pub text_in : (v : Value) (more : Bool) → is_of Words v && more ≡ true → (t : List ℕ) × (v ≡ Text t)
 text_in (Text t) more h = (t, refl)
 text_in _ more h = absurd (true≢false (sym h))
 
-bytes_in : (v : Value) (more : Bool) → is_of Bytes v && more ≡ true → (b : List ℕ) × (v ≡ Blob b)
+pub bytes_in : (v : Value) (more : Bool) → is_of Bytes v && more ≡ true → (b : List ℕ) × (v ≡ Blob b)
 bytes_in (Blob b) more h = (b, refl)
 bytes_in _ more h = absurd (true≢false (sym h))
 
-behind : (v : Value) (more : Bool) → is_of Integer v && more ≡ true → more ≡ true
+pub behind : (v : Value) (more : Bool) → is_of Integer v && more ≡ true → more ≡ true
 behind (Int n) more h = h
 behind _ more h = absurd (true≢false (sym h))
 
@@ -294,7 +294,7 @@ rowids_fail t changes db begins old new f clean rests tells =
     (accepts_rowids t changes begins.rest begins.others begins.views) {X = ℕ} old new (Err f) clean (ap (λ (d : Database). d.schema) rests.now ∙ begins.is) tells
 
 -- the schema of an office, which is seen if the connection is open
-begun : (t : Table) (c : Contents) (s : State) → (IsTrue s.is_open → Rests c s) → IsTrue s.is_open → BeginsTo t s.now.schema
+pub begun : (t : Table) (c : Contents) (s : State) → (IsTrue s.is_open → Rests c s) → IsTrue s.is_open → BeginsTo t s.now.schema
 begun t c s at is_open = begins_to t s.now.schema (office_of c s (at is_open)).begins
 
 -- the rows whose key begins with these values

@@ -24,6 +24,8 @@ pub mod CauseLemmas
 pub mod ListingLemmas
 pub mod HoldLemmas
 pub mod QueriedRowsLemmas
+pub mod RunQueries
+pub mod RunLemmas
 pub mod WalkLemmas
 pub mod RowidLemmas
 pub mod MakeLemmas

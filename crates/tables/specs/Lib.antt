@@ -8,4 +8,5 @@ pub mod Writing
 pub mod Making
 pub mod Presence
 pub mod Reading
+pub mod Runs
 pub mod Walking

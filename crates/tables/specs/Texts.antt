@@ -97,6 +97,14 @@ select_by_reference_text r = select_where (table_sought r) (matched 0 (slice_ind
 unfoldable pub select_rowids_text : Table → List ℕ
 select_rowids_text t = codes "SELECT rowid FROM " ++ (shape t).name ++ codes " ORDER BY rowid"
 
+-- the rowid of the row whose key is the parameters
+unfoldable pub select_rowid_text : Table → List ℕ
+select_rowid_text t = codes "SELECT rowid FROM " ++ (shape t).name ++ where_text (matched 0 (key_names t))
+
+-- all columns of the rows whose rowids lie between the two parameters, in whatever order
+unfoldable pub select_between_text : Table → List ℕ
+select_between_text t = codes "SELECT " ++ joined comma (names_of t) ++ codes " FROM " ++ (shape t).name ++ codes " WHERE rowid >= ?1 AND rowid <= ?2"
+
 -- the row with a key gets these values; the values of all columns in turn
 unfoldable pub update_text : Table → List ℕ
 update_text t = codes "UPDATE " ++ (shape t).name ++ codes " SET " ++ joined comma (matched (shape t).key (drop (shape t).key (names_of t))) ++ where_text (matched 0 (key_names t))

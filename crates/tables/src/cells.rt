@@ -31,6 +31,13 @@ pub fn amount<'a>(n: u64) -> ValueRef<'a>
     }
 }
 
+/// An integer as a parameter.
+pub fn integer<'a>(n: i64) -> ValueRef<'a>
+    ensures { owned result ≡ Number n }
+{
+    ValueRef::Int(n)
+}
+
 /// A text as a parameter.
 pub fn text(s: &str) -> ValueRef<'_>
     ensures { owned result ≡ Words s.now }

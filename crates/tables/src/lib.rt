@@ -2,7 +2,7 @@
 //!
 //! `Table` names the tables. A statement is a function of one call, proved once for any table: `insertion`
 //! adds a row, `replacement` and `removal` change the one with a key, `reading` reads all rows, those whose
-//! key begins alike, or those with another value, `making` makes the tables, all or those that an older
+//! key begins alike, or those with another value, `runs` those that stand side by side, `making` makes the tables, all or those that an older
 //! office lacks, `presence` looks for them by name. Their clauses say what the tables hold afterwards and
 //! what a stop may leave of them.
 //!
@@ -30,6 +30,7 @@ pub mod reading;
 pub mod removal;
 pub mod replacement;
 pub mod rowids;
+pub mod runs;
 pub mod texts;
 // Statements over entries.
 pub mod entry;

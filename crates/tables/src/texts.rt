@@ -2,7 +2,7 @@
 
 ghost use Rattle.std.specs.Prelude.{◌≡◌, ◌≤◌, true};
 ghost use Rattle.tables.specs.Schema.{shape, changes_rows};
-ghost use Rattle.tables.specs.Texts.{scan_text, create_text, insert_text, select_text, select_by_reference_text, select_rowids_text, update_text, set_text, delete_text};
+ghost use Rattle.tables.specs.Texts.{scan_text, create_text, insert_text, select_text, select_by_reference_text, select_rowids_text, select_rowid_text, select_between_text, update_text, set_text, delete_text};
 
 use crate::table::{Reference, Setting, Table};
 
@@ -175,6 +175,55 @@ pub fn select_rowids_text(table: Table) -> &'static str
         Table::Batch => "SELECT rowid FROM batch ORDER BY rowid",
         Table::Bundle => "SELECT rowid FROM bundle ORDER BY rowid",
         _ => unreachable!(),
+    }
+}
+
+#[tactic(auto, unfolding(crate::specs::Texts::select_rowid_text))]
+/// The text of the rowid of the row with a key, whose values are the parameters.
+pub fn select_rowid_text(table: Table) -> &'static str
+    ensures { result.now ≡ select_rowid_text table }
+{
+    match table {
+        Table::Office => "SELECT rowid FROM office WHERE one = ?1",
+        Table::Ward => "SELECT rowid FROM ward WHERE ward = ?1",
+        Table::Candidate => "SELECT rowid FROM candidate WHERE ward = ?1 AND candidate = ?2",
+        Table::Batch => "SELECT rowid FROM batch WHERE batch = ?1",
+        Table::Keying =>
+            "SELECT rowid FROM keying WHERE batch = ?1 AND round = ?2 AND clerk = ?3 AND paper = ?4",
+        Table::Verdict => "SELECT rowid FROM verdict WHERE batch = ?1 AND paper = ?2",
+        Table::Lot => "SELECT rowid FROM lot WHERE ward = ?1 AND stage = ?2",
+        Table::Receipt => "SELECT rowid FROM receipt WHERE actor = ?1 AND id = ?2",
+        Table::Bundle => "SELECT rowid FROM bundle WHERE ward = ?1 AND prefs = ?2",
+        Table::Vote => "SELECT rowid FROM vote WHERE ward = ?1 AND stage = ?2 AND candidate = ?3",
+        Table::Third => "SELECT rowid FROM third WHERE batch = ?1",
+    }
+}
+
+#[tactic(auto, unfolding(crate::specs::Texts::select_between_text))]
+/// The text of all columns of the rows whose rowids lie between the two parameters, in whatever order.
+pub fn select_between_text(table: Table) -> &'static str
+    ensures { result.now ≡ select_between_text table }
+{
+    match table {
+        Table::Office => "SELECT one, version FROM office WHERE rowid >= ?1 AND rowid <= ?2",
+        Table::Ward =>
+            "SELECT ward, seats, phase, done, name FROM ward WHERE rowid >= ?1 AND rowid <= ?2",
+        Table::Candidate =>
+            "SELECT ward, candidate, name FROM candidate WHERE rowid >= ?1 AND rowid <= ?2",
+        Table::Batch =>
+            "SELECT batch, ward, size, clerk_a, clerk_b, round FROM batch WHERE rowid >= ?1 AND rowid <= ?2",
+        Table::Keying =>
+            "SELECT batch, round, clerk, paper, marks FROM keying WHERE rowid >= ?1 AND rowid <= ?2",
+        Table::Verdict =>
+            "SELECT batch, paper, code, marks FROM verdict WHERE rowid >= ?1 AND rowid <= ?2",
+        Table::Lot => "SELECT ward, stage, candidate FROM lot WHERE rowid >= ?1 AND rowid <= ?2",
+        Table::Receipt =>
+            "SELECT actor, id, subject, reply FROM receipt WHERE rowid >= ?1 AND rowid <= ?2",
+        Table::Bundle =>
+            "SELECT ward, prefs, papers, holder, value FROM bundle WHERE rowid >= ?1 AND rowid <= ?2",
+        Table::Vote =>
+            "SELECT ward, stage, candidate, units, mark FROM vote WHERE rowid >= ?1 AND rowid <= ?2",
+        Table::Third => "SELECT batch, clerk FROM third WHERE rowid >= ?1 AND rowid <= ?2",
     }
 }
 

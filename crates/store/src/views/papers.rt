@@ -21,7 +21,7 @@ use tables::cells::number;
 use tables::finding::{entries_beginning, find_entry};
 
 /// The number of the first paper of a batch.
-const FIRST_PAPER: u32 = 1;
+pub(crate) const FIRST_PAPER: u32 = 1;
 
 /// The keyings of the current round of a batch by its two or three clerks, in the order of the clerks' numbers,
 /// each in the order of its papers and empty where it isn't there; and the third clerk, where one is set.
@@ -57,19 +57,6 @@ impl Keyings {
 }
 
 impl<S: Alter> Store<S> {
-    /// The papers that a clerk keyed of a batch in a round, in their order.
-    pub(crate) fn list_keying(
-        &mut self,
-        batch: u32,
-        round: u32,
-        clerk: u32,
-    ) -> Result<Vec<KeyedPaper>, Fault>
-        ensures { Loads S.Store self.old self.new result (λ s found. map keyed_entry found.items ≡ keying_of s batch round clerk) }
-    {
-        let key = [number(batch), number(round), number(clerk)];
-        entries_beginning::<KeyedPapers, S>(self.alloc, &mut self.conn, &key)
-    }
-
     /// Whether a clerk has keyed a batch in a round. Of a keying that is there no paper is missing, so that its
     /// first one tells.
     pub(crate) fn has_keyed(&mut self, batch: u32, round: u32, clerk: u32) -> Result<bool, Fault>

@@ -1,5 +1,5 @@
 -- Why `execute` keeps its promise.
-use Rattle.std.proofs.Common.{Ok, Err, refl, ap}
+use Rattle.std.proofs.Common.{Ok, Err, ap}
 use Rattle.sqlite.specs.Held.{state}
 use Rattle.tables.proofs.ContentsLemmas.{keeps}
 use Rattle.tables.proofs.execution.execute.Goals as goal

@@ -1,14 +1,9 @@
 -- Why `list_keying` keeps its promise.
-use Rattle.std.proofs.Common.{refl}
-use Rattle.register.specs.Offices.{keyed_entry, keying_of}
-use Rattle.store.specs.EntryRows.{row_of_keyed}
-use Rattle.store.proofs.StateLemmas.{keyed_in, keyed_back}
-use Rattle.store.proofs.FindLemmas.{keying_listed}
-use Rattle.store.proofs.FitLemmas.{keyings_fit}
-use Rattle.store.proofs.LoadsLemmas.{loads_entries}
+use Rattle.store.proofs.LoadsLemmas.{loads_as, loads_both, loads_cut}
 use Rattle.store.proofs.storage.Store.list_keying.Goals as goal
 
 pub returns : goal.returns
-returns g c =
-    let e = c.entries_beginning.ensures in
-    rw (← c.self.view_is) (loads_entries (λ found. found.items) keyed_entry row_of_keyed keyed_in keyed_back (λ s. keying_of s c.args.batch c.args.round c.args.clerk) (λ s is. keying_listed s is c.args.batch c.args.round c.args.clerk) keyings_fit (rw (c.number.ensures, c.number-2.ensures, c.number-3.ensures) at e.finds) (rw (c.number.ensures, c.number-2.ensures, c.number-3.ensures) at e.cause) refl e.opens e.reads)
+returns g c = loads_as (loads_both c.in_ok-found.ensures c.in_ok-papers.ensures) (λ s is told. told.1)
+
+pub returns-in_err-papers : goal.returns-in_err-papers
+returns-in_err-papers g c = loads_cut c.from_residual-in_err-papers.ensures.1 c.in_ok-found.ensures c.in_err-papers.ensures

@@ -1,0 +1,8 @@
+-- Why `list_between` keeps its promise.
+use Rattle.store.proofs.RunLemmas.{loads_there}
+use Rattle.store.proofs.storage.Store.list_between.Goals as goal
+
+pub returns : goal.returns
+returns g c =
+    let e = c.entries_between.ensures in
+    rw (← c.self.view_is) (loads_there (λ found. found.items) e.are e.cause e.opens e.reads)

@@ -1,0 +1,9 @@
+-- Why `list_run` keeps its promise.
+use Rattle.store.proofs.LoadsLemmas.{loads_as, loads_both, loads_cut}
+use Rattle.store.proofs.storage.Store.list_run.Goals as goal
+
+pub returns : goal.returns
+returns g c = loads_as (loads_both c.in_ok-first.ensures c.in_ok-papers.ensures) (λ s is told. told.1)
+
+pub returns-in_err-papers : goal.returns-in_err-papers
+returns-in_err-papers g c = loads_cut c.from_residual-in_err-papers.ensures.1 c.in_ok-first.ensures c.in_err-papers.ensures

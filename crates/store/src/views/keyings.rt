@@ -1,0 +1,136 @@
+//! The keying of a batch by a clerk, read for a request.
+//!
+//! The papers of a keying come in one transaction, in their order. So in most offices they stand side by side, and
+//! are read there: that takes half the time that it takes to look each up by its key. From the rows it is seen
+//! whether they are the keying. Where they aren't, as in an office whose rows came in another order, each is looked
+//! up.
+
+ghost use Rattle.std.specs.Prelude.{◌≡◌, ◌&&◌, ⊤, map, IfSome};
+ghost use Rattle.std.specs.List.{AllByRecursion, list_all};
+ghost use Rattle.sqlite_rules.specs.Lists.{Has};
+ghost use Rattle.register.specs.Offices.{keyed_entry, keying_of};
+ghost use Rattle.register.specs.Keyed.{are_numbered, is_whole};
+ghost use Rattle.store.specs.Keyings.{is_paper_of};
+ghost use Rattle.store.specs.Loads.{Loads};
+
+use crate::entries::keyings::KeyedPapers;
+use crate::storage::Store;
+use crate::views::papers::FIRST_PAPER;
+use register::{Batch, KeyedPaper};
+use sqlite::Alter;
+use tables::cells::number;
+use tables::finding::entries_beginning;
+use tables::runs::{entries_between, find_rowid};
+use tables::{Fault, Table};
+
+#[tactic(auto, unfolding(register::specs::Keyed::are_numbered))]
+/// Whether papers are numbered from 1 on.
+fn are_numbered(papers: &[KeyedPaper]) -> bool
+    ensures { result ≡ are_numbered 1 (map keyed_entry papers.now) }
+{
+    for (place, keyed) in papers.iter().enumerate() {
+        if keyed.paper as usize != place + 1 {
+            return false;
+        }
+    }
+    true
+}
+
+/// Whether each of these papers is one of a clerk's keying of a batch in a round.
+fn are_papers_of(batch: u32, round: u32, clerk: u32, papers: &[KeyedPaper]) -> bool
+    ensures { result ≡ list_all (λ k. is_paper_of batch round clerk (keyed_entry k)) papers.now }
+{
+    papers.iter().all(|keyed| {
+        (keyed.batch == batch) & ((keyed.round == round) & (keyed.clerk == clerk))
+    })
+}
+
+/// Whether papers are those of a clerk's keying of a batch in a round: each of so many once, in their order.
+fn is_keying(batch: u32, round: u32, clerk: u32, size: u32, papers: &[KeyedPaper]) -> bool
+    ensures { result ≡ (is_whole size (map keyed_entry papers.now) && list_all (λ k. is_paper_of batch round clerk (keyed_entry k)) papers.now) }
+{
+    let full = papers.len() == size as usize;
+    let whole = full & are_numbered(papers);
+    whole & are_papers_of(batch, round, clerk, papers)
+}
+
+impl<S: Alter> Store<S> {
+    /// The papers that a clerk keyed of a batch in a round, in their order, each looked up by its key.
+    fn list_by_key(&mut self, batch: u32, round: u32, clerk: u32) -> Result<Vec<KeyedPaper>, Fault>
+        ensures { Loads S.Store self.old self.new result (λ s found. map keyed_entry found.items ≡ keying_of s batch round clerk) }
+    {
+        let key = [number(batch), number(round), number(clerk)];
+        entries_beginning::<KeyedPapers, S>(self.alloc, &mut self.conn, &key)
+    }
+
+    /// Where the first paper of a keying stands, if it is there. The state doesn't say where, so neither does a
+    /// clause: what is read there tells whether it is the keying.
+    fn find_first(&mut self, batch: u32, round: u32, clerk: u32) -> Result<Option<i64>, Fault>
+        ensures { Loads S.Store self.old self.new result (λ s found. ⊤) }
+    {
+        let key = [
+            number(batch),
+            number(round),
+            number(clerk),
+            number(FIRST_PAPER),
+        ];
+        find_rowid(&mut self.conn, Table::Keying, &key)
+    }
+
+    /// The papers that stand from one place to another. Each is one of the state's.
+    fn list_between(&mut self, low: i64, high: i64) -> Result<Vec<KeyedPaper>, Fault>
+        ensures { Loads S.Store self.old self.new result (λ s found. AllByRecursion (Has s.keyings) (map keyed_entry found.items)) }
+    {
+        entries_between::<KeyedPapers, S>(self.alloc, &mut self.conn, low, high)
+    }
+
+    /// As many papers as the batch has, from the first one of a keying on; none where that isn't there.
+    fn list_run(&mut self, batch: &Batch, round: u32, clerk: u32) -> Result<Vec<KeyedPaper>, Fault>
+        ensures { Loads S.Store self.old self.new result (λ s found. AllByRecursion (Has s.keyings) (map keyed_entry found.items)) }
+    {
+        let first = self.find_first(batch.number, round, clerk)?;
+        let Some(place) = first else {
+            return Ok(Vec::new(self.allocator()));
+        };
+        let last = place.saturating_add(i64::from(batch.size.saturating_sub(1)));
+        let papers = self.list_between(place, last)?;
+        Ok(papers)
+    }
+
+    /// The papers that a clerk keyed of a batch in a round, in their order, where they stand side by side.
+    fn find_run(
+        &mut self,
+        batch: u32,
+        round: u32,
+        clerk: u32,
+    ) -> Result<Option<Vec<KeyedPaper>>, Fault>
+        ensures { Loads S.Store self.old self.new result (λ s found. IfSome found (λ papers. map keyed_entry papers.items ≡ keying_of s batch round clerk)) }
+    {
+        let found = self.find_batch(batch)?;
+        let Some(given) = found else {
+            return Ok(None);
+        };
+        let papers = self.list_run(&given, round, clerk)?;
+        if !is_keying(batch, round, clerk, given.size, &papers) {
+            return Ok(None);
+        }
+        Ok(Some(papers))
+    }
+
+    /// The papers that a clerk keyed of a batch in a round, in their order.
+    pub(crate) fn list_keying(
+        &mut self,
+        batch: u32,
+        round: u32,
+        clerk: u32,
+    ) -> Result<Vec<KeyedPaper>, Fault>
+        ensures { Loads S.Store self.old self.new result (λ s found. map keyed_entry found.items ≡ keying_of s batch round clerk) }
+    {
+        let found = self.find_run(batch, round, clerk)?;
+        if let Some(run) = found {
+            return Ok(run);
+        }
+        let papers = self.list_by_key(batch, round, clerk)?;
+        Ok(papers)
+    }
+}
