@@ -5,8 +5,7 @@
 //! check-count ballots.txt sheet.txt
 //! ```
 //!
-//! What it tells, and the status that it ends with, is [`run`] of `recount`; here are this machine's words, files and
-//! outputs.
+//! What it prints, and the status that it ends with, is [`run`] of `recount`; here are this machine's words, files and outputs.
 #![tactic(auto)]
 
 use recount::{Folder, Unread, WordsFault, run};

@@ -19,7 +19,7 @@ list_cmp = slice_cmp nat_cmp
 abbrev pub papers_of : List Bundle → List (List ℕ)
 papers_of bundles = flat_map (λ (b : Bundle). replicate b.1 b.0) bundles
 
--- bundles with papers more of one list: its number rises, or the list comes to its place with their number
+-- bundles with more papers of one list: the number of its papers rises, or the list comes to its place with that number
 abbrev pub with_papers : List Bundle → List ℕ → ℕ → List Bundle
 with_papers [] list n = (list, n) ∷ []
 with_papers (b ∷ bs) list n = match_ordering (list_cmp list b.0) ((list, n) ∷ b ∷ bs) ((b.0, b.1 + n) ∷ bs) (b ∷ with_papers bs list n)

@@ -38,9 +38,8 @@ pub trait CountBook {
     /// The stages so far, the newest first.
     ghost history: { Self → History };
 
-    /// The stages so far, in their order. They are right for the contest and the lots that their
-    /// own actions name; the votes of each stage add up, numbers that are no candidates have none, and
-    /// the stages are at most one more than the candidates.
+    /// The stages so far, in their order. They are right for the contest and the lots that their own actions name. The votes of
+    /// each stage add up, and numbers that are no candidates have none. The stages are at most one more than the candidates.
     fn stages(&self) -> &[Stage]
         ensures is { reverse result.now ≡ history self.now }
         ensures right { IsRightByItself (contest self.now) (history self.now) }
@@ -48,9 +47,8 @@ pub trait CountBook {
         ensures others { OnlyCandidatesHaveVotes (contest self.now) (history self.now) }
         ensures short { IsShort (contest self.now) (history self.now) };
 
-    /// What comes next: an action, a lot among two candidates or more who are tied, or nothing,
-    /// exactly where no vacancy is left; then as many candidates are elected as there are seats
-    /// ("Transfer of ballot papers"; "Exclusion of candidates"; "Filling of last vacancies").
+    /// What comes next: an action; a lot among two candidates or more who are tied; or nothing, exactly where no vacancy is left. Then as
+    /// many candidates are elected as there are seats ("Transfer of ballot papers"; "Exclusion of candidates"; "Filling of last vacancies").
     fn due(&self) -> Due
         ensures is { result ≡ due_after (contest self.now) (history self.now) }
         ensures fair { IsContest (contest self.now) }
@@ -61,18 +59,16 @@ pub trait CountBook {
     fn elected(&self) -> Columns
         ensures { result ≡ elected_after (contest self.now) (history self.now) };
 
-    /// The action that comes next, with the lot where one is needed; else the lot is ignored. Answers 1
-    /// where the count is finished, 2 and 3 where a lot is due and none, or one for a candidate who isn't
-    /// tied, is handed. Moves no paper, and takes no memory.
+    /// The action that comes next, with the lot where one is needed; else the lot is ignored. Answers 1 where the count is finished. Answers 2
+    /// where a lot is due and none is handed, and 3 where one is handed for a candidate who isn't tied. Moves no paper, and takes no memory.
     fn action_by(&self, lot: Option<u8>) -> Result<Action, AdvanceError>
         ensures ok { IfOk result (λ action. drawn (contest self.now) (history self.now) lot (due_after (contest self.now) (history self.now)) ≡ Some action) }
         ensures err { IfErr result (λ e. refusal lot (due_after (contest self.now) (history self.now)) ≡ Some e) };
 
     /// Adds the one stage that is due, with the lot where one is needed; else the lot is ignored.
     ///
-    /// Answers 1 where the count is finished, 2 and 3 where a lot is due and none, or one for a
-    /// candidate who isn't tied, is handed, and takes no memory for these. After every error the
-    /// book is unchanged.
+    /// Answers 1 where the count is finished. Answers 2 where a lot is due and none is handed, and 3 where one is handed for a
+    /// candidate who isn't tied. For these it takes no memory. After every error the book is unchanged.
     fn advance(&mut self, lot: Option<u8>) -> Result<(), AdvanceError>
         ensures same { contest self.new ≡ contest self.old }
         ensures ok { OnOk result (Advances (contest self.old) (history self.old) lot (history self.new)) }

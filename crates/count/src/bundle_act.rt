@@ -17,8 +17,8 @@ use crate::terms::Terms;
 use crate::weights::figured;
 use std::alloc::{AllocError, Global};
 
-/// The places of bundles and the stages, as an action leaves them; the old ones stay as they are. An action
-/// that isn't due leaves places and a stage too, which tell of no count.
+/// The places of bundles and the stages, as an action leaves them; the old ones stay as they are. An action that isn't due leaves
+/// places and a stage too, which are those of no count.
 pub fn acted_on_bundles(
     alloc: Global,
     terms: &Terms,

@@ -45,9 +45,8 @@ impl<'a> Model for BundleBook<'a> {
     ghost invariant = { λ a. IsBundled (contest_on a.terms a.bundles.now) (reverse a.stages.items) a.bundles.now a.places.items };
 }
 
-/// The law of a count by bundles, for its callers. The bundles of some papers stand for just these papers,
-/// in another order; where a count may be held on the papers, it may be held on those of the bundles; and its
-/// stages are the same, by whatever lots.
+/// The law of a count by bundles, for its callers. The bundles of some papers stand for just these papers, in another order.
+/// Where a count may be held on the papers, it may be held on those of the bundles. Its stages are the same, by whatever lots.
 #[tactic(auto, using(crate::proofs::OrderLemmas::bundled_alike))]
 pub fn bundles_count_alike()
     ensures papers { (papers : List (List ℕ)) → IsPermutation papers (papers_of (bundled papers)) }
@@ -84,8 +83,8 @@ impl<'a> BundleBook<'a> {
     /// A count that goes on from where another stood: with its stages, and its bundles at the places that
     /// they had after them.
     ///
-    /// What `new` asks of candidates, seats and preferences is asked here too; the stages have to be right for
-    /// these papers and some lots, and the places those of the bundles after these stages, in their order.
+    /// What `new` asks of candidates, seats and preferences is asked here too. The stages have to be right for these papers and
+    /// some lots. The places have to be those of the bundles after these stages, in their order.
     pub fn resume(
         alloc: Global,
         candidates: Columns,

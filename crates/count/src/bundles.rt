@@ -1,6 +1,5 @@
-//! Equal papers kept once: a tree from each list of preferences to the number of papers that have it,
-//! so that a bundle is found by its list, and all of them are walked in the order of their lists.
-//! The number of all papers stands beside the tree, and is told without a walk.
+//! Equal papers kept once: a tree from each list of preferences to the number of papers that have it. So a bundle is found by its list, and
+//! whoever walks over all of them does so in the order of their lists. The number of all papers stands beside the tree, and takes no walk.
 
 ghost use Rattle.std.specs.Prelude.{◌≡◌, ℕ, ◌+◌, ◌<◌, ◌≤◌, List, [], ◌∷◌, ◌++◌, length, replicate, slice_get, Some, OnOk, OnErr};
 ghost use Rattle.std.specs.List.Sorted.{IsPermutation};
@@ -65,7 +64,7 @@ impl Bundles {
         ensures adds { OnOk result (IsPermutation (replicate papers list ++ papers_of self.old) (papers_of self.new)) }
         ensures err { OnErr result (self.new ≡ self.old) }
     {
-        // its clauses tell the proof that the list has some candidates, each once
+        // by its clauses the proof knows that the list has some candidates, each once
         let _ = list.first();
         add_to(&mut self.lists, list, papers)?;
         self.papers += papers;

@@ -69,7 +69,7 @@ fn standing_mark(stages: &[Stage], c: u8) -> u32
     CONTINUING
 }
 
-/// The mark of a candidate at a stage of an action, where he would have another if it weren't on him.
+/// The mark of a candidate at a stage of an action: that of the action, where it is on him; else the other mark.
 fn mark_by(action: &Action, c: u8, other: u32) -> u32
     ensures { result ≡ mark_by_of action.now c other }
 {
@@ -156,7 +156,7 @@ fn votes_in(candidates: &Columns, figures: &[Figure]) -> [Votes; MAX_CANDIDATES]
     votes
 }
 
-/// The action on a candidate that his mark tells, where it tells one.
+/// The action on a candidate that his mark shows, where it shows one.
 fn action_by(mark: u32, c: u8) -> Option<Action>
     ensures { result ≡ action_by_mark mark c }
 {
@@ -168,7 +168,7 @@ fn action_by(mark: u32, c: u8) -> Option<Action>
     }
 }
 
-/// The action that the candidates' marks tell; where none does, the first stage's.
+/// The action that the candidates' marks show; where none does, the first stage's.
 fn action_in(candidates: &Columns, figures: &[Figure]) -> Action
     requires { length figures.now ≡ length candidates.now }
     ensures { (f : ℕ → Figure) → figures.now ≡ map f candidates.now → result ≡ action_shown f candidates.now }
@@ -211,10 +211,9 @@ fn push_stage(
     Ok(())
 }
 
-/// The stages whose figures these are, from the first one's on: each has as many figures as there are
-/// candidates, and two. None where they are too few or too many for that. Of the figures of a count whose
-/// candidates these are, all its stages; of others, what their marks and units come to. An error is want of
-/// memory.
+/// The stages whose figures these are, from those of the first stage on. Each stage has as many figures as there are candidates,
+/// and two more. None where there are too few or too many figures for that. The figures of a count with these candidates give all
+/// its stages; others give what their marks and units come to. An error is want of memory.
 pub fn stages_of_figures(
     alloc: Global,
     candidates: &Columns,

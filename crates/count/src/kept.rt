@@ -34,9 +34,9 @@ pub struct NextStage {
     pub stages: Vec<Stage>,
 }
 
-/// A count as it was kept: its bundles, where they lie, and the stages so far, from which it goes on; no stage
-/// is counted anew. What was kept was read from somewhere, and where that fails it may be anything. So nothing
-/// is asked of it but its ranges, which are looked at, and what is told is right where it was kept of a count.
+/// A count as it was kept: its bundles, where they lie, and the stages so far, from which it goes on; no stage is counted anew.
+/// What was kept was read from somewhere, and where that fails it may be anything. So nothing is asked of it but its ranges,
+/// which are looked at. What the count then answers is right where it was kept of a count.
 #[derive(Drop)]
 pub struct KeptCount {
     terms: Terms,
@@ -76,8 +76,8 @@ impl KeptCount {
         })
     }
 
-    /// A count that was kept. None where it is out of the range of any count: more stages than a count can have, a holder
-    /// above `MAX_CANDIDATES`, a value above one vote, or more lost at the newest stage than all papers give. Takes no memory.
+    /// A count that was kept, or none where it is out of the range of any count. Then it has more stages than a count can have, a
+    /// holder above `MAX_CANDIDATES`, a value above one vote, or more lost at the newest stage than all papers give. Takes no memory.
     pub fn resume(
         candidates: Columns,
         seats: u8,
@@ -143,8 +143,8 @@ impl KeptCount {
         elected_with(&self.terms, &self.stages)
     }
 
-    /// Where the count comes to by the stage that is due by the recorded lots, which is the only one that comes
-    /// behind those so far; none just where no action is due. An error is want of memory.
+    /// What the count comes to by the stage that is due by the recorded lots. That stage is the only one that comes after those
+    /// so far. None just where no action is due. An error is want of memory.
     pub fn next_stage(
         &self,
         alloc: Global,
@@ -190,8 +190,8 @@ fn are_sound(places: &[Placed]) -> bool
     true
 }
 
-/// Whether what was kept is in the range of a count with these candidates and bundles: its places are sound, its
-/// stages no more than there can be, and no more is lost than all papers give.
+/// Whether what was kept is in the range of a count with these candidates and bundles. Its places are sound then, its stages are
+/// no more than there can be, and no more is lost than all papers give.
 fn is_in_range(candidates: &Columns, bundles: &Bundles, places: &[Placed], stages: &[Stage]) -> bool
     ensures sound { IsTrue result → AllByRecursion IsSound places.now }
     ensures few { IsTrue result → length stages.now < 255 }

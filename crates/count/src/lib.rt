@@ -1,12 +1,10 @@
 //! The Order's count by the single transferable vote, stage by stage.
 //!
-//! A [`CountBook`] is a count that is under way: the stages that are done, what is [`Due`], and
-//! [`CountBook::advance`], which adds the one stage that is due. [`ParcelBook`] keeps the papers in
-//! parcels, as a teller does. [`BundleBook`] keeps equal papers as one of [`Bundles`], each [`Placed`]
-//! with one holder, and goes on from where another stood. [`KeptCount`] goes on from what was kept of a
-//! count, a stage at a time, whatever it was read from. [`run_count`] counts to the end with the lots
-//! that are recorded, and [`count_to`] so many stages; [`due_by`] and [`dues_to`] tell what is due by
-//! those lots.
+//! A [`CountBook`] is a count that is under way: the stages that are done, what is [`Due`], and [`CountBook::advance`], which
+//! adds the one stage that is due. [`ParcelBook`] keeps the papers in parcels, as a teller does. [`BundleBook`] keeps equal
+//! papers as one of [`Bundles`], each [`Placed`] with one holder, and goes on from where another stood. [`KeptCount`] goes on
+//! from what was kept of a count, a stage at a time, whatever it was read from. [`run_count`] counts to the end with the lots
+//! that are recorded, and [`count_to`] so many stages; [`due_by`] and [`dues_to`] say what is due by those lots.
 //!
 //! ```text
 //! if is_contest(&candidates, seats, &papers) {

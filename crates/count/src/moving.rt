@@ -17,7 +17,7 @@ use paper::Prefs;
 use std::alloc::{AllocError, Global};
 use votes::Votes;
 
-/// What a surplus does to values: it cuts them by the part that it is of the votes credited.
+/// What a surplus does to values: it multiplies each by the ratio of the surplus to the votes credited, and cuts it down.
 pub fn surplus_rule(quota: Votes, credited: Votes) -> TransferRule
     requires some { 0 < quota }
     requires above { quota < credited }

@@ -14,9 +14,8 @@ use std::alloc::{AllocError, Global};
 use std::marker::Model;
 use votes::quota;
 
-/// A count whose papers lie in parcels, as "Transfer of ballot papers" and "Exclusion of candidates"
-/// have them sorted: each holds lent preferences, from the place of their holder
-/// on, at the value at which they were received.
+/// A count whose papers lie in parcels, as "Transfer of ballot papers" and "Exclusion of candidates" have them sorted. Each
+/// parcel holds preferences that are lent to it, from the place of their holder on, at the value at which they were received.
 #[derive(Drop)]
 pub struct ParcelBook<'a> {
     alloc: Global,

@@ -44,7 +44,7 @@ fn advanced<B: CountBook>(book: &mut B, lot: Option<u8>) -> Result<Option<CountE
     }
 }
 
-/// Adds the stage that is due, or tells why there is none.
+/// Adds the stage that is due, or says why there is none.
 #[tactic(auto, using(crate::proofs::Law::DueLemmas::due_lot))]
 pub fn step<B: CountBook>(book: &mut B, lots: &[(u8, u8)]) -> Result<Option<CountEnd>, AllocError>
     ensures same { B.contest book.new ≡ B.contest book.old }
@@ -72,12 +72,10 @@ pub fn step<B: CountBook>(book: &mut B, lots: &[(u8, u8)]) -> Result<Option<Coun
 
 /// Adds stages until the count is finished, or a lot is needed that isn't recorded.
 ///
-/// A lot is a pair of a stage, counted from 1, and the candidate that it names; where two are for
-/// one stage, the first counts. The stages so far have to be right for these lots. The book then has
-/// the whole count: whatever list of stages is right for the same lots and papers, in any order, is a
-/// beginning of it, and whatever list is a count equals it. Of two right lists one is a beginning of
-/// the other. After want of memory the book has the stages made so far: they are right, and those
-/// from before are a beginning of them.
+/// A lot is a pair: a stage, counted from 1, and the candidate that it names. Where two are for one stage, the first counts. The stages
+/// so far have to be right for these lots. The book then has the whole count: whatever list of stages is right for the same lots and
+/// papers, in any order, is a beginning of it, and whatever list is a count equals it. Of two right lists one is a beginning of the
+/// other. After want of memory the book has the stages made so far: they are right, and those from before are a beginning of them.
 #[tactic(auto, using(crate::proofs::Law::RightLemmas::beginnings))]
 pub fn run_count<B: CountBook>(book: &mut B, lots: &[(u8, u8)]) -> Result<CountEnd, AllocError>
     requires { IsRight (B.contest book.old) lots.now (B.history book.old) }

@@ -46,7 +46,7 @@ fn add_worth(sums: &mut [u64; HOLDERS], at: &Placed, papers: u32)
     sums[usize::from(at.holder)] += u64::from(papers) * at.value.units();
 }
 
-/// What the papers of each holder are worth, in units: of no one, and of each number.
+/// What the papers of each holder are worth, in units: those that nobody holds, and those of each number.
 fn sums(bundles: &Bundles, places: &[Placed]) -> [u64; HOLDERS]
     requires sound { AllByRecursion IsSound places.now }
     requires small { (h : ℕ) → worth_placed (value_to h) places.now bundles.now ≤ max_units }

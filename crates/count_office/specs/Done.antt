@@ -11,11 +11,11 @@ use Rattle.desk.specs.declared.orders.Task.{Task}
 abbrev pub unknown : Folder
 unknown path = None
 
--- The task was done: the program ends with this status, and the headline holds of a page, however much of it was told. (Whoever watches a long order
--- on a terminal is told more than the page.)
+-- The task was done: the program ends with this status, and the headline holds of a page, however much of it was printed. (Whoever watches a long
+-- order on a terminal sees more than the page.)
 abbrev pub IsDone : Task → ℕ → State → State → Type 0
 IsDone task ends old new = (cut : Cut) × (page : Page) × (HasCleanDisk new → Headline unknown task cut page ends old new)
 
--- the files of a copy were closed, and nothing more is told; or its log couldn't be put into it, which is told on the error output
+-- the files of a copy were closed, and nothing more is printed; or its log couldn't be put into it, and the error output says so
 abbrev pub EndsCopy : {E : Type 0} → (E → Option (List ℕ)) → (E → ℕ) → E → E → ℕ → Type 0
 EndsCopy taken failed_calls old new ends = ((ends ≡ 0) × (new ≡ old)) ⊎ IsErrorTold taken failed_calls old new (failed CopyFailed).err 3 ends

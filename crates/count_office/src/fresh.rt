@@ -26,7 +26,7 @@ fn failure_of(error: &io::Error) -> Failure {
     }
 }
 
-/// Nothing has the name of a log of a database at a path, not even a link.
+/// Sees that nothing has the name of a log of a database at a path, not even a link.
 fn has_no_log(rt: &HostRuntime, path: &str, ending: &str) -> Result<(), Failure> {
     let Ok(log) = format!(in rt.alloc(); "{path}{ending}") else {
         return Err(Failure::Office(Fault::Memory));
@@ -85,8 +85,8 @@ impl Fresh {
         }
     }
 
-    /// Both are too short for an office, as `sqlite` makes them where it opens them: no other program has made one in
-    /// them. An error is that their length can't be looked at.
+    /// Whether both are too short for an office, as `sqlite` makes them where it opens them: then no other program has made an
+    /// office in them. An error is that their length can't be looked at.
     pub fn hold_none(&self, rt: &HostRuntime) -> io::Result<bool> {
         let database = length_at(rt, self.database.as_str())?.unwrap_or(0);
         let log = length_at(rt, self.log.as_str())?.unwrap_or(0);

@@ -1,4 +1,4 @@
-//! An order on a database that another program serves: it is handed over to that one, and what it tells is printed as it comes.
+//! An order on a database that another program serves. It is handed over to that program, and what comes of it is printed as it comes.
 
 ghost use Rattle.std.specs.Prelude.{◌≡◌, ◌≢◌, ◌-◌, ◌^◌, ◌<◌, Err, None, IfOk, IfSome, OnErr};
 ghost use Rattle.handover.specs.Spelling.{PieceFits, PiecesFit, piece_entries, piece_entry};
@@ -242,7 +242,7 @@ fn print_over<E: Sink>(stream: &mut UnixStream, len: u32, err: &mut E) -> Result
     }
 }
 
-/// Prints what is told of an order as it comes, and gives its status.
+/// Prints what comes of an order as it comes, and gives its status.
 fn print_frames<O: Sink, E: Sink>(
     stream: &mut UnixStream,
     out: &mut O,
@@ -268,8 +268,8 @@ fn send(stream: &mut UnixStream, message: &[u8]) -> io::Result<()> {
     stream.write_all(message)
 }
 
-/// Hands an order on the database at a path over to whoever serves it, prints what it tells, and gives the status; none,
-/// where nobody serves it. Where whoever serves it goes before the end, fault 102 is told: the order is to be given again.
+/// Hands an order on the database at a path over to whoever serves it, prints what comes of it, and gives the status; none, where
+/// nobody serves it. Where whoever serves it goes before the end, it prints fault 102: the order is to be given again.
 ///
 /// The files that it names are read here, with the rights and in the folder of whoever gives the order.
 pub fn hand_over<O: Sink, E: Sink>(
@@ -292,7 +292,7 @@ pub fn hand_over<O: Sink, E: Sink>(
         Ok(message) => message,
         Err(fault) => return Some(tell_failure(Failure::Office(fault), err)),
     };
-    // Where it is cut off, what was told before the end is printed all the same.
+    // Where it is cut off, what came before the end is printed all the same.
     let _ = send(&mut stream, &message);
     let status = match print_frames(&mut stream, out, err) {
         Ok(status) => status,

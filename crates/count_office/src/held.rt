@@ -25,8 +25,8 @@ pub struct Held {
 }
 
 impl Held {
-    /// Holds the file at a path. An error is also that another program holds it, or that this name doesn't lead to it,
-    /// or another one does too.
+    /// Holds the file at a path. An error is that it can't be locked, or that another program holds it; or that this name doesn't
+    /// lead to the file, or another name does too.
     pub fn take(rt: &HostRuntime, path: &str) -> io::Result<Held> {
         // a pipe or a device isn't opened, since that may wait
         if !fs::symlink_metadata(rt, path)?.is_file() {

@@ -194,8 +194,8 @@ fn copy<S: Alter, O: Sink, E: Sink>(
     }
 }
 
-/// Prints the journal of the office, once it was played over an empty one that is kept in memory alone. The office is
-/// only read. Of the memory nothing is asked: what is printed with status 0 makes the very office.
+/// Prints the journal of the office, once it was played over an empty one that is kept in memory alone. The office is only read.
+/// Nothing is asked of that memory: what is printed with status 0 makes the very office.
 fn journal<S: Alter, O: Sink, E: Sink>(
     rt: &HostRuntime,
     mut conn: Connection<S>,
@@ -226,7 +226,7 @@ fn is_busy(error: &sqlite::Error) -> bool {
     matches!(error, sqlite::Error::SqliteFailure(ErrorCode::DatabaseBusy))
 }
 
-/// Why a copy can't be made: want of memory is told as ever.
+/// Why a copy can't be made; want of memory is reported as ever.
 fn failure_of(error: sqlite::Error) -> Failure {
     match fault_of(error) {
         Fault::Memory => Failure::Office(Fault::Memory),
@@ -234,8 +234,8 @@ fn failure_of(error: sqlite::Error) -> Failure {
     }
 }
 
-/// Why no copy is begun in files that were made for it, if it isn't: another program has made an office there before, which
-/// is left; or they can't be looked at.
+/// Why no copy is begun in files that were made for it, if none is: another program
+/// has made an office in them before, which is left; or they can't be looked at.
 fn why_not_begun(rt: &HostRuntime, fresh: &Fresh) -> Option<Failure> {
     match fresh.hold_none(rt) {
         Ok(true) => None,
@@ -247,8 +247,8 @@ fn why_not_begun(rt: &HostRuntime, fresh: &Fresh) -> Option<Failure> {
     }
 }
 
-/// Closes the files that were made for a copy, of which this is told and known. Where no copy is told they are removed while
-/// they are held. With status 0 the database file alone is the copy.
+/// Closes the files that were made for a copy, by what is known of it. Where no copy is reported it removes them while it holds
+/// them. With status 0 the database file alone is the copy.
 fn finish<D: Disk + Drop, E: Sink>(
     rt: &HostRuntime,
     fresh: &Fresh,
@@ -315,8 +315,8 @@ fn fill_open<S: Alter, D: Disk + Drop, O: Sink, E: Sink>(
     finish(rt, fresh, made, status, state, err)
 }
 
-/// Makes a copy of the open office whose database is at a path, at another one where there is nothing yet. It goes on, and is
-/// only read.
+/// Makes a copy of the open office whose database is at a path; the copy comes to
+/// another path, where there is nothing yet. The office goes on, and is only read.
 fn copy_served<S: Alter, O: Sink, E: Sink>(
     rt: &HostRuntime,
     office: &mut Office<S>,
@@ -348,8 +348,7 @@ fn copy_served<S: Alter, O: Sink, E: Sink>(
     }
 }
 
-/// Closes a copy, so that it stands alone, and gives the status: 0, or 3 where its log can't be copied into it, which is
-/// told.
+/// Closes a copy, so that it stands alone, and gives the status: 0, or 3 where its log can't be copied into it, which it reports.
 fn closed_copy<D: Disk + Drop, E: Sink>(
     made: Connection<FileStore<D>>,
     err: &mut E,
@@ -381,8 +380,8 @@ fn close<D: Disk + Drop>(conn: Connection<FileStore<D>>) -> Option<Files<D>>
 /// Opens the database at a path, which is held, does an order over it, and closes it. Where the order failed, nothing is
 /// left that wasn't there.
 ///
-/// Two stretches of writing rest on what `sqlite` states: `Connection::open_from` makes the log where it is
-/// missing and takes up what it holds, and `close` copies it; `perform` speaks of all between.
+/// Two stretches of writing rest on what `sqlite` states: `Connection::open_from` makes the log where it is missing and takes up
+/// what it holds, and `close` copies it. `perform` speaks of all between.
 fn perform_in<O: Sink, E: Sink>(
     rt: &HostRuntime,
     place: Place<'_>,
@@ -448,8 +447,8 @@ fn hand_over_watched<O: Sink, E: Sink>(
     }
 }
 
-/// Hands an order on a database that another program holds over to it, and gives the status. Where that one doesn't serve it,
-/// it is told that it is held.
+/// Hands an order on a database that another program holds over to it, and gives the
+/// status. Where that program doesn't serve it, it reports that the file is held.
 fn hand_over_held<O: Sink, E: Sink>(
     rt: &HostRuntime,
     database: &str,
@@ -523,7 +522,7 @@ fn follow<O: Sink, E: Sink>(rt: &HostRuntime, words: &[&str], out: &mut O, err: 
     }
 }
 
-/// Tells the help of an order. A word that names no order is DB, and the help of all orders is told.
+/// Prints the help of an order. A word that names no order is DB, and then it prints the help of all orders.
 fn tell_help_of<O: Sink, E: Sink>(rt: &HostRuntime, name: &str, out: &mut O, err: &mut E) -> u8
     requires out { O.failed out.old < 2 ^ 64 - 1 }
     requires err { E.failed err.old < 2 ^ 64 - 1 }
@@ -537,8 +536,7 @@ fn tell_help_of<O: Sink, E: Sink>(rt: &HostRuntime, name: &str, out: &mut O, err
     }
 }
 
-/// Does what the program's words ask, and gives the status. Help and the version are told without a database too,
-/// also the help of an order.
+/// Does what the program's words ask, and gives the status. It prints help and the version without a database too, also the help of an order.
 fn run<O: Sink, E: Sink>(rt: &HostRuntime, out: &mut O, err: &mut E) -> u8
     requires out { O.failed out.old < 2 ^ 64 - 1 }
     requires err { E.failed err.old < 2 ^ 64 - 1 }

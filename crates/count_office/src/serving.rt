@@ -135,7 +135,7 @@ fn serve_at<S: Alter>(
     }
 }
 
-/// Says on the error output that there is no socket for orders. Where nobody can be told, it serves all the same.
+/// Says on the error output that there is no socket for orders. Where nobody can read that, the office serves all the same.
 fn say_no_socket(rt: &HostRuntime, error: &io::Error) {
     let mut told = rt.stderr();
     let why = reason_of(error);

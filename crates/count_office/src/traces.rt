@@ -13,8 +13,7 @@ use std::io::{self, ErrorKind};
 /// A log of fewer bytes holds no page: the smallest has 512.
 const MIN_LOG: u64 = 512;
 
-/// The log that `sqlite` makes before it writes the first page of a database has no more bytes: an `init` that was
-/// stopped then may be given again.
+/// The most bytes of the log that `sqlite` makes before it writes the first page of a database. An `init` that was stopped then may be given again.
 const MAX_BEGUN_LOG: u64 = 41;
 
 /// A database and its log of fewer bytes together hold no office: each of its eleven tables and of their
@@ -27,8 +26,8 @@ const MAX_EMPTY: u64 = 1;
 /// The rights of a new database, as far as the system's mask lets.
 const RIGHTS: u32 = 0o644;
 
-/// What stands behind the name of a database in those of its logs: the one of `sqlite`, and the one that other programs
-/// of SQLite play back into a database.
+/// What stands behind the name of a database in those of its logs: in that of `sqlite`, and in that of the log which other
+/// programs of SQLite play back into a database.
 pub const LOG_ENDINGS: [&str; 2] = [LOG, JOURNAL];
 
 const LOG: &str = "-wal";
@@ -49,7 +48,7 @@ pub fn length_at(rt: &HostRuntime, path: &str) -> io::Result<Option<u64>> {
     }
 }
 
-/// The same, where a file that can't be looked at is one of the greatest length: it isn't taken for empty.
+/// The same, but a file that can't be looked at counts as one of the greatest length: it isn't taken for empty.
 fn greatest_length_at(rt: &HostRuntime, path: &str) -> Option<u64> {
     length_at(rt, path).unwrap_or(Some(u64::MAX))
 }

@@ -24,7 +24,7 @@ use Rattle.desk.specs.Pages.{Page, failed, replied}
 use Rattle.desk.specs.declared.lines.Failure.{Failure}
 use Rattle.desk.specs.declared.lines.Failure.TheVariants.{Office, CopyTaken, CopyFailed, Output, BeingServed}
 
--- the line that tells how much a copy has
+-- the line that says how much a copy has
 unfoldable pub copied_text : Holdings → Text
 copied_text h =
     codes "copied " ++ (decimal h.wards ++ (codes " wards, " ++ (decimal h.batches ++ (codes " batches, "
@@ -39,13 +39,13 @@ EndsCopying old new CopyFailed = ⊤
 EndsCopying old new Output = ⊥
 EndsCopying old new BeingServed = ⊥
 
--- what the other database holds where no copy is told: what it held before, but where writing it failed
+-- what the other database holds where no copy is reported: what it held before, but where writing it failed
 abbrev pub state_behind : CopyFault → CopyState
 state_behind (uncopied.Office fault) = Untouched
 state_behind uncopied.Taken = Untouched
 state_behind (uncopied.Copy fault) = Unknown
 
--- What is told of the other database is so, whatever the office was. A copy that is told is there, whole, and is what the reply says. With any
+-- What is said of the other database is so, whatever the office was. A copy that is reported is there, whole, and is what the reply says. With any
 -- other page nothing was written; or a stop leaves what it could leave before, or a whole office.
 abbrev pub HoldsCopy : CopyState → Page → State → State → Type 0
 HoldsCopy Whole page copy_old copy_new =
@@ -55,16 +55,16 @@ HoldsCopy Unknown page copy_old copy_new =
     (failure : Failure) × (page ≡ failed failure)
     × (HasCleanDisk copy_new → IsBlank copy_old → (trees : Trees) → copy_new.may_leave trees → copy_old.may_leave trees ⊎ ((s : OfficeState) × StoresState s trees))
 
--- An office at a state is copied into a database with nothing in it, and it is told how much the copy has, which keeps that very state; or
--- a failure is told, and a stop leaves of the copy what it could leave before, or the whole of it. Where the copy's disk isn't as `sqlite`
--- states it, that is told all the same.
+-- An office at a state is copied into a database with nothing in it, which then keeps that very state, and the page says how much the copy has. Or
+-- the page has a failure, and a stop leaves of the copy what it could leave before, or the whole of it. Where the copy's disk isn't as `sqlite`
+-- states it, the page has one or the other all the same.
 abbrev pub IsCopiedAt : OfficeState → Page → CopyState → State → State → State → State → Type 0
 IsCopiedAt s page left old new copy_old copy_new =
     ((page ≡ replied (copied_text (holdings_of s))) × (left ≡ Whole) × (HasCleanDisk copy_new → IsAt s copy_new))
     ⊎ ((failure : Failure) × (page ≡ failed failure) × EndsCopying old new failure × (HasCleanDisk copy_new → LeavesNoneOrAll s copy_old copy_new))
 
--- At a database that holds the tables of no state the fault is told that an opening gives there. A failing store is told only where the store
--- failed, or where rowids aren't the rows' own. Nothing is copied.
+-- At a database that holds the tables of no state the page has the fault that an opening gives there. A failing store is reported only where the
+-- store failed, or where rowids aren't the rows' own. Nothing is copied.
 pub record IsNoneCopied (db : Database) (page : Page) (left : CopyState) (old new : State) : Type 0 where
   pub fault : Fault
   pub told : page ≡ failed (Office fault)
@@ -72,8 +72,8 @@ pub record IsNoneCopied (db : Database) (page : Page) (left : CopyState) (old ne
   pub cause : FailsToList db old new fault
   pub untouched : left ≡ Untouched
 
--- What comes of the order, by what its own connection rests at and where the copy is to be made: the office is copied; what an opening tells
--- is told, and nothing is copied; or nothing is copied onto a table of our names. Its own office is only read, and a stop leaves it as it was.
+-- What comes of the order, by what its own connection rests at and where the copy is to be made. The office is copied. Or the page has what an opening
+-- reports, and nothing is copied. Or nothing is copied onto a table of our names. The order's own office is only read, and a stop leaves it as it was.
 pub record IsCopied (page : Page) (left : CopyState) (old new copy_old copy_new : State) : Type 0 where
   pub in_office : (db : Database) → RestsAt db old → (s : OfficeState) → IsLeftAt s db → IsBlank copy_old → IsCopiedAt s page left old new copy_old copy_new
   pub elsewhere : (db : Database) → IsOurs db.schema → RestsAt db old → HoldsNoState db → IsBlank copy_old → IsNoneCopied db page left old new
@@ -81,8 +81,8 @@ pub record IsCopied (page : Page) (left : CopyState) (old new copy_old copy_new 
   pub reads : OnlyReads old new
   pub leaves : (db : Database) → RestsAt db old → (earlier : List Request) → IsLeftAt (after empty_office earlier) db → LeavesState new (λ x. x ≡ after empty_office earlier)
 
--- What comes of the order in an office that is open at a state, and goes on: the copy keeps that very state, and it is told how much it has; or a failure
--- is told, and a stop leaves of the copy what it could leave before, or the whole of it.
+-- What comes of the order in an office that is open at a state, and goes on. The copy keeps that very state, and the page says how much it has. Or the
+-- page has a failure, and a stop leaves of the copy what it could leave before, or the whole of it.
 abbrev pub IsCopiedOpen : OfficeState → Page → CopyState → State → State → Type 0
 IsCopiedOpen s page left copy_old copy_new =
     ((page ≡ replied (copied_text (holdings_of s))) × (left ≡ Whole) × (HasCleanDisk copy_new → IsBlank copy_old → IsAt s copy_new))

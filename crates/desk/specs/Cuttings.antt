@@ -46,7 +46,7 @@ abbrev pub IsFaultOfLines : List Typed → ScriptFault → Type 0
 IsFaultOfLines lines fault.Memory = ⊤
 IsFaultOfLines lines (fault.Line number flaw) = IsFirstFlaw lines number flaw
 
--- what comes of a script's lines: their turns are taken; or what is wrong with them is told, and nothing is sent
+-- what comes of a script's lines: their turns are taken; or what is wrong with them is reported, and nothing is sent
 abbrev pub IsReplayOf : Bool → Folder → OfficeState → List Typed → Course → State → Bool → State → Type 0
 IsReplayOf keep folder s lines course old closed st =
     ((turns : List Turn) × AreTurns lines turns × IsPlayed old closed st keep folder s turns course)

@@ -1,10 +1,10 @@
--- Files, as far as they tell their bytes.
+-- Files, as far as it is known which bytes they have.
 use Rattle.std.specs.Prelude.{◌≡◌, ℕ, List, Option, Some, None, IfSome}
 use Rattle.clap.specs.Words.{Text}
 use Rattle.keyfile.specs.Digests.{IsReadAs}
 use Rattle.keyfile.specs.Reading.{Known}
 
--- a file that is named: none where it can't be opened, and of one that is, its bytes, as far as they are told
+-- a file that is named: none where it can't be opened, and of one that is, its bytes, as far as they are known
 abbrev pub File : Type 0
 File = Option (Option (List ℕ))
 

@@ -33,16 +33,16 @@ pub record IsScriptOf (text : Text) (requests : List Request) : Type 0 where
 abbrev pub IsJournalOf : OfficeState → Text → Type 0
 IsJournalOf s text = (requests : List Request) × IsScriptOf text requests × LeadTo requests s
 
--- What is told of the office of a state: a journal of it; or that there is none; or a fault, where memory was wanting or a store failed.
+-- The page of the office of a state: a journal of it; or that there is none; or a fault, where memory was wanting or a store failed.
 abbrev pub IsJournalTold : OfficeState → Page → Type 0
 IsJournalTold s page = ((text : Text) × (page ≡ printed text) × IsJournalOf s text) ⊎ ((page ≡ unjournalled) ⊎ IsFailed IsMemoryOrStore page)
 
--- What is told where the database that its connection rests at holds no office: the fault that the database gives, with its cause.
+-- The page where the database that its connection rests at holds no office: the fault that the database gives, with its cause.
 abbrev pub IsToldElsewhere : Page → State → State → Type 0
 IsToldElsewhere page old new = (db : Database) → IsOurs db.schema → RestsAt db old → HoldsNoState db → IsFailed (λ fault. IsToldBy db fault × FailsToList db old new fault) page
 
--- What comes of the order, by what its own connection rests at. Where that is an office, and the other connection has an empty database, whose disk is
--- clean once the journal was tried in it, a journal of the office is told, or why not. Its own office is only read, and a stop leaves it as it was.
+-- What comes of the order, by what its own connection rests at. Let that be an office, and let the other connection have an empty database, whose disk is clean once the
+-- journal was tried in it. Then the page has a journal of the office, or says why there is none. The order's own office is only read, and a stop leaves it as it was.
 pub record IsJournalled (page : Page) (old new blank trial : State) : Type 0 where
   pub in_office : (db : Database) → RestsAt db old → (s : OfficeState) → IsLeftAt s db → IsBlank blank → HasCleanDisk trial → IsJournalTold s page
   pub elsewhere : IsToldElsewhere page old new

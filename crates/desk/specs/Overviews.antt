@@ -37,7 +37,7 @@ unfoldable pub elected_words : ℕ → Option (List ℕ) → Text
 elected_words seats None = []
 elected_words seats (Some elected) = codes ", elected " ++ (listed elected ++ (codes ", " ++ (decimal (seats - length elected) ++ codes " seats empty")))
 
--- the line that tells how a ward stands, its name last
+-- the line on how a ward stands, its name last
 unfoldable pub ward_line : WardView → Text
 ward_line v = seats_words v ++ (codes ", " ++ (untaken_words v ++ (codes ", " ++ (open_words v ++ (elected_words v.ward.seats v.elected ++ (codes ": " ++ v.ward.name))))))
 
@@ -67,7 +67,7 @@ unfoldable pub twin_words : Option ℕ → Text
 twin_words None = []
 twin_words (Some batch) = codes ", same papers as batch " ++ decimal batch
 
--- the line that tells how a batch stands
+-- the line on how a batch stands
 unfoldable pub batch_line : BatchView → Text
 batch_line v =
     size_words v ++ (flat_map clerk_words v.clerks ++ (codes ", " ++ (standing_word v.standing ++ (codes ", " ++ (decimal v.doubtful_open ++ (codes " doubtful open" ++ twin_words v.twin))))))
@@ -102,7 +102,7 @@ judgement_words names (Valid prefs) = codes "preferences " ++ preferences_from n
 judgement_words names (Rejected code) = codes "rejected " ++ (decimal code ++ (codes ", " ++ rejection_words code))
 judgement_words names Open = codes "doubtful, no verdict yet"
 
--- the line that tells of it
+-- the line on it
 unfoldable pub paper_line : List Text → PaperView → Text
 paper_line names v = codes "batch " ++ (decimal v.batch ++ (codes " paper " ++ (decimal v.paper ++ (codes ": " ++ judgement_words names v.judgement))))
 
@@ -113,18 +113,18 @@ unfoldable pub verdict_words : List Text → Judgement → Option JudgedEntry �
 verdict_words names judgement None = codes "open"
 verdict_words names judgement (Some v) = if v.code == 0 then codes "accepted " ++ (v.marks ++ (codes ": " ++ judgement_words names judgement)) else codes "rejected " ++ decimal v.code
 
--- the line that tells of it
+-- the line on it
 unfoldable pub doubtful_line : List Text → DoubtfulView → Text
 doubtful_line names v =
     codes "batch " ++ (decimal v.counted.batch ++ (codes " paper " ++ (decimal v.counted.paper ++ (codes " " ++ verdict_words names v.counted.judgement v.verdict))))
 
 -- ---- differences, and receipts
 
--- the line that tells on which papers a batch differs
+-- the line on which papers a batch differs
 unfoldable pub differences_line : DifferencesView → Text
 differences_line v = codes "batch " ++ (decimal v.batch.number ++ (codes " round " ++ (decimal v.batch.round ++ (codes " differs on papers " ++ listed v.papers))))
 
--- the line that tells a receipt: the actor, the id, the subject and the reply
+-- the line of a receipt: the actor, the id, the subject and the reply
 unfoldable pub receipt_line : ReceiptEntry → Text
 receipt_line r = codes "actor " ++ (decimal r.actor ++ (codes " id " ++ (r.id ++ (codes ", " ++ (r.subject ++ (codes ": " ++ r.reply))))))
 
@@ -141,7 +141,7 @@ paper_lines v = lines_of (paper_line (names_of v.candidates)) v.papers
 unfoldable pub doubtful_lines : DoubtfulPapersView → Text
 doubtful_lines v = lines_of (doubtful_line (names_of v.candidates)) v.papers
 
--- what is told of how all stands, or why there is nothing
+-- the page on how all stands, or why there is nothing
 abbrev pub page_asked : OfficeState → Question → Page
 page_asked s question.Wards = page_found (λ wards. printed (lines_of ward_line wards)) (wards_told s)
 page_asked s (question.Batches ward) = page_found (λ batches. printed (lines_of batch_line batches)) (batches_told s ward)

@@ -69,7 +69,7 @@ failure_text CopyTaken = codes "copy is there already"
 failure_text CopyFailed = codes "copy not written"
 failure_text BeingServed = codes "office is being served"
 
--- why no copy was made; want of memory is told as ever
+-- why no copy was made; want of memory is reported as ever
 abbrev pub failure_of : CopyFault → Failure
 failure_of (uncopied.Office fault) = Office fault
 failure_of uncopied.Taken = CopyTaken
@@ -127,7 +127,7 @@ codes_made_page count = printed (joined (codes "codes written: " ∷ decimal cou
 abbrev pub failed : Failure → Page
 failed failure = record { out = []; err = numbered_line (codes "fault ") (failure_number failure) (failure_text failure); status = 3 }
 
--- what a closed office tells
+-- what a closed office prints
 abbrev pub closed_page : Page
 closed_page = failed (Office fault.Closed)
 
@@ -135,7 +135,7 @@ closed_page = failed (Office fault.Closed)
 abbrev pub unjournalled : Page
 unjournalled = record { out = []; err = line (codes "no journal: what was written does not make this office"); status = 1 }
 
--- what the machine tells
+-- what is printed of the machine's answer
 abbrev pub page_told : Told → Page
 page_told (done reply) = replied reply
 page_told (again reply) = replied reply
@@ -145,14 +145,14 @@ page_told (no why) = refused why
 abbrev pub page_for : Request → Told → Page
 page_for r told = page_told told
 
--- why a count goes no further: that no seat is left, and that a lot is needed, are replies; so it is behind the first request that the ward was declared since
+-- why a count goes no further. That no seat is left, and that a lot is needed, are replies. So is, behind the first request, that the ward was declared since.
 abbrev pub page_at_rest : Bool → Reason → Page
 page_at_rest is_first CountFinished = replied (codes "count finished")
 page_at_rest is_first (LotNeeded stage tied) = replied (reason_text (LotNeeded stage tied))
 page_at_rest is_first WrongPhase = if is_first then refused WrongPhase else replied (codes "count finished")
 page_at_rest is_first why = refused why
 
--- what the machine tells of a request for one stage more
+-- what is printed of the machine's answer to a request for one stage more
 abbrev pub page_counted : Bool → Told → Page
 page_counted is_first (done reply) = replied reply
 page_counted is_first (again reply) = replied reply
@@ -197,7 +197,7 @@ words_page (words.Words text status) = if status == 0 then printed (string_bytes
 
 -- ---- pages of a script's lines
 
--- the front of what is told of a script's line, by its number
+-- the front of what is printed of a script's line, by its number
 abbrev pub line_front : Option ℕ → Text
 line_front None = []
 line_front (Some number) = joined (codes "line " ∷ decimal number ∷ codes ": " ∷ [])
@@ -240,7 +240,7 @@ pub record IsPut {W X E : Type 0} (taken : W → Option (List ℕ)) (failed : W 
   pub cut_off : OnErr result (AppendsBeginning (taken old) (taken new) text)
   pub err : OnErr result (failed new ≡ failed old + 1)
 
--- the text was told on the error output, with this status; or a beginning of it, and the status is 3
+-- the text was printed on the error output, with this status; or a beginning of it, and the status is 3
 abbrev pub IsErrorTold : {E : Type 0} → (E → Option (List ℕ)) → (E → ℕ) → E → E → Text → ℕ → ℕ → Type 0
 IsErrorTold taken failed old new text wanted status =
     (Appends (taken old) (taken new) text × (failed new ≡ failed old) × (status ≡ wanted))
@@ -248,18 +248,18 @@ IsErrorTold taken failed old new text wanted status =
 
 -- ---- what was told of a page
 
--- the two outputs: the bytes that each took, as far as it tells them, and how many of its calls failed
+-- the two outputs: the bytes that each took, as far as it says which, and how many of its calls failed
 pub record Outputs : Type 0 where
   pub out : Option (List ℕ)
   pub out_failed : ℕ
   pub err : Option (List ℕ)
   pub err_failed : ℕ
 
--- two outputs, by what each tells of itself
+-- two outputs, by what each says of itself
 abbrev pub outputs_of : {O E : Type 0} → (O → Option (List ℕ)) → (O → ℕ) → (E → Option (List ℕ)) → (E → ℕ) → O → E → Outputs
 outputs_of taken failed taken_err failed_err out err = record { out = taken out; out_failed = failed out; err = taken_err err; err_failed = failed_err err }
 
--- the page was told whole, and the program ends with its status
+-- the page was taken whole, and the program ends with its status
 pub record IsWhole (old new : Outputs) (page : Page) (status : ℕ) : Type 0 where
   pub out : Appends old.out new.out page.out
   pub out_failed : new.out_failed ≡ old.out_failed
@@ -267,13 +267,13 @@ pub record IsWhole (old new : Outputs) (page : Page) (status : ℕ) : Type 0 whe
   pub err_failed : new.err_failed ≡ old.err_failed
   pub ends : status ≡ page.status
 
--- how much was told of a page: all; or a beginning, where the output failed; or all that goes to the output, where the error output failed
+-- how much was taken of a page: all; or a beginning, where the output failed; or all that goes to the output, where the error output failed
 pub data Cut : Type 0 where
   uncut : Cut
   cut_behind : Text → Cut
   cut_error : Cut
 
--- the output failed: it took this beginning, and that is told on the error output, behind what the page has for it; or a beginning, where that failed too
+-- the output failed: it took this beginning, and the error output says so, behind what the page has for it; or it has a beginning of that, where it failed too
 pub record IsOutputBroken (took : Text) (old new : Outputs) (page : Page) (status : ℕ) : Type 0 where
   pub out : Appends old.out new.out took
   pub begins : (left : Text) × (took ++ left ≡ page.out)
@@ -288,23 +288,23 @@ pub record IsErrorOutputBroken (old new : Outputs) (page : Page) (status : ℕ) 
   pub err_failed : new.err_failed ≡ old.err_failed + 1
   pub ends : status ≡ 3
 
--- a page was told as far as this
+-- a page was taken as far as this
 abbrev pub IsShown : Cut → Outputs → Outputs → Page → ℕ → Type 0
 IsShown uncut old new page status = IsWhole old new page status
 IsShown (cut_behind took) old new page status = IsOutputBroken took old new page status
 IsShown cut_error old new page status = IsErrorOutputBroken old new page status
 
--- a page was told, however far
+-- a page was taken, however far
 abbrev pub Shows : Outputs → Outputs → Page → ℕ → Type 0
 Shows old new page status = (cut : Cut) × IsShown cut old new page status
 
--- how much was told of a page, where a text above it was told whole
+-- how much was taken of a page, where a text above it was taken whole
 abbrev pub cut_below : Text → Cut → Cut
 cut_below text uncut = uncut
 cut_below text (cut_behind took) = cut_behind (text ++ took)
 cut_below text cut_error = cut_error
 
--- what was told is some page of a kind, that of a script's line or not
+-- what was printed is some page of a kind, that of a script's line or not
 pub record TellsOf (line : Option ℕ) (old new : Outputs) (status : ℕ) (P : Cut → Page → Type 0) : Type 0 where
   pub page : Page
   pub cut : Cut

@@ -20,7 +20,7 @@ use Rattle.desk.specs.declared.lines.Failure.TheVariants.{Office}
 use Rattle.desk.specs.declared.orders.KeyingFile.{KeyingFile}
 use Rattle.desk.specs.declared.orders.Question.{Question}
 
--- there are requests of which this page came, of which so much was told, and so many of them were answered
+-- there are requests of which this page came, so much of which was taken, and so many of which were answered
 abbrev pub ComesTo : Cut → Page → (Course → Type 0) → Type 0
 ComesTo cut page P = (requests : List Request) × (answered : ℕ) × P (record { requests = requests; answered = answered; page = page; cut = cut })
 
@@ -37,11 +37,11 @@ abbrev pub IsCounted : State → Bool → State → Bool → Option ℕ → Offi
 IsCounted old closed st keep line s ward id course =
     (requests : List Request) × AreAdvances s ward id 1 requests × IsSent old closed st keep line (λ r. page_counted (is_first id r)) (IsOver closed st) s requests course
 
--- what is found of a state is told, or why there is nothing; or a fault
+-- the page has what is found of a state, or why there is nothing; or a fault
 abbrev pub IsFound : {X : Type 0} → OfficeState → (X → Page) → Result X Reason → Page → Bool → State → State → Type 0
 IsFound s shown found page closed old st = ((page ≡ page_found shown found) × IsOpenAt s closed st) ⊎ IsStopped old closed st s page
 
--- what is told of how all stands, or why that isn't; or a fault
+-- the page has how all stands, or why that can't be had; or a fault
 abbrev pub IsAskedOf : OfficeState → Question → Page → Bool → State → State → Type 0
 IsAskedOf s question page closed old st = ((page ≡ page_asked s question) × IsOpenAt s closed st) ⊎ IsStopped old closed st s page
 

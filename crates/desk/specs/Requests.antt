@@ -69,7 +69,7 @@ keyings_for k (Err fault) = Err fault
 abbrev pub HoldsRequests : {Row : Type 0} → Format Row → (Result (List Row) FileFault → Result (List Sent) FileFault) → Option (List ℕ) → File → List Request → Type 0
 HoldsRequests format sent digest file requests = IsReadFrom digest file (λ bytes. sent (file_rows format (file_records bytes)) ≡ Ok (map sent_as requests))
 
--- the file of a clerk's keying of a batch whose columns are told so
+-- the file of a clerk's keying of a batch whose columns are these, or can't be had for this reason
 abbrev pub HoldsKeying : Result (List ℕ) Reason → KeyingFile → File → List Request → Type 0
 HoldsKeying (Ok columns) k file requests = HoldsRequests (keying columns k.batch k.clerk) (keyings_for k) (asked_digest k.digest) file requests
 HoldsKeying (Err why) k file requests = ⊥
@@ -88,8 +88,8 @@ is_first id r = bytes_eq (string_bytes r.id) (id_at id 1)
 abbrev pub advances : ℕ → Text → ℕ → List Sent
 advances ward id n = map (advance_at ward id) (range_with_len 1 n)
 
--- the highest stage that a count can have. At most 30 candidates stand, and each stage behind the first, that of the first preferences, transfers the
--- papers of one of them, who is done with then: elected, his surplus, or excluded, all of them. So that is the last stage for which a lot may be drawn.
+-- the highest stage that a count can have. At most 30 candidates stand. The first stage is that of the first preferences. Each stage behind it transfers the papers
+-- of one candidate, who is done with then: of one who is elected his surplus, of one who is excluded all. So this is the last stage for which a lot may be drawn.
 abbrev pub last_stage : ℕ
 last_stage = last_lot_stage
 

@@ -180,8 +180,8 @@ line_flaw_text flaw.Digest = bad_digest
 line_flaw_text (flaw.Words text) = string_bytes text
 line_flaw_text flaw.Elsewhere = codes "error: this order stands in no script\n"
 
--- what is wrong with its words: that one which stands for a verdict, an origin or a digest is none, though `clap` takes them; what `clap` says of them;
--- or that the order stands in no script, as one that asks for help
+-- what is wrong with its words. It is that one which stands for a verdict, an origin or a digest is none, though `clap` takes them; or what `clap` says
+-- of them; or that the order stands in no script, as one that asks for help.
 abbrev pub IsFlawOfWords : List Text → LineFlaw → Type 0
 IsFlawOfWords words (flaw.NoWords why) = ⊥
 IsFlawOfWords words flaw.Verdict = (wrong_with words ≡ []) × (meaning (subcommand_of office_words words) ≡ Some no_verdict)

@@ -25,6 +25,6 @@ batch_words s = decimal s.batches ++ (codes " batches, " ++ (decimal s.taken ++ 
 unfoldable pub count_words : StatusEntry → Text
 count_words s = decimal s.doubtful_open ++ (codes " doubtful open, " ++ (decimal s.stages ++ codes " stages"))
 
--- the line that tells how a ward stands
+-- the line on how a ward stands
 unfoldable pub status_text : StatusEntry → Text
 status_text s = ward_words s ++ (codes ", " ++ (batch_words s ++ (codes ", " ++ count_words s)))

@@ -79,6 +79,6 @@ step_words (papers_stand s) = papers_words s
 step_words (count_goes stage due candidates) = due_words stage candidates due
 step_words nothing_comes = codes "declared, nothing is left to do"
 
--- the line that tells it of a ward
+-- the line on it, of a ward
 unfoldable pub step_text : ℕ → StepEntry → Text
 step_text ward step = codes "ward " ++ (decimal ward ++ (codes ": " ++ step_words step))

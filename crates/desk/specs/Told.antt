@@ -1,4 +1,4 @@
--- What is told where nothing is sent: what was asked, or why a file isn't taken.
+-- What is printed where nothing is sent: what was asked, or why a file isn't taken.
 use Rattle.std.specs.Prelude.{◌≡◌, ◌⊎◌, ℕ, List, Option, Some, None, Result, Ok, Err}
 use Rattle.register.specs.Offices.{OfficeState}
 use Rattle.register.specs.declared.command.Request.{Request}
@@ -29,7 +29,7 @@ use Rattle.desk.specs.declared.orders.KeyingFile.{KeyingFile}
 use Rattle.desk.specs.declared.scripts.LineFlaw.{LineFlaw}
 use Rattle.desk.specs.declared.scripts.ScriptFault.TheVariants as script
 
--- what an errand tells of the answer to a request that it sends: one that counts tells why the count rests
+-- what an errand prints of the answer to a request that it sends: one that counts prints why the count rests
 abbrev pub page_answered : Errand → Request → Told → Page
 page_answered (errand.Count ward id) = λ r. page_counted (is_first id.now r)
 page_answered other = page_for
@@ -48,7 +48,7 @@ abbrev pub IsRefusedKeying : Result (List ℕ) Reason → KeyingFile → File �
 IsRefusedKeying (Ok columns) k file page = IsRefusedFile (keying columns k.batch k.clerk) (asked_digest k.digest) file page
 IsRefusedKeying (Err why) k file page = page ≡ refused why
 
--- what is told of a state, or why nothing is sent
+-- what is printed of a state, or why nothing is sent
 abbrev pub IsTold : OfficeState → Errand → File → Page → Type 0
 IsTold s (errand.Send request) file page = ⊥
 IsTold s (errand.ImportCandidates path id digest) file page = IsRefusedFile candidates (asked_digest digest) file page

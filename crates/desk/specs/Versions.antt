@@ -1,4 +1,4 @@
--- What is told of the program's version.
+-- What is printed of the program's version.
 use Rattle.std.specs.Prelude.{◌++◌, codes}
 use Rattle.std.specs.Fmt.{decimal}
 use Rattle.clap.specs.Words.{Text}

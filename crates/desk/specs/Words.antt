@@ -59,7 +59,7 @@ texts_rule name = record (new_rule name) { action = Some Append }
 abbrev pub flag_rule : Text → Rule
 flag_rule name = record (new_rule name) { long = Some name; action = Some SetTrue }
 
--- what `clap` is told of a word
+-- the rule that `clap` gets for a word
 abbrev pub rule_of_kind : Kind → Text → Rule
 rule_of_kind kind.Number = number_rule any_number
 rule_of_kind kind.NumberOrNone = free_number_rule any_number
@@ -202,14 +202,14 @@ names_order (Some found) = is_order_name found.0
 abbrev pub wrong_with : List Text → Kinds
 wrong_with words = fault_of office_words words
 
--- the status that words end with which ask for help or the version, or are not understood
+-- the status with which words end that ask for help or the version, or aren't understood
 abbrev pub status_of_kind : ErrorKind → ℕ
 status_of_kind DisplayHelp = 0
 status_of_kind DisplayVersion = 0
 status_of_kind _ = 2
 
--- what is told of words, by what is wrong with them: a text that isn't empty, with the status of that; or, where nothing is wrong, that the word of a verdict
--- says no verdict, or that the word of an origin or of a digest is none; or want of memory
+-- what is printed of words, by what is wrong with them. It is a text that isn't empty, with the status of that. Where nothing is wrong, it is that the word
+-- of a verdict says no verdict, or that the word of an origin or of a digest is none. Or it is want of memory.
 abbrev pub IsToldOf : Kinds → WordsFault → Type 0
 IsToldOf kinds words_fault.Memory = ⊤
 IsToldOf kinds words_fault.Verdict = kinds ≡ []
@@ -217,7 +217,7 @@ IsToldOf kinds words_fault.Origin = kinds ≡ []
 IsToldOf kinds words_fault.Digest = kinds ≡ []
 IsToldOf kinds (words_fault.Words text status) = (list_any (λ kind. status_of_kind kind == status) kinds ≡ true) × (string_bytes text ≢ [])
 
--- where the word of a verdict is told to say none, or that of an origin or of a digest to be none, the words mean just that
+-- where it is reported that the word of a verdict says none, or that the word of an origin or of a digest is none, the words mean just that
 abbrev pub IsNoneMeant : Option Meant → WordsFault → Type 0
 IsNoneMeant meant words_fault.Memory = ⊤
 IsNoneMeant meant words_fault.Verdict = meant ≡ Some no_verdict
@@ -225,19 +225,19 @@ IsNoneMeant meant words_fault.Origin = meant ≡ Some no_origin
 IsNoneMeant meant words_fault.Digest = meant ≡ Some no_digest
 IsNoneMeant meant (words_fault.Words text status) = ⊤
 
--- what is told of a word behind `--origin` that is none
+-- what is printed of a word behind `--origin` that is none
 abbrev pub bad_origin : Text
 bad_origin = codes "error: an origin is http:// or https://, a host in small letters, and its port where it isn't the usual one, as https://count.example.org\n"
 
--- what is told of a word behind `--sha256` that is none
+-- what is printed of a word behind `--sha256` that is none
 abbrev pub bad_digest : Text
 bad_digest = codes "error: a digest is 64 hexadecimal digits, as sha256sum prints them\n"
 
--- the text is the own one of what displays itself, where that is known and not empty
+-- the text is what something displays of itself, where that is known and not empty
 abbrev pub IsOwnText : Option Text → Text → Type 0
 IsOwnText own text = IfSome own (λ bytes. bytes ≢ [] → text ≡ bytes)
 
--- what is told of a refusal of this kind: a text that isn't empty, with the status of the kind; or want of memory
+-- what is printed of a refusal of this kind: a text that isn't empty, with the status of the kind; or want of memory
 abbrev pub TellsRefusal : ErrorKind → WordsFault → Type 0
 TellsRefusal kind words_fault.Memory = ⊤
 TellsRefusal kind words_fault.Verdict = ⊥
@@ -245,7 +245,7 @@ TellsRefusal kind words_fault.Origin = ⊥
 TellsRefusal kind words_fault.Digest = ⊥
 TellsRefusal kind (words_fault.Words text status) = (kind ≢ OutOfMemory) × (status ≡ status_of_kind kind) × (string_bytes text ≢ [])
 
--- the text is that of what is told
+-- the text is that of what is printed
 abbrev pub TellsOwnText : Option Text → WordsFault → Type 0
 TellsOwnText own words_fault.Memory = ⊤
 TellsOwnText own words_fault.Verdict = ⊥

@@ -6,7 +6,7 @@ ghost use Rattle.desk.specs.Bringing.{AreNamedIn, files_of};
 use crate::scripts::{ScriptFault, Turn, all_said, lines_in, turns_in};
 use std::alloc::{AllocError, Global};
 
-/// The paths of the files that turns read, in turn; one that several read comes as often.
+/// The paths of the files that turns read, in turn; a path that several turns read comes as often.
 fn files_of(alloc: Global, turns: &[Turn<'_>]) -> Result<Vec<String>, AllocError>
     ensures { IfOk result (λ paths. map string_bytes paths.items ≡ files_of turns.now) }
 {
@@ -19,8 +19,8 @@ fn files_of(alloc: Global, turns: &[Turn<'_>]) -> Result<Vec<String>, AllocError
     Ok(paths)
 }
 
-/// The paths of the files that the lines of a script name, in turn. A text of which a line isn't understood names none: the
-/// order is told so, and opens no file.
+/// The paths of the files that the lines of a script name, in turn. A text of which a
+/// line isn't understood names none: the order reports that line, and opens no file.
 pub fn files_named_in(alloc: Global, script: &[u8]) -> Result<Vec<String>, AllocError>
     ensures { IfOk result (λ paths. AreNamedIn script.now (map string_bytes paths.items)) }
 {

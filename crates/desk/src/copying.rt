@@ -33,15 +33,15 @@ fn copied_text(alloc: Global, holdings: Holdings) -> Result<String, AllocError>
 /// What the other database of a copy is known to hold once the order is over.
 #[derive(Clone, Copy)]
 pub enum CopyState {
-    /// The whole office, whose reply was told, or was to be: the output may have failed.
+    /// The whole office, whose reply was printed, or was to be: the output may have failed.
     Whole,
     /// What it held before: nothing was written.
     Untouched,
-    /// What it held before or the whole office, of which no reply is told.
+    /// What it held before or the whole office, of which no reply is printed.
     Unknown,
 }
 
-/// What the other database holds where no copy is told.
+/// What the other database holds where no copy is reported.
 fn state_behind(fault: CopyFault) -> CopyState
     ensures { result ≡ state_behind fault }
 {
@@ -98,11 +98,11 @@ fn copied_open<S: Alter, T: Alter>(
     }
 }
 
-/// Copies an open office, which goes on, into the database of another connection, which has nothing in it. Tells how much
+/// Copies an open office, which goes on, into the database of another connection, which has nothing in it. Prints how much
 /// the copy has, and gives the status and what the other database holds. The connection isn't closed.
 ///
-/// It is made as by `copy_office`, but the office is open already: no other is opened for it. It is only read. A closed office
-/// tells that it is closed.
+/// It is made as by `copy_office`, but the office is open already: no other is
+/// opened for it. It is only read. A closed office reports that it is closed.
 pub fn copy_open<S: Alter, T: Alter, O: Sink, E: Sink>(
     alloc: Global,
     office: &mut Office<S>,
@@ -129,17 +129,15 @@ pub fn copy_open<S: Alter, T: Alter, O: Sink, E: Sink>(
     (tell(None, &outcome, out, err), state)
 }
 
-/// Copies the office that an opened connection has into the database of another one, which has nothing in it. Tells how
+/// Copies the office that an opened connection has into the database of another one, which has nothing in it. Prints how
 /// much the copy has, and gives the status and what the other database holds. Neither connection is closed.
 ///
-/// The copy is made whole in one transaction: after its reply it keeps the very state of the office, with every
-/// receipt, and whatever a stop leaves of it before is nothing or the whole of it. The office is only read,
-/// whatever comes of it.
+/// The copy is made whole in one transaction. After its reply it keeps the very state of the office, with every receipt. Whatever
+/// a stop leaves of it before is nothing or the whole of it. The office is only read, whatever comes of it.
 ///
-/// A database that holds no office, or a newer, an older or a damaged one, is told as that fault (105, 106, 108,
-/// 103), and nothing is copied. Where a table of the other database has one of our names, that is told (109), and it is not
-/// changed. A copy that can't be written is told (110), and want of memory, or a store that fails while the office is
-/// read, as ever.
+/// A database that holds no office, or a newer, an older or a damaged one, is reported by that fault (105, 106, 108, 103), and
+/// nothing is copied. Where a table of the other database has one of our names, 109 is reported, and that database is not changed.
+/// A copy that can't be written is 110; and want of memory, or a store that fails while the office is read, is reported as ever.
 pub fn copy_office<S: Alter, T: Alter, O: Sink, E: Sink>(
     alloc: Global,
     conn: &mut Connection<S>,

@@ -17,8 +17,8 @@ use register::{Reason, Refusal, Request};
 use sqlite::Alter;
 use votes::Sink;
 
-/// What is told of a refusal of one stage more: that the count rests is a reply. Behind the first request a ward in
-/// another phase is one that was declared since.
+/// What comes of a refusal of one stage more: that the count rests is a reply.
+/// Behind the first request a ward in another phase is one that was declared since.
 fn at_rest(is_first: bool, refusal: Refusal) -> Outcome
     ensures { page_of result ≡ page_at_rest is_first refusal }
 {
@@ -30,8 +30,8 @@ fn at_rest(is_first: bool, refusal: Refusal) -> Outcome
     }
 }
 
-/// What comes of a request for one stage more, the first of an order or another; and whether the count goes on behind
-/// it, as it does where the request was accepted, now or before.
+/// What comes of a request for one stage more, the first of an order or another; and whether the count goes on behind it. It goes
+/// on where the request was accepted, now or before.
 fn stage_of<S: Alter>(office: &mut Office<S>, is_first: bool, request: &Request) -> (Outcome, bool)
     ensures told { WhenOpenAt (state S.Store) office.old office.new
         (λ s. IsStage (state S.Store office.old.held) office.new.closed (state S.Store office.new.held) is_first s request.now (page_of result.0) result.1) }
@@ -56,10 +56,10 @@ fn first_id(requests: &[Request]) -> &str
     }
 }
 
-/// Counts stage by stage, by the requests of an order, and tells each reply. It ends behind the first request that isn't
-/// accepted, now or before. Where the count rests there, at a lot or its end, that is told in a line too, with status 0.
-/// Any other refusal is told as ever, with status 1, and so is a fault, with status 3. The first output that fails ends
-/// it, with status 3. Each stage that was replied stays counted.
+/// Counts stage by stage, by the requests of an order, and prints each reply. It ends behind the first request that isn't
+/// accepted, now or before. Where the count rests there, at a lot or its end, it prints that in a line too, with status 0. Any
+/// other refusal is printed as ever, with status 1, and so is a fault, with status 3. The first output that fails ends it, with
+/// status 3. Each stage that was replied stays counted.
 pub(crate) fn count_stages<S: Alter, O: Sink, E: Sink>(
     office: &mut Office<S>,
     line: Option<usize>,

@@ -58,7 +58,7 @@ fn put_all_counts(alloc: Global, text: &mut String, kept: &Kept<'_>) -> Result<(
     Ok(())
 }
 
-/// Puts the end: how many orders stand above it, one for each receipt. So a text that was cut can be told.
+/// Puts the end: how many orders stand above it, one for each receipt. So one can see where a text was cut.
 fn put_end(alloc: Global, text: &mut String, orders: usize) -> Result<(), AllocError> {
     let says = format!(in alloc; "end: {orders} orders")?;
     put_heading(text, says.as_str())

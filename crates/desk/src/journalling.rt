@@ -70,9 +70,8 @@ fn draft_of(alloc: Global, rows: &Rows) -> Result<Draft, AllocError>
     Ok(Draft { text, requests })
 }
 
-/// The journal of the office of these rows, or why it isn't told: the text that was written doesn't make that office, or
-/// a fault, `Memory` or `Store`. It is played in the database of a connection, which has nothing in it. The connection is
-/// handed back, with whatever the trial left there.
+/// The journal of the office of these rows, or why there is none: the text that was written doesn't make that office; or a fault, `Memory` or
+/// `Store`. It is played in the database of a connection, which has nothing in it. The connection is handed back, with whatever the trial left there.
 fn journal_of<T: Alter>(
     alloc: Global,
     rows: &Rows,
@@ -96,7 +95,7 @@ fn journal_of<T: Alter>(
     }
 }
 
-/// The journal of the office that a connection has, or why it isn't told.
+/// The journal of the office that a connection has, or why there is none.
 fn journalled<S: Alter, T: Alter>(
     alloc: Global,
     conn: &mut Connection<S>,
@@ -112,7 +111,7 @@ fn journalled<S: Alter, T: Alter>(
     }
 }
 
-/// The journal of an open office, which goes on, or why it isn't told.
+/// The journal of an open office, which goes on, or why there is none.
 fn journalled_open<S: Alter, T: Alter>(
     alloc: Global,
     office: &mut Office<S>,
@@ -131,8 +130,8 @@ fn journalled_open<S: Alter, T: Alter>(
 
 /// Prints the journal of an open office, which goes on, and gives the status. The other connection isn't closed.
 ///
-/// It is tried and printed as by `journal_office`, but the office is open already: no other is opened for it. It is only read.
-/// A closed office tells that it is closed.
+/// It is tried and printed as by `journal_office`, but the office is open already: no other is opened for it. It is only read. A
+/// closed office reports that it is closed.
 pub fn journal_open<S: Alter, T: Alter, O: Sink, E: Sink>(
     alloc: Global,
     office: &mut Office<S>,
@@ -160,10 +159,10 @@ pub fn journal_open<S: Alter, T: Alter, O: Sink, E: Sink>(
 /// of the other connection. With status 0 each line was accepted there, and they left the very state of this office,
 /// every receipt too. The office itself is only read.
 ///
-/// Where the text doesn't make this very office, that is told, with status 1. It is so where the receipts and the other
-/// tables don't belong together. No clause says that it is so nowhere else. A database that holds no office, or a newer,
-/// an older or a damaged one, is told as that fault (105, 106, 108, 103), with its cause. Of want of memory (101), and of
-/// a store that fails (102), no clause says whether the office or the trial met it.
+/// Where the text doesn't make this very office, the page says so, with status 1. It is so where the receipts and the other
+/// tables don't belong together. No clause says that it is so nowhere else. A database that holds no office, or a newer, an older
+/// or a damaged one, is reported by that fault (105, 106, 108, 103), with its cause. Of want of memory (101), and of a store that
+/// fails (102), no clause says whether the office or the trial met it.
 pub fn journal_office<S: Alter, T: Alter, O: Sink, E: Sink>(
     alloc: Global,
     conn: &mut Connection<S>,

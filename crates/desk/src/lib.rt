@@ -1,13 +1,12 @@
 //! The office's desk: words to one order, an order to the office, and what comes of it to lines and a status.
 //!
-//! [`order`](words) reads the words to an [`Order`](orders), and [`perform`](perform) does its task over an
-//! opened connection, to any store of `sqlite`, and prints its lines. A file that it names, or that a script
-//! names, is opened by a [`Folder`](folders). Words that are no order, and other failures, are told by
-//! [`lines`](lines). An order to copy is followed by [`copy_office`](copying), and one for the journal by
-//! [`journal_office`](journalling), over two connections; one to serve by the crate `hall`. In an office that is open
-//! already, as one that is served, [`follow`](replaying) does a job, and `copy_open` and `journal_open` copy it and print its
-//! journal. [`files_named_in`](bringing) says which files a script names, for who hands it over. Which files, outputs and sockets
-//! these are, the program says.
+//! [`order`](words) reads the words to an [`Order`](orders), and [`perform`](perform) does its task over an opened connection, to
+//! any store of `sqlite`, and prints its lines. A [`Folder`](folders) opens a file that it names, or that a script names.
+//! [`lines`](lines) prints what is wrong with words that are no order, and other failures. [`copy_office`](copying) follows an
+//! order to copy, and [`journal_office`](journalling) one for the journal, each over two connections; the crate `hall` follows
+//! one to serve. In an office that is open already, as one that is served, [`follow`](replaying) does a job, and `copy_open` and
+//! `journal_open` copy it and print its journal. [`files_named_in`](bringing) says which files a script names, for who hands it
+//! over. Which files, outputs and sockets these are, the program says.
 //!
 //! ```text
 //! match order(alloc, words) {

@@ -17,8 +17,7 @@ use store::{CopyFault, Fault, Migrated};
 use thiserror::Error;
 use votes::{Broken, Sink, put_all};
 
-/// What is told where the journal that was written doesn't make its office, as where its receipts and its other tables
-/// don't belong together.
+/// What is printed where the journal that was written doesn't make its office, as where its receipts and its other tables don't belong together.
 const NO_JOURNAL: &str = "no journal: what was written does not make this office";
 
 /// What an order came to.
@@ -28,13 +27,13 @@ pub(crate) enum Outcome {
     Ready,
     /// An office was brought over, or was at this program's version already.
     Migrated(Migrated),
-    /// This is replied to a request that was accepted, now or before; or it tells how a ward stands, or what comes next.
+    /// This is the reply to a request that was accepted, now or before; or it says how a ward stands, or what comes next.
     Replied(Reply),
-    /// This text is told as it is, its lines ended.
+    /// This text is printed as it is, its lines ended.
     Printed(String),
     /// No seat is left in a count.
     CountFinished,
-    /// A count waits for a lot, for which a request for one stage more was refused. That is told as a reply, not as a refusal.
+    /// A count waits for a lot, for which a request for one stage more was refused. That is printed as a reply, not as a refusal.
     LotNeeded(Refusal),
     /// A request was refused.
     Refused(Refusal),
@@ -42,15 +41,14 @@ pub(crate) enum Outcome {
     Unread(FileFault),
     /// The office gave up.
     Failed(Fault),
-    /// No copy is told.
+    /// No copy is reported.
     Uncopied(CopyFault),
     /// No journal of the office was found: the one that was written doesn't make it.
     Unjournalled,
 }
 
-/// Why the program gives up: a fault of the office, told by its number 101 to 106 or 108; an output that
-/// fails, 107; a copy that is there already, 109, or can't be written, 110; or an order that isn't for an office that is
-/// being served, 111.
+/// Why the program gives up. 101 to 106 and 108 are faults of the office. 107 is an output that fails, 109 a copy that is there
+/// already, 110 a copy that can't be written, and 111 an order that isn't for an office that is being served.
 #[derive(Clone, Copy, Debug, PartialEq, Eq, Drop, Error)]
 #[error("{}", self.text())]
 pub enum Failure {
@@ -98,8 +96,7 @@ fn put_pieces<W: Sink>(pieces: &[&str], sink: &mut W) -> Result<(), Broken>
     Ok(())
 }
 
-/// Tells a text in pieces on the output, and gives the status: 0, or 3 where the output fails, which is
-/// told on the error output.
+/// Prints a text in pieces on the output, and gives the status: 0, or 3 where the output fails, which the error output says.
 fn tell_text<O: Sink, E: Sink>(pieces: &[&str], out: &mut O, err: &mut E) -> u8
     requires out { O.failed out.old < 2 ^ 64 - 1 }
     requires err { E.failed err.old < 2 ^ 64 - 1 }
@@ -111,7 +108,7 @@ fn tell_text<O: Sink, E: Sink>(pieces: &[&str], out: &mut O, err: &mut E) -> u8
     }
 }
 
-/// Puts the front of what is told of a script's line, `line 3: `; nothing, where it is told of none.
+/// Puts the front of what is printed of a script's line, `line 3: `; nothing, where it is of none.
 fn put_front<W: Sink>(line: Option<usize>, sink: &mut W) -> Result<(), Broken>
     requires { W.failed sink.old < 2 ^ 64 - 1 }
     ensures { IsPut W.taken W.failed sink.old sink.new (line_front line) result }
@@ -131,8 +128,8 @@ fn put_line<W: Sink>(line: Option<usize>, pieces: &[&str], sink: &mut W) -> Resu
     put_pieces(pieces, sink)
 }
 
-/// Tells a line in pieces on the error output, and gives the status: this one, or 3 where the error output fails. If
-/// it is told of a script's line, the number of that stands in front.
+/// Prints a line in pieces on the error output, and gives the status: this one, or 3 where the error output fails. If it is about
+/// a script's line, the number of that stands in front.
 fn tell_error<E: Sink>(line: Option<usize>, pieces: &[&str], status: u8, err: &mut E) -> u8
     requires { E.failed err.old < 2 ^ 64 - 1 }
     ensures { IsErrorTold E.taken E.failed err.old err.new (line_front line ++ flat_map (λ piece. piece.now) pieces.now) status result }
@@ -143,8 +140,7 @@ fn tell_error<E: Sink>(line: Option<usize>, pieces: &[&str], status: u8, err: &m
     }
 }
 
-/// Tells a kind, a number and a text in a line on the error output, and gives the status: this one, or 3 where the
-/// error output fails.
+/// Prints a kind, a number and a text in a line on the error output, and gives the status: this one, or 3 where the error output fails.
 fn tell_numbered<E: Sink>(
     line: Option<usize>,
     kind: &str,
@@ -161,7 +157,7 @@ fn tell_numbered<E: Sink>(
     tell_error(line, &pieces, status, err)
 }
 
-/// Tells a refusal, and gives the status: 1, or 3 where the error output fails.
+/// Prints a refusal, and gives the status: 1, or 3 where the error output fails.
 fn tell_refusal<E: Sink>(line: Option<usize>, refusal: &Refusal, err: &mut E) -> u8
     requires { E.failed err.old < 2 ^ 64 - 1 }
     ensures { IsErrorTold E.taken E.failed err.old err.new (line_front line ++ (refused refusal.now).err) 1 result }
@@ -209,8 +205,7 @@ fn clerk_of(flaw: Flaw, digits: &mut Buffer) -> &str
     }
 }
 
-/// Tells why a file isn't taken, and gives the status: 1, or 3 where its reading was stopped or the error
-/// output fails.
+/// Prints why a file isn't taken, and gives the status: 1, or 3 where its reading was stopped or the error output fails.
 fn tell_file_fault<E: Sink>(line: Option<usize>, fault: FileFault, err: &mut E) -> u8
     requires { E.failed err.old < 2 ^ 64 - 1 }
     ensures { IsErrorTold E.taken E.failed err.old err.new (line_front line ++ (unread fault).err) (status_of_file fault) result }
@@ -232,7 +227,7 @@ fn tell_file_fault<E: Sink>(line: Option<usize>, fault: FileFault, err: &mut E) 
     tell_error(line, &pieces, status_of_file(fault), err)
 }
 
-/// Puts of which line a fault of codes is, ` at line 3`; nothing, where it is of none.
+/// Puts the line at which a fault of codes is, ` at line 3`; nothing, where it is at none.
 fn put_place<W: Sink>(fault: CodesFault, sink: &mut W) -> Result<(), Broken>
     requires { W.failed sink.old < 2 ^ 64 - 1 }
     ensures { IsPut W.taken W.failed sink.old sink.new (codes_place (fault_line fault)) result }
@@ -243,7 +238,7 @@ fn put_place<W: Sink>(fault: CodesFault, sink: &mut W) -> Result<(), Broken>
     }
 }
 
-/// Puts of which line a fault of codes is, and its text behind it.
+/// Puts the line at which a fault of codes is, and its text behind it.
 fn put_codes_text<W: Sink>(fault: CodesFault, sink: &mut W) -> Result<(), Broken>
     requires { W.failed sink.old < 2 ^ 64 - 1 }
     ensures { IsPut W.taken W.failed sink.old sink.new (codes_place (fault_line fault) ++ flat_map (λ piece. piece) (codes ": " ∷ codes_text fault ∷ codes "\n" ∷ [])) result }
@@ -252,7 +247,7 @@ fn put_codes_text<W: Sink>(fault: CodesFault, sink: &mut W) -> Result<(), Broken
     put_pieces(&[": ", fault.text(), "\n"], sink)
 }
 
-/// Puts a line that tells a fault of codes.
+/// Puts a line that reports a fault of codes.
 fn put_codes_fault<W: Sink>(fault: CodesFault, sink: &mut W) -> Result<(), Broken>
     requires { W.failed sink.old < 2 ^ 64 - 1 }
     ensures { IsPut W.taken W.failed sink.old sink.new (codes_page fault).err result }
@@ -264,7 +259,7 @@ fn put_codes_fault<W: Sink>(fault: CodesFault, sink: &mut W) -> Result<(), Broke
     put_codes_text(fault, sink)
 }
 
-/// Tells why codes aren't taken, or not made, and gives the status: 1, or 3 where the error output fails.
+/// Prints why codes aren't taken, or not made, and gives the status: 1, or 3 where the error output fails.
 pub fn tell_codes_fault<E: Sink>(fault: CodesFault, err: &mut E) -> u8
     requires { E.failed err.old < 2 ^ 64 - 1 }
     ensures { IsErrorTold E.taken E.failed err.old err.new (codes_page fault).err (codes_page fault).status result }
@@ -275,7 +270,7 @@ pub fn tell_codes_fault<E: Sink>(fault: CodesFault, err: &mut E) -> u8
     }
 }
 
-/// Tells that codes were made for so many clerks, and gives the status: 0, or 3 where the output fails.
+/// Prints that codes were made for so many clerks, and gives the status: 0, or 3 where the output fails.
 pub fn tell_codes_made<O: Sink, E: Sink>(count: u32, out: &mut O, err: &mut E) -> u8
     requires out { O.failed out.old < 2 ^ 64 - 1 }
     requires err { E.failed err.old < 2 ^ 64 - 1 }
@@ -286,7 +281,7 @@ pub fn tell_codes_made<O: Sink, E: Sink>(count: u32, out: &mut O, err: &mut E) -
     tell_text(&pieces, out, err)
 }
 
-/// Tells that an office has no journal, and gives the status: 1, or 3 where the error output fails.
+/// Prints that an office has no journal, and gives the status: 1, or 3 where the error output fails.
 fn tell_no_journal<E: Sink>(line: Option<usize>, err: &mut E) -> u8
     requires { E.failed err.old < 2 ^ 64 - 1 }
     ensures { IsErrorTold E.taken E.failed err.old err.new (line_front line ++ unjournalled.err) 1 result }
@@ -294,7 +289,7 @@ fn tell_no_journal<E: Sink>(line: Option<usize>, err: &mut E) -> u8
     tell_error(line, &[NO_JOURNAL, "\n"], 1, err)
 }
 
-/// Tells a failure, and gives its status, 3.
+/// Prints a failure, and gives its status, 3.
 fn tell_failure_at<E: Sink>(line: Option<usize>, failure: Failure, err: &mut E) -> u8
     requires { E.failed err.old < 2 ^ 64 - 1 }
     ensures { IsErrorTold E.taken E.failed err.old err.new (line_front line ++ (failed failure).err) 3 result }
@@ -302,9 +297,9 @@ fn tell_failure_at<E: Sink>(line: Option<usize>, failure: Failure, err: &mut E) 
     tell_numbered(line, "fault ", failure.number(), failure.text(), 3, err)
 }
 
-/// Tells a failure on the error output, and gives its status, 3.
+/// Prints a failure on the error output, and gives its status, 3.
 ///
-/// Where the error output fails too, nothing more can be told.
+/// Where the error output fails too, nothing more can be printed.
 pub fn tell_failure<E: Sink>(failure: Failure, err: &mut E) -> u8
     requires { E.failed err.old < 2 ^ 64 - 1 }
     ensures { IsErrorTold E.taken E.failed err.old err.new (failed failure).err 3 result }
@@ -312,7 +307,7 @@ pub fn tell_failure<E: Sink>(failure: Failure, err: &mut E) -> u8
     tell_failure_at(None, failure, err)
 }
 
-/// Why no copy was made, as the program tells it: want of memory is told as ever.
+/// Why no copy was made, as the program prints it; want of memory is reported as ever.
 fn failure_of(fault: CopyFault) -> Failure
     ensures { result ≡ failure_of fault }
 {
@@ -334,10 +329,10 @@ fn migrated_text(migrated: Migrated) -> &'static str
     }
 }
 
-/// Tells an outcome, and gives its status. The status is 0 where it is told on the output. On the error output it is 1
-/// for a refusal of a request or a file, and for an office without a journal, and 3 for a fault or a file that couldn't
-/// be read. Where one of the two fails it is 3, and that output has taken a beginning. If the outcome is that of a
-/// script's line, what goes to the error output begins with the number of that line.
+/// Prints an outcome, and gives its status. The status is 0 where the outcome goes to the output. On the error output it is 1 for
+/// a refusal of a request or a file, and for an office without a journal, and 3 for a fault or a file that couldn't be read.
+/// Where one of the two fails it is 3, and that output has taken a beginning. If the outcome is that of a script's line, what
+/// goes to the error output begins with the number of that line.
 pub(crate) fn tell<O: Sink, E: Sink>(
     line: Option<usize>,
     outcome: &Outcome,
@@ -363,8 +358,8 @@ pub(crate) fn tell<O: Sink, E: Sink>(
     }
 }
 
-/// Tells why a text is no script, and gives the status: 2 for a line that isn't understood, and 3 for want of memory or
-/// where the error output fails.
+/// Prints why a text is no script, and gives the status: 2 for a line that
+/// isn't understood, and 3 for want of memory or where the error output fails.
 pub(crate) fn tell_script_fault<E: Sink>(fault: &ScriptFault, err: &mut E) -> u8
     requires { E.failed err.old < 2 ^ 64 - 1 }
     ensures { IsErrorTold E.taken E.failed err.old err.new (script_page fault.now).err (script_page fault.now).status result }
@@ -375,7 +370,7 @@ pub(crate) fn tell_script_fault<E: Sink>(fault: &ScriptFault, err: &mut E) -> u8
     }
 }
 
-/// Tells why the words are no order, and gives the status: 0 with help on the output, 2 with a text on the error
+/// Prints why the words are no order, and gives the status: 0 with help on the output, 2 with a text on the error
 /// output, and 3 for want of memory. Where one of the two fails it is 3, and that output has taken a beginning.
 pub fn tell_words<O: Sink, E: Sink>(fault: &WordsFault, out: &mut O, err: &mut E) -> u8
     requires out { O.failed out.old < 2 ^ 64 - 1 }

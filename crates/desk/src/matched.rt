@@ -1,8 +1,8 @@
 //! The table of orders, and the order that matched words mean.
 //!
-//! One order more is an entry of [`ORDERS_TO_SEAL`] or [`ORDERS_FROM_SEAL`], and an arm that makes of its words what it
-//! means: in [`command_named`] where it sends a command, and in [`order_named`] where it doesn't, which may want a variant
-//! of [`Errand`](crate::orders::Errand) too. A line of `orders` in specs/Orders.antt says what that is.
+//! One order more is an entry of [`ORDERS_TO_SEAL`] or [`ORDERS_FROM_SEAL`], and an arm that makes of its words what it means.
+//! The arm stands in [`command_named`] where the order sends a command, and in [`order_named`] where it doesn't; that may want a
+//! variant of [`Errand`](crate::orders::Errand) too. A line of `orders` in specs/Orders.antt says what the order means.
 #![tactic(auto, unfolding(crate::specs::Orders::orders))]
 
 ghost use Rattle.std.specs.Prelude.{◌≡◌, ◌⊎◌, false, Err, None, Some, codes, drop, map, take, IfErr, IfOk, option_map, string_bytes};

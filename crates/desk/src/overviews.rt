@@ -1,5 +1,5 @@
-//! How all stands, told in lines: the wards, the batches of a ward, where a batch differs, and what was kept; and
-//! papers, whose lines stand in [`papers`](crate::papers).
+//! How all stands, in lines: the wards, the batches of a ward, where a batch differs,
+//! and what was kept; and papers, whose lines stand in [`papers`](crate::papers).
 
 ghost use Rattle.std.specs.Prelude.{◌≡◌, ◌⊎◌, ◌++◌, map, IfOk, IfErr, string_bytes};
 ghost use Rattle.std.specs.List.{flat_map};
@@ -25,7 +25,7 @@ use sqlite::Alter;
 use std::alloc::{AllocError, Global};
 use store::{BatchOverview, ClerkOverview, Differences, Fault, Standing, WardOverview};
 
-/// What is told in a line.
+/// What is printed in a line.
 trait Lined {
     ghost use Rattle.clap.specs.Words.{Text};
 
@@ -153,7 +153,7 @@ fn keyed_word(keyed: bool) -> &'static str
 }
 
 #[tactic(auto, unfolding(crate::specs::Overviews::clerk_words))]
-/// Puts a clerk of the batch behind what was told, and whether he has keyed it.
+/// Puts a clerk of the batch behind what stands there, and whether he has keyed it.
 fn put_clerk(alloc: Global, text: &mut String, overview: &ClerkOverview) -> Result<(), AllocError>
     ensures { IfOk result (λ _. string_bytes text.new ≡ string_bytes text.old ++ clerk_words (clerk_view overview.now)) }
 {
@@ -212,7 +212,7 @@ impl Lined for BatchOverview {
 // ---- differences, and receipts
 
 #[tactic(auto, unfolding(crate::specs::Overviews::differences_line))]
-/// The line that tells on which papers a batch differs.
+/// The line that says on which papers a batch differs.
 fn differences_line(alloc: Global, found: &Differences) -> Result<String, AllocError>
     ensures { IfOk result (λ text. string_bytes text ≡ differences_line (differences_view found.now)) }
 {
@@ -235,7 +235,7 @@ impl Lined for Receipt {
 
 // ---- what is told
 
-/// Puts something behind what was told, in a line of its own.
+/// Puts something behind what stands there, in a line of its own.
 fn put_line<T: Lined>(alloc: Global, text: &mut String, told: &T) -> Result<(), AllocError>
     ensures { IfOk result (λ _. string_bytes text.new ≡ string_bytes text.old ++ line (T.text told.now)) }
 {
@@ -255,7 +255,7 @@ fn lines_of<T: Lined>(alloc: Global, found: &[T]) -> Result<String, AllocError>
     Ok(text)
 }
 
-/// What is told where nothing was found.
+/// What is printed where nothing was found.
 fn stopped(stop: Stop) -> Outcome
     ensures { page_of result ≡ page_stopped stop }
 {
@@ -265,7 +265,7 @@ fn stopped(stop: Stop) -> Outcome
     }
 }
 
-/// What is told of what was found, or why there is nothing; or that memory was wanting for the lines.
+/// What is printed of what was found, or why there is nothing; or that memory was wanting for the lines.
 fn outcome_of<T: Lined + Drop>(alloc: Global, found: Result<Vec<T>, Stop>) -> Outcome
     ensures lines { IfOk found (λ all. (page_of result ≡ printed (flat_map (λ t. line (T.text t)) all.items)) ⊎ (page_of result ≡ failed (Failure.Office Fault.Memory))) }
     ensures stop { IfErr found (λ stop. page_of result ≡ page_stopped stop) }
@@ -280,7 +280,7 @@ fn outcome_of<T: Lined + Drop>(alloc: Global, found: Result<Vec<T>, Stop>) -> Ou
     }
 }
 
-/// On which papers a batch differs, in a line; or why that isn't told.
+/// On which papers a batch differs, in a line; or why there is no such line.
 fn differences_of<S: Alter>(alloc: Global, office: &mut Office<S>, batch: u32) -> Outcome
     ensures found { WhenOpenAt (state S.Store) office.old office.new
         (λ s. IsAskedOf s (Question.Differences batch) (page_of result) office.new.closed (state S.Store office.old.held) (state S.Store office.new.held)) }
@@ -295,7 +295,7 @@ fn differences_of<S: Alter>(alloc: Global, office: &mut Office<S>, batch: u32) -
     }
 }
 
-/// The doubtful papers of a ward, in lines; or why they aren't told.
+/// The doubtful papers of a ward, in lines; or why there are none.
 fn doubtful_of<S: Alter>(alloc: Global, office: &mut Office<S>, ward: u32) -> Outcome
     ensures found { WhenOpenAt (state S.Store) office.old office.new
         (λ s. IsAskedOf s (Question.Doubtful ward) (page_of result) office.new.closed (state S.Store office.old.held) (state S.Store office.new.held)) }
@@ -310,7 +310,7 @@ fn doubtful_of<S: Alter>(alloc: Global, office: &mut Office<S>, ward: u32) -> Ou
     }
 }
 
-/// The papers of a batch as they count, in lines; or why they aren't told.
+/// The papers of a batch as they count, in lines; or why there are none.
 fn papers_of<S: Alter>(alloc: Global, office: &mut Office<S>, batch: u32) -> Outcome
     ensures found { WhenOpenAt (state S.Store) office.old office.new
         (λ s. IsAskedOf s (Question.Papers batch) (page_of result) office.new.closed (state S.Store office.old.held) (state S.Store office.new.held)) }
@@ -325,7 +325,7 @@ fn papers_of<S: Alter>(alloc: Global, office: &mut Office<S>, batch: u32) -> Out
     }
 }
 
-/// What the office is told of how all stands, or why that isn't told.
+/// What the office prints of how all stands, or why that can't be had.
 pub(crate) fn answer_to<S: Alter>(
     alloc: Global,
     office: &mut Office<S>,

@@ -1,4 +1,4 @@
-//! The papers of a batch as they count, and the doubtful ones of a ward, told in lines with the candidates' names.
+//! The papers of a batch as they count, and the doubtful ones of a ward, in lines with the candidates' names.
 
 ghost use Rattle.std.specs.Prelude.{◌≡◌, ◌++◌, map, option_map, IfOk, string_bytes};
 ghost use Rattle.register.specs.Offices.{judged_entry};

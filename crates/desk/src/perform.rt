@@ -39,7 +39,7 @@ fn in_office<S: Alter, F: Folder, O: Sink, E: Sink>(
     }
 }
 
-/// Makes an office, and tells what came of it.
+/// Makes an office, and prints what came of it.
 fn make_office<S: Alter, O: Sink, E: Sink>(
     alloc: Global,
     conn: Connection<S>,
@@ -60,7 +60,7 @@ fn make_office<S: Alter, O: Sink, E: Sink>(
     }
 }
 
-/// Brings an office that an earlier program made over to this one, and tells what came of it.
+/// Brings an office that an earlier program made over to this one, and prints what came of it.
 fn migrate_office<S: Alter, O: Sink, E: Sink>(
     alloc: Global,
     mut conn: Connection<S>,
@@ -83,26 +83,25 @@ fn migrate_office<S: Alter, O: Sink, E: Sink>(
 /// `folder` opens the file that the task names, once the office is open; and the import files that a script names,
 /// each when its turn comes. A file is read to its end before anything of it is sent.
 ///
-/// The status is 0 where all that was to be told went to `out`: each reply, `office ready`, what a migration came to,
-/// how a ward or all stand, or a text of a ward. It is 1 where a request or the file was refused, and 3 at a fault;
-/// `err` is told which. It is 3 too where one of the two failed, which has then taken a beginning.
+/// The status is 0 where all that was to be printed went to `out`: each reply, `office ready`, what a migration came to, how a
+/// ward or all stand, or a text of a ward. It is 1 where a request or the file was refused, and 3 at a fault; `err` gets which.
+/// It is 3 too where one of the two failed, which has then taken a beginning.
 ///
 /// What was replied before the first refusal or fault stands. Whatever a stop then leaves is the state after the
 /// accepted requests of a beginning of all that were ever sent. The beginning contains every answered request, and at
 /// most one more. With status 0 all requests of the task were answered.
 ///
-/// All lines of a script are understood before its first order is sent. Where one isn't, the first such line is told,
-/// with status 2, and nothing is sent. A refusal or a fault of one of its orders ends the script, and is told behind
-/// the number of its line. The requests of a script are those of its orders up to that one. A script that is to keep
-/// going isn't ended by a refusal. It tells each of them, and its status is 1 then, if no fault ends it.
+/// All lines of a script are understood before its first order is sent. Where one isn't, the first such line is printed, with
+/// status 2, and nothing is sent. A refusal or a fault of one of its orders ends the script, and is printed behind the number of
+/// its line. The requests of a script are those of its orders up to that one. A script that is to keep going isn't ended by a
+/// refusal. It prints each of them, and its status is 1 then, if no fault ends it.
 ///
-/// A database that holds no office, or a newer, an older or a damaged one, is told as that fault, and isn't changed.
-/// Where a table has one of our names, `init` makes no office: fault 105 is told, and nothing is changed. `migrate`
-/// alone takes an older office. After it a stop leaves the older office or the whole of the new one, at the very state
-/// that it had.
+/// A database that holds no office, or a newer, an older or a damaged one, is reported by that fault, and isn't changed. Where a
+/// table has one of our names, `init` makes no office: it reports fault 105, and changes nothing. `migrate` alone takes an older
+/// office. After it a stop leaves the older office or the whole of the new one, at the very state that it had.
 ///
-/// Where an opening or a read is told as fault 102, the store failed; or, at the opening of a database that holds no
-/// state, rowids aren't the rows' own. So is it of a request that isn't accepted.
+/// Where an opening or a read reports fault 102, the store failed; or, at the opening of a database that holds no state, rowids
+/// aren't the rows' own. The same holds of a request that isn't accepted.
 pub fn perform<S: Alter, F: Folder, O: Sink, E: Sink>(
     alloc: Global,
     task: &Task<'_>,

@@ -12,7 +12,7 @@ use crate::lines::Outcome;
 use office::{Office, Stop, Text};
 use sqlite::Alter;
 
-/// A text of a ward, or why it isn't told.
+/// A text of a ward, or why it can't be had.
 pub(crate) fn text_of<S: Alter>(office: &mut Office<S>, ward: u32, text: Text) -> Outcome
     ensures found { WhenOpenAt (state S.Store) office.old office.new
         (λ s. IsFound s printed (text_told text.entry s ward) (page_of result) office.new.closed (state S.Store office.old.held) (state S.Store office.new.held)) }
@@ -30,7 +30,7 @@ pub(crate) fn text_of<S: Alter>(office: &mut Office<S>, ward: u32, text: Text) -
     }
 }
 
-/// The page of all wards, or why it isn't told.
+/// The page of all wards, or why it can't be had.
 pub(crate) fn index_of<S: Alter>(office: &mut Office<S>, title: &str) -> Outcome
     ensures found { WhenOpenAt (state S.Store) office.old office.new
         (λ s. IsFound s printed (index_told title.now s) (page_of result) office.new.closed (state S.Store office.old.held) (state S.Store office.new.held)) }

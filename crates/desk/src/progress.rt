@@ -5,10 +5,10 @@ ghost use Rattle.std.specs.Prelude.{◌≡◌};
 use std::io::Write;
 use votes::{Broken, Sink};
 
-/// The count is told after so many lines, and after so many more.
+/// The count is printed after so many lines, and after so many more.
 const STEP: u64 = 100;
 
-/// Counts lines, and tells a writer from time to time how many there were.
+/// Counts lines, and says to a writer from time to time how many there were.
 #[derive(Drop)]
 struct Meter<W> {
     told: W,
@@ -19,7 +19,7 @@ impl<W: Write> Meter<W> {
     fn count_line(&mut self) {
         self.lines = self.lines.saturating_add(1);
         if self.lines % STEP == 0 {
-            // Where nobody can be told, the order goes on all the same.
+            // Where nobody can read it, the order goes on all the same.
             let _ = writeln!(self.told, "{} records done", self.lines);
         }
     }
@@ -33,7 +33,7 @@ impl<W: Write> Meter<W> {
     }
 }
 
-/// An output that a writer is told of: after every hundredth line how many there were.
+/// An output of which a writer gets word: after every hundredth line how many there were.
 ///
 /// It takes what the output takes, and fails where that fails, never for the writer's sake.
 #[derive(Drop)]

@@ -43,9 +43,8 @@ fn opened<F: Folder>(folder: &F, errand: &Errand<'_>) -> Option<F::File>
     }
 }
 
-/// Does an errand in an opened office, tells what comes of it, and gives the status. Where it is that of a script's
-/// line, what `err` is told begins with the number of that line. Where it is to keep going, a refused request doesn't
-/// end it.
+/// Does an errand in an opened office, prints what comes of it, and gives the status. Where it is that of a script's line, what
+/// `err` gets begins with the number of that line. Where it is to keep going, a refused request doesn't end it.
 fn run<S: Alter, F: Folder, O: Sink, E: Sink>(
     alloc: Global,
     office: &mut Office<S>,
@@ -92,9 +91,9 @@ fn run<S: Alter, F: Folder, O: Sink, E: Sink>(
     }
 }
 
-/// Takes turns one after the other, and tells each reply. A refusal or a fault is told behind the number of its line. The
-/// first fault ends it; so does the first output that fails, and the first refusal, but where it is to keep going. A
-/// file is opened when its turn comes. The status is that of the last that was told with one other than 0.
+/// Takes turns one after the other, and prints each reply. A refusal or a fault is printed behind the number of its line. The
+/// first fault ends it; so does the first output that fails, and the first refusal, but where it is to keep going. A file is
+/// opened when its turn comes. The status is the last one other than 0 that came of them.
 fn send_turns<S: Alter, F: Folder, O: Sink, E: Sink>(
     alloc: Global,
     office: &mut Office<S>,
@@ -132,8 +131,8 @@ fn send_turns<S: Alter, F: Folder, O: Sink, E: Sink>(
     ends
 }
 
-/// Sends the orders that the lines of a script are, once each line was understood. Where one isn't, it tells what is
-/// wrong with the first such line, and sends none.
+/// Sends the orders that the lines of a script are, once each line was understood.
+/// Where one isn't, it prints what is wrong with the first such line, and sends none.
 fn send_lines<S: Alter, F: Folder, O: Sink, E: Sink>(
     alloc: Global,
     office: &mut Office<S>,
@@ -188,9 +187,8 @@ fn script_of<R: Read + Drop>(alloc: Global, file: Option<R>) -> Result<Vec<Line>
     }
 }
 
-/// Sends the orders of a script's file in turn, once all its lines were understood; past those that are refused, where
-/// it is to keep going. The status is 2 where a line isn't understood, which is told with its number, and nothing is
-/// sent.
+/// Sends the orders of a script's file in turn, once all its lines were understood; past those that are refused, where it is to
+/// keep going. The status is 2 where a line isn't understood, which is printed with its number, and nothing is sent.
 fn replay<S: Alter, F: Folder, O: Sink, E: Sink>(
     alloc: Global,
     office: &mut Office<S>,
@@ -218,10 +216,9 @@ fn replay<S: Alter, F: Folder, O: Sink, E: Sink>(
     }
 }
 
-/// Does a job in an opened office, tells what comes of it, and gives the status.
+/// Does a job in an opened office, prints what comes of it, and gives the status.
 ///
-/// So `perform` does, which opens the office for it. An office that is served is open already: an order that is handed over
-/// to it is followed here.
+/// `perform` opens an office, and then does the same. An office that is served is open already: an order that is handed over to it is followed here.
 pub fn follow<S: Alter, F: Folder, O: Sink, E: Sink>(
     alloc: Global,
     office: &mut Office<S>,

@@ -30,14 +30,14 @@ pub(crate) enum LineFlaw {
     Origin,
     /// The word behind `--sha256` is none.
     Digest,
-    /// The words are no order; this is told of them.
+    /// The words are no order; this is printed of them.
     Words(String),
     /// The order stands in no script.
     Elsewhere,
 }
 
 impl LineFlaw {
-    /// What is told of it, its lines ended.
+    /// What is printed of it, its lines ended.
     pub(crate) fn text(&self) -> &str
         ensures { result.now ≡ line_flaw_text self.now }
     {

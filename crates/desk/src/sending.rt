@@ -45,10 +45,9 @@ fn outcome_of<S: Alter>(office: &mut Office<S>, request: &Request) -> Outcome
     }
 }
 
-/// Sends requests to an office in turn, and tells each reply. The first fault ends it, and is told too. So does the first
-/// output that fails; and the first refusal, but where the order is to keep going. If the requests are those of a
-/// script's line, a refusal or fault is told behind the number of that line. The status is that of the last that was
-/// told with one other than 0.
+/// Sends requests to an office in turn, and prints each reply. The first fault ends it, and is printed too. So does the first
+/// output that fails; and the first refusal, but where the order is to keep going. If the requests are those of a script's line,
+/// a refusal or fault is printed behind the number of that line. The status is the last one other than 0 that came of them.
 pub(crate) fn send_all<S: Alter, O: Sink, E: Sink>(
     office: &mut Office<S>,
     keep_going: bool,

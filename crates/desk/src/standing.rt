@@ -1,4 +1,4 @@
-//! How the election of a ward stands, told in a line.
+//! How the election of a ward stands, in a line.
 
 ghost use Rattle.std.specs.Prelude.{◌≡◌, IfOk, string_bytes};
 ghost use Rattle.sqlite.specs.Held.{state};
@@ -57,7 +57,7 @@ fn count_words(alloc: Global, status: &Status) -> Result<String, AllocError>
 }
 
 #[tactic(auto, unfolding(crate::specs::Standings::status_text))]
-/// The line that tells how a ward stands, without its end.
+/// The line on how a ward stands, without its end.
 pub(crate) fn status_text(alloc: Global, status: &Status) -> Result<String, AllocError>
     ensures { IfOk result (λ text. string_bytes text ≡ status_text (status_entry status.now)) }
 {
@@ -67,7 +67,7 @@ pub(crate) fn status_text(alloc: Global, status: &Status) -> Result<String, Allo
     format!(in alloc; "{ward}, {batches}, {count}")
 }
 
-/// How a ward stands, in words; or why that isn't told.
+/// How a ward stands, in words; or why that can't be had.
 pub(crate) fn standing_of<S: Alter>(alloc: Global, office: &mut Office<S>, ward: u32) -> Outcome
     ensures found { WhenOpenAt (state S.Store) office.old office.new
         (λ s. IsFound s (λ status. replied (status_text status)) (status_told s ward) (page_of result) office.new.closed (state S.Store office.old.held) (state S.Store office.new.held)) }

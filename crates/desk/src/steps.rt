@@ -1,4 +1,4 @@
-//! What comes next in the election of a ward, told in a line with its candidates' names.
+//! What comes next in the election of a ward, in a line with its candidates' names.
 
 ghost use Rattle.std.specs.Prelude.{◌≡◌, ◌++◌, IfOk, map, string_bytes};
 ghost use Rattle.sqlite.specs.Held.{state};
@@ -199,7 +199,7 @@ fn step_words(alloc: Global, step: &NextStep) -> Result<String, AllocError>
 }
 
 #[tactic(auto, unfolding(crate::specs::Steps::step_text))]
-/// The line that tells what comes next in a ward, without its end.
+/// The line on what comes next in a ward, without its end.
 fn step_text(alloc: Global, ward: u32, step: &NextStep) -> Result<String, AllocError>
     ensures { IfOk result (λ text. string_bytes text ≡ step_text ward (step_entry step.now)) }
 {
@@ -207,7 +207,7 @@ fn step_text(alloc: Global, ward: u32, step: &NextStep) -> Result<String, AllocE
     format!(in alloc; "ward {ward}: {words}")
 }
 
-/// What comes next in a ward, in words; or why that isn't told.
+/// What comes next in a ward, in words; or why that can't be had.
 pub(crate) fn next_of<S: Alter>(alloc: Global, office: &mut Office<S>, ward: u32) -> Outcome
     ensures found { WhenOpenAt (state S.Store) office.old office.new
         (λ s. IsFound s (λ step. replied (step_text ward step)) (next_told s ward) (page_of result) office.new.closed (state S.Store office.old.held) (state S.Store office.new.held)) }

@@ -16,7 +16,7 @@ fn office_version() -> u32
     2
 }
 
-/// What is told of the version: the program's, and that of its offices.
+/// What is printed of the version: the program's, and that of its offices.
 pub(crate) fn version_text(alloc: Global) -> Result<String, AllocError>
     ensures { IfOk result (λ text. string_bytes text ≡ version_text) }
 {

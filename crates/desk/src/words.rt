@@ -57,14 +57,14 @@ error, with status 1; words that are not understood with 2, and faults with 3.
 docs/ELECTION.md leads through an election, order by order. docs/REFUSALS.md says what each
 refusal and each fault means, and what to do about it.";
 
-/// What is told of words that aren't understood, where nothing else is.
+/// What is printed of words that aren't understood, where nothing else is.
 const NOT_UNDERSTOOD: &str = "error: the words are not understood\n";
 
-/// What is told of a word behind `--origin` that is none.
+/// What is printed of a word behind `--origin` that is none.
 pub(crate) const BAD_ORIGIN: &str =
     "error: an origin is http:// or https://, a host in small letters, and its port where it isn't the usual one, as https://count.example.org\n";
 
-/// What is told of a word behind `--sha256` that is none.
+/// What is printed of a word behind `--sha256` that is none.
 pub(crate) const BAD_DIGEST: &str =
     "error: a digest is 64 hexadecimal digits, as sha256sum prints them\n";
 
@@ -84,7 +84,7 @@ pub enum WordsFault {
     Words { text: String, status: u8 },
 }
 
-/// What `clap` is told of a word.
+/// The rule that `clap` gets for a word.
 fn arg_of<'a>(alloc: Global, word: Word) -> Arg<'a>
     ensures rule { rule_of result ≡ rule_of_kind word.kind word.name.now }
     ensures local { result.global ≡ false }
@@ -214,10 +214,9 @@ fn text_of<D: Display>(alloc: Global, shown: &D) -> Result<String, AllocError>
     }
 }
 
-/// What is told of words that `clap` doesn't take: the text that its error displays, by the kind of the error.
+/// What is printed of words that `clap` doesn't take: the text that its error displays, by the kind of the error.
 ///
-/// `clap` states nothing of that text. So the error is any value that displays itself, of which nothing else
-/// can be told than that.
+/// `clap` states nothing of that text. So the error is any value that displays itself, of which nothing else can be known than that.
 fn refused<D: Display>(alloc: Global, kind: ErrorKind, shown: &D) -> WordsFault
     ensures memory { kind ≡ ErrorKind.OutOfMemory → result ≡ WordsFault.Memory }
     ensures told { TellsRefusal kind result }
@@ -235,7 +234,7 @@ fn refused<D: Display>(alloc: Global, kind: ErrorKind, shown: &D) -> WordsFault
     }
 }
 
-/// What is told of the version.
+/// What is printed of the version.
 fn version_told(alloc: Global) -> WordsFault
     ensures told { TellsRefusal ErrorKind.DisplayVersion result }
     ensures text { TellsOwnText (Some version_text) result }
@@ -246,7 +245,7 @@ fn version_told(alloc: Global) -> WordsFault
     }
 }
 
-/// What is told of words that `clap` doesn't take: the version, where they ask for it, and else what its error displays.
+/// What is printed of words that `clap` doesn't take: the version, where they ask for it, and else what its error displays.
 fn denied(alloc: Global, kind: ErrorKind, error: &Error) -> WordsFault
     ensures memory { kind ≡ ErrorKind.OutOfMemory → result ≡ WordsFault.Memory }
     ensures told { TellsRefusal kind result }
@@ -260,11 +259,10 @@ fn denied(alloc: Global, kind: ErrorKind, error: &Error) -> WordsFault
 
 /// Reads the words, of which the first is DB, to one order.
 ///
-/// The order and its values are those that `clap` matches in the words, read by the table of orders.
-/// Words that `clap` takes are refused for want of memory, where the word of a verdict says none, and where the word of
-/// an origin or of a digest is none, and for nothing else.
-/// Words that it doesn't take are no order. A text that isn't empty is told of them, with status 0 where what is first
-/// wrong with them is that they ask for help or the version, and else with 2; or want of memory is told.
+/// The order and its values are those that `clap` matches in the words, read by the table of orders. Words that `clap` takes are
+/// refused for want of memory; where the word of a verdict says none; where the word of an origin or of a digest is none; and for
+/// nothing else. Words that it doesn't take are no order. A text that isn't empty is printed of them. Its status is 0 where what
+/// is first wrong with them is that they ask for help or the version, and else 2. Or want of memory is reported.
 pub fn order<'a>(alloc: Global, words: &'a [&'a str]) -> Result<Order<'a>, WordsFault>
     ensures accepts { IfOk result (λ _. wrong_with (map (λ s. s.now) words.entry.now) ≡ []) }
     ensures denies { IfErr result (IsToldOf (wrong_with (map (λ s. s.now) words.entry.now))) }

@@ -31,7 +31,7 @@ pub record IsTold {L : Type 0} (line : Line L) (now : L) (answer : List ℕ) (se
   pub within : sent ≤ length answer
   pub took : HasTaken (line.taken now) (take sent answer)
 
--- how it stands with the answer of a client, of whom these bytes were gathered: he has none yet, or is being told it
+-- how it stands with the answer of a client, of whom these bytes were gathered: he has none yet, or is getting it
 abbrev pub IsServedSo : {L : Type 0} → Line L → L → L → List ℕ → Option Answer → Type 0
 IsServedSo line start now got None = IsHeard line start now got
 IsServedSo line start now got (Some answer) = IsTold line now answer.bytes.items answer.sent

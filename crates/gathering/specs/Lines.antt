@@ -12,7 +12,7 @@ Gives old new room (Ok Nothing) = Keeps old new
 Gives old new room (Ok End) = IsAtEnd new × Keeps old new
 Gives old new room (Err broken) = Keeps old new
 
--- what a line took grew by these bytes; where it doesn't tell what it took, it goes on so
+-- what a line took grew by these bytes; where it doesn't say what it took, it goes on so
 abbrev pub Grows : Option (List ℕ) → Option (List ℕ) → List ℕ → Type 0
 Grows old new bytes = new ≡ append_known old bytes
 
@@ -21,12 +21,12 @@ abbrev pub Takes : Option (List ℕ) → Option (List ℕ) → List ℕ → Resu
 Takes old new bytes (Ok n) = (n ≤ length bytes) × Grows old new (take n bytes)
 Takes old new bytes (Err broken) = new ≡ old
 
--- a line took just these bytes so far, if it tells what it took
+-- a line took just these bytes so far, if it says what it took
 abbrev pub HasTaken : Option (List ℕ) → List ℕ → Type 0
 HasTaken None bytes = ⊤
 HasTaken (Some taken) bytes = taken ≡ bytes
 
--- what two moments of a line tell: the bytes that are still to come of it, and those that it took
+-- what is known of a line at a moment: the bytes that are still to come of it, and those that it took
 pub record Line (L : Type 0) : Type 0 where
   pub held : L → Option (List ℕ)
   pub taken : L → Option (List ℕ)

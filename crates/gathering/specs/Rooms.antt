@@ -40,7 +40,7 @@ count_at Orders = 0
 abbrev pub clients_among : {L : Type 0} → List (Comer L) → ℕ
 clients_among comers = sum_by (λ comer. count_at comer.door) comers
 
--- whoever is let in was told nothing yet, as far as his line tells what it took
+-- whoever is let in got nothing yet, as far as his line says what it took
 abbrev pub IsFresh : {L : Type 0} → (L → Option (List ℕ)) → Admitted L → Type 0
 IsFresh taken (One comer) = HasTaken (taken comer.line) []
 IsFresh taken Nobody = ⊤

@@ -35,8 +35,8 @@ pub struct Answer {
     pub sent: usize,
 }
 
-/// A client, or an order that is handed over: at which door he came in, his line, his number in the order of coming, and since
-/// when his present half minute runs, in milliseconds. Then what was gathered of him, and his answer once he has one.
+/// A client, or an order that is handed over. It has the door at which he came in, his line, his number in the order of coming, and
+/// since when his present half minute runs, in milliseconds. Then it has what was gathered of him, and his answer once he has one.
 #[derive(Drop)]
 pub struct Client<L> {
     pub door: Door,
@@ -124,7 +124,7 @@ fn gather<L: Line>(line: &mut L, got: &mut Vec<u8>, wanted: usize) -> Result<Hea
     Ok(Heard::Enough)
 }
 
-/// Puts what is left of an answer, until all is told or the line takes no more now; whether all is told.
+/// Puts what is left of an answer, until all is put or the line takes no more now; whether all is put.
 pub fn deliver<L: Line>(line: &mut L, answer: &mut Answer) -> Result<bool, Broken>
     ensures delivers { Delivers (line_of L.held L.taken) line.old line.new answer.old.bytes.items answer.old.sent answer.new.sent }
     ensures same { answer.new.bytes.items ≡ answer.old.bytes.items }

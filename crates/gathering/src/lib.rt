@@ -1,10 +1,9 @@
 //! Clients whose lines are read and written side by side, while no call waits.
 //!
-//! A [`Line`](line) gives what has come of a client, and takes what it has room for. A [`Client`](client) keeps what was
-//! gathered of him, and then his answer; a [`Room`](room) has the clients of one moment, and says who has waited
-//! longest. [`Doors`](doors) let clients and orders in, and tell who may go on. Nothing here knows a socket, a clock or an office: whose
-//! request is whole, and what he is answered, the crates above say. They read what was gathered by [`Gathered`](gathered), and
-//! write an answer into [`Writing`](writing).
+//! A [`Line`](line) gives what has come of a client, and takes what it has room for. A [`Client`](client) keeps what was gathered of him,
+//! and then his answer; a [`Room`](room) has the clients of one moment, and says who has waited longest. [`Doors`](doors) let clients and
+//! orders in, and say who may go on. Nothing here knows a socket, a clock or an office: whose request is whole, and what he is answered,
+//! the crates above say. They read what was gathered by [`Gathered`](gathered), and write an answer into [`Writing`](writing).
 #![tactic(auto)]
 
 pub mod client;

@@ -17,12 +17,12 @@ pub enum Came {
     End,
 }
 
-/// Both ways of a client's line: what he sends, and what he is told. No call waits.
+/// Both ways of a client's line: what he sends, and what he gets. No call waits.
 pub trait Line {
-    /// The bytes that are still to come of him, as far as they are told.
+    /// The bytes that are still to come of him, as far as they are known.
     ghost held: { Self → Option (List ℕ) };
 
-    /// The bytes that he took so far, as far as they are told.
+    /// The bytes that he took so far, as far as they are known.
     ghost taken: { Self → Option (List ℕ) };
 
     /// Puts what has come to the front of the room, as far as that goes.

@@ -19,15 +19,15 @@ pub record Guest (L : Type 0) : Type 0 where
 abbrev pub visits_of : ℕ → List Visit → List Visit
 visits_of number visits = filter (λ visit. visit.number == number) visits
 
--- What was gathered for a turn are his own bytes who came in at this door, from the first one on, until they came to their end.
+-- What was gathered for a turn are the own bytes of him who came in at this door, from the first one on, until they came to their end.
 pub record IsGathered {L : Type 0} (given : Given) (line : Line L) (came : Comer L) (visit : Visit) : Type 0 where
   pub door : visit.door ≡ came.door
   pub heard : L
   pub own : IsHeard line came.line heard visit.got
   pub come : HasComeAt came.door given (line.held heard) visit.got
 
--- How it went with one who came, by the visits under his number: he had no turn, and was told nothing; or he had one, in which his own bytes were gathered,
--- and of the answer to just these he was told the first so many, and nothing else.
+-- How it went with one who came, by the visits under his number. He had no turn, and got nothing. Or he had one, in which his own bytes were gathered; of
+-- the answer to just these he got the first so many, and nothing else.
 abbrev pub WentSo : {L : Type 0} → Given → Line L → Guest L → List Visit → Type 0
 WentSo given line guest [] = HasTaken (line.taken guest.last) []
 WentSo given line guest (visit ∷ []) = IsGathered given line guest.came visit × ((sent : ℕ) × IsTold line guest.last visit.answer sent)
@@ -45,7 +45,7 @@ abbrev pub HadFor : Option (List ℕ) → List Visit → Type 0
 HadFor None his = his ≡ []
 HadFor (Some answer) his = (visit : Visit) × (his ≡ visit ∷ []) × (visit.answer ≡ answer)
 
--- How it stands with one who is in: his door, his line, what was gathered of him and what he was told are his own, and his answer is that of his visit.
+-- How it stands with one who is in. His door, his line, what was gathered of him and what he got are his own, and his answer is that of his visit.
 pub record Stands {L : Type 0} (line : Line L) (visits : List Visit) (guest : Guest L) (client : Client L) : Type 0 where
   pub door : client.door ≡ guest.came.door
   pub last : guest.last ≡ client.line

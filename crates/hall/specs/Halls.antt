@@ -32,7 +32,7 @@ most_bytes = 67108864
 abbrev pub IsWithin : {L : Type 0} → Room L → Type 0
 IsWithin room = (length room.clients.items ≤ most_clients) × (bytes_held room.clients.items ≤ most_bytes)
 
--- one who was in at a place is let go: he had waited longest, and so long at least
+-- one who was in at a place is let go: he had waited longest, and at least so long
 pub record IsLetGo {L : Type 0} (least now : ℕ) (old : List (Client L)) (place : ℕ) (new : List (Client L)) : Type 0 where
   pub within : place < length old
   pub longest : (client : Client L) → IsLongest old (slice_index_or old place client)
@@ -47,8 +47,8 @@ AreLetGo least now old new = (new.came ≡ old.came) × (new.counted ≡ old.cou
 abbrev pub LetsInMore : {L : Type 0} → Option (List (Comer L)) → Option (List (Comer L)) → List (Comer L) → Type 0
 LetsInMore old new comers = new ≡ option_map (λ before. before ++ comers) old
 
--- From one moment of a room to another: more came in, each with the next number, and clients were counted; these visits were had; and whoever was in is still
--- who he was, or has left.
+-- From one moment of a room to another. More came in, each with the next number, and clients
+-- were counted. These visits were had. Whoever was in is still who he was, or has left.
 pub record GoesOn {L : Type 0} (given : Given) (line : Line L) (visits : List Visit) (let_in let_in_later : Option (List (Comer L))) (old new : Room L) : Type 0 where
   pub comers : List (Comer L)
   pub told : LetsInMore let_in let_in_later comers

@@ -1,4 +1,4 @@
--- An order that is handed over to the office that is served: what its message asks, what comes of that, and what is told of it in frames.
+-- An order that is handed over to the office that is served: what its message asks, what comes of that, and its page in frames.
 use Rattle.std.specs.Prelude.{◌≡◌, ◌⊎◌, ⊤, Bool, true, List, [], ◌∷◌, None, Some, bytes_eq, drop, if◌then◌else◌, length, map, option_map, take, ◌≤◌, ◌+◌, ℕ}
 use Rattle.std.specs.Int.{from_be_bytes, w64}
 use Rattle.std.specs.List.{list_all}
@@ -101,29 +101,29 @@ folder_of files path = Some (brought_at files path)
 abbrev pub untold : Outputs
 untold = record { out = Some []; out_failed = 0; err = Some []; err_failed = 0 }
 
--- What the outputs of an order took is told in frames: what they say is what its output took, and the last frame has the status and what its error
--- output took, of which it tells 65536 bytes at most; or memory was wanting for that frame, and it is missing.
+-- What the outputs of an order took goes out in frames. What they say is what its output took. The last frame has the status and what its error
+-- output took, of which it has 65536 bytes at most. Or memory was wanting for that frame, and it is missing.
 pub record IsToldInFrames (told : Outputs) (status : ℕ) (frames : List ℕ) : Type 0 where
   pub err : List ℕ
   pub is_err : told.err ≡ Some err
   pub out : told.out ≡ Some (said_by frames)
   pub end : IsOver frames status (take 65536 err) ⊎ AreWhole frames
 
--- a page was told in frames, so much of it
+-- a page went out in frames, so much of it
 pub record IsFramed (cut : Cut) (page : Page) (frames : List ℕ) : Type 0 where
   pub told : Outputs
   pub status : ℕ
   pub shown : IsShown cut untold told page status
   pub framed : IsToldInFrames told status frames
 
--- what is told of a copy of the office of a state: how much it has, and behind it maybe that its log couldn't be put into it; or why none is made
+-- the page of a copy of the office of a state: how much the copy has, and behind it maybe that its log couldn't be put into it; or why none is made
 abbrev pub IsCopyTold : OfficeState → Page → Type 0
 IsCopyTold s page =
     (page ≡ replied (copied_text (holdings_of s)))
     ⊎ ((page ≡ below (replied (copied_text (holdings_of s))) (failed CopyFailed)) ⊎ ((failure : Failure) × (page ≡ failed failure)))
 
--- What comes of what is asked at a state, and what that leaves of the office, whose connection was at `old`: a job is done in it; for a copy and for the
--- journal it is only read; and what isn't followed leaves it as it was.
+-- What comes of what is asked at a state, and what that leaves of the office, whose connection was at `old`. A job is done in it. For a copy and for the
+-- journal it is only read. What isn't followed leaves it as it was.
 abbrev pub ComesOf : State → Bool → State → Folder → OfficeState → Asked → Cut → Page → Type 0
 ComesOf old closed st folder s (asked.Do job) cut page = ComesTo cut page (IsDone old closed st folder s job)
 ComesOf old closed st folder s (asked.Copy path) cut page = IsCopyTold s page × IsReadAt s closed st
@@ -131,7 +131,7 @@ ComesOf old closed st folder s asked.Journal cut page = IsJournalTold s page × 
 ComesOf old closed st folder s (asked.Refused failure) cut page = (page ≡ failed failure) × IsOpenAt s closed st
 ComesOf old closed st folder s (asked.Misread fault) cut page = (page ≡ words_page fault) × IsOpenAt s closed st
 
--- what a closed office tells: that it is closed, of what is followed; and why anything else isn't
+-- the page of a closed office: that it is closed, of what is followed; and why anything else isn't
 abbrev pub shut_page : Asked → Page
 shut_page (asked.Do job) = closed_page
 shut_page (asked.Copy path) = closed_page
@@ -139,8 +139,8 @@ shut_page asked.Journal = closed_page
 shut_page (asked.Refused failure) = failed failure
 shut_page (asked.Misread fault) = words_page fault
 
--- What is asked with these files had its turn, and these frames are its answer: what came of it is told as far as its outputs took it, with what it left, if
--- the office was open; and that it is closed, if it was.
+-- What is asked with these files had its turn, and these frames are its answer. If the office was open, they have what came of it as far as its outputs took
+-- it, with what it left. If the office was closed, they say so.
 pub record TellsAsked {S : Type 0} (state_of : Held S → State) (old : OfficeValue S) (files : List PieceEntry) (asked : Asked) (frames : List ℕ) (new : OfficeValue S) : Type 0 where
   pub cut : Cut
   pub page : Page
@@ -162,8 +162,8 @@ pub record FollowsOrder {S : Type 0} (file : FileNumbers) (state_of : Held S →
 abbrev pub AreAnswered : List Request → ℕ → List Request → List Request → Type 0
 AreAnswered requests answered sent last = (sent ≡ take answered requests) × (last ≡ take 1 (drop answered requests))
 
--- The page of what is asked at a state, for which these requests were answered, and this one more was sent, if any. A job tells it of an office that was open
--- at that state, over some connection, whose failing may be the cause of a fault that is told.
+-- The page of what is asked at a state, for which these requests were answered, and this one more was sent, if any. A job prints it in an office that was
+-- open at that state, over some connection, whose failing may be the cause of a fault on it.
 abbrev pub TellsSo : {S : Type 0} → (Held S → State) → Folder → OfficeState → Asked → Cut → Page → List Request → List Request → Type 0
 TellsSo {S} state_of folder s (asked.Do job) cut page sent last =
     (old new : OfficeValue S)
@@ -173,7 +173,7 @@ TellsSo state_of folder s asked.Journal cut page sent last = IsJournalTold s pag
 TellsSo state_of folder s (asked.Refused failure) cut page sent last = (page ≡ failed failure) × (sent ≡ []) × (last ≡ [])
 TellsSo state_of folder s (asked.Misread fault) cut page sent last = (page ≡ words_page fault) × (sent ≡ []) × (last ≡ [])
 
--- an order that these bytes ask told its page at a state in these frames
+-- an order that these bytes ask printed its page at a state in these frames
 pub record TellsOrder {S : Type 0} (state_of : Held S → State) (file : FileNumbers) (s : OfficeState) (got frames : List ℕ) (sent last : List Request) : Type 0 where
   pub files : List PieceEntry
   pub asked : Asked
@@ -183,7 +183,7 @@ pub record TellsOrder {S : Type 0} (state_of : Held S → State) (file : FileNum
   pub told : IsFramed cut page frames
   pub tells : TellsSo state_of (folder_of files) s asked cut page sent last
 
--- an order that these bytes ask found the office closed, and is told so in these frames
+-- an order that these bytes ask found the office closed, and these frames say so
 pub record IsTurnedAway (file : FileNumbers) (got frames : List ℕ) : Type 0 where
   pub files : List PieceEntry
   pub asked : Asked

@@ -6,13 +6,13 @@ use Rattle.gathering.specs.declared.client.Answer.{Answer}
 use Rattle.handover.specs.Frames.{AreWhole, IsOver, Place, at_kind, hear, in_bytes, in_length, nothing_heard, said_by}
 use Rattle.hall.specs.declared.outlet.Outlet.{Outlet}
 
--- An answer is whole frames, of which the line took the first bytes, so many, and nothing else.
+-- An answer is whole frames. Of these the line took the first bytes, so many, and nothing else.
 pub record IsGoingOut {L : Type 0} (line : Line L) (now : L) (answer : Answer) : Type 0 where
   pub whole : AreWhole answer.bytes.items
   pub told : IsTold line now answer.bytes.items answer.sent
 
--- The answer of an order is ended: what it says for the output is what was said; the last frame has the status and what goes to the error output, of
--- which it tells 65536 bytes at most, or memory was wanting for that frame, and it is missing; and the line took the first bytes of it.
+-- The answer of an order is ended. What it says for the output is what was said. The last frame has the status and what goes to the error output, of
+-- which it has 65536 bytes at most; or memory was wanting for that frame, and it is missing. The line took the first bytes of the answer.
 pub record IsEnded {L : Type 0} (line : Line L) (said : List ℕ) (status : ℕ) (err : List ℕ) (now : L) (answer : Answer) : Type 0 where
   pub told : IsTold line now answer.bytes.items answer.sent
   pub is : said ≡ said_by answer.bytes.items
@@ -26,7 +26,7 @@ is_at_kind at_kind = true
 is_at_kind (in_length kind number left) = false
 is_at_kind (in_bytes kind left) = false
 
--- a line took just these bytes, if it tells what it took
+-- a line took just these bytes, if it says what it took
 abbrev pub has_taken : Option (List ℕ) → List ℕ → Bool
 has_taken None bytes = true
 has_taken (Some taken) bytes = bytes_eq taken bytes

@@ -1,4 +1,4 @@
--- What is kept in memory: answers to reads, to be told again while nothing changes; and the wrong codes that came.
+-- What is kept in memory: answers to reads, to be given again while nothing changes; and the wrong codes that came.
 use Rattle.std.specs.Prelude.{◌≡◌, Bool, false, List, [], None, Option, Some, if◌then◌else◌, map, ℕ}
 use Rattle.std.specs.List.{All}
 use Rattle.register.specs.Offices.{OfficeState}
@@ -15,7 +15,7 @@ use Rattle.hall.specs.declared.reads.Kept.{Kept}
 use Rattle.hall.specs.declared.reads.KeptAnswer.{KeptAnswer}
 use Rattle.hall.specs.declared.remembered.Remembered.{Remembered}
 
--- the bytes of a request, and those of the answer that was told to them
+-- the bytes of a request, and those of the answer to them
 pub record ReadEntry : Type 0 where
   pub got : List ℕ
   pub answer : List ℕ
@@ -33,7 +33,7 @@ pub record IsRead (given : GivenEntry) (s : OfficeState) (got answer : List ℕ)
   pub status : ℕ
   pub told : IsServed (λ response. IsTold (reading_response s what) response) (Some []) (Some answer) (Answered status)
 
--- an answer was told whole, and it tells no fault (503)
+-- an answer was given whole, and it is no fault (503)
 abbrev pub TellsNoFault : Served → Type 0
 TellsNoFault (Answered status) = status ≡ 503 → ⊥
 TellsNoFault ReadFailed = ⊥

@@ -18,12 +18,12 @@ use Rattle.hall.specs.Visits.{ServesVisit, Visit}
 abbrev pub HasCome : GivenEntry → Option (List ℕ) → List ℕ → Type 0
 HasCome given held got = IsWhole given got ⊎ IsAtEnd held
 
--- so it is of who came in at a door: the message of an order came whole
+-- the same of who came in at a door; for an order, that its message came whole
 abbrev pub HasComeAt : Door → Given → Option (List ℕ) → List ℕ → Type 0
 HasComeAt Clients given held got = HasCome given.clients held got
 HasComeAt Orders given held got = HasCameWhole got
 
--- whoever has no answer was told nothing yet, as far as his line tells what it took
+-- whoever has no answer got nothing yet, as far as his line says what it took
 abbrev pub IsUntold : {L : Type 0} → Line L → Client L → Type 0
 IsUntold line client = client.answer ≡ None → HasTaken (line.taken client.line) []
 
@@ -31,7 +31,7 @@ IsUntold line client = client.answer ≡ None → HasTaken (line.taken client.li
 abbrev pub answer_of : {L : Type 0} → Client L → Option (List ℕ)
 answer_of client = option_map (λ answer. answer.bytes.items) client.answer
 
--- a client has his answer, and was told all of it
+-- a client has his answer, and got all of it
 abbrev pub IsToldAll : {L : Type 0} → Client L → Type 0
 IsToldAll client = IsSomeAnd client.answer (λ answer. length answer.bytes.items ≤ answer.sent)
 

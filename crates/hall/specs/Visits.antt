@@ -22,8 +22,8 @@ use Rattle.hall.specs.Handings.{FollowsOrder, IsTurnedAway, TellsOrder}
 use Rattle.hall.specs.Reads.{AreReadAt, Desk, must_wait, tries_behind}
 use Rattle.hall.specs.Terms.{Given}
 
--- Who had a turn, a client or an order that was handed over: at which door he came in, his number in the order of coming, the moment of his turn, by a clock in
--- milliseconds, what was gathered of him, and the answer that was put for him.
+-- Who had a turn, a client or an order that was handed over: the door at which he came in, his number in the order of coming, the moment of his turn
+-- (by a clock, in milliseconds), what was gathered of him, and the answer that was put for him.
 pub record Visit : Type 0 where
   pub door : Door
   pub number : ℕ
@@ -40,7 +40,7 @@ EndsIn answer IsEnd = (served : Served) × IsEnd (Some []) (Some answer) served
 abbrev pub EndsSo : Visit → (Option (List ℕ) → Option (List ℕ) → Served → Type 0) → Type 0
 EndsSo visit IsEnd = EndsIn visit.answer IsEnd
 
--- the office served these bytes with this answer: what it tells and what that left, if the office was open; and that it is closed, if it was
+-- the office served these bytes with this answer. If it was open, the answer has what they ask, with what that left; if it was closed, the answer says so.
 pub record HasServed {S : Type 0} (given : GivenEntry) (state_of : Held S → State) (old : OfficeValue S) (got answer : List ℕ) (new : OfficeValue S) : Type 0 where
   pub serves : WhenOpenAt state_of old new (λ s. EndsIn answer (IsServed (λ response. ReadiesFor given (Some got) s response new.closed (state_of new.held))))
   pub turned_away : old.closed ≡ true → EndsIn answer (IsServed (ReadiesClosed given (Some got))) × (new ≡ old)
@@ -53,8 +53,8 @@ KeepsReads given state_of old got new =
     ⊎ (((what : Reading) × Asks given got (reading what))
     × WhenOpenAt state_of old.office new.office (λ s. AreReadAt given s old.kept.reads → AreReadAt given s new.kept.reads × IsReadAt s new.office.closed (state_of new.office.held)))
 
--- a client was served, by the office or from what was kept: what he is told and what that left, if the office was open and what was kept was right; and that it
--- is closed, if it was
+-- a client was served, by the office or from what was kept. If the office was open and what was kept was right, his answer has what he asks, with what that
+-- left. If the office was closed, the answer says so.
 pub record ServesClient {S : Type 0} (given : GivenEntry) (state_of : Held S → State) (old : Desk S) (visit : Visit) (new : Desk S) : Type 0 where
   pub serves : WhenOpenAt state_of old.office new.office
       (λ s. AreReadAt given s old.kept.reads → EndsSo visit (IsServed (λ response. ReadiesFor given (Some visit.got) s response new.office.closed (state_of new.office.held))))
@@ -103,7 +103,7 @@ IsLastFor given bytes last =
     (last ≡ [])
     ⊎ ((clerk batch : ℕ) × (entry : KeyingEntry) × (request : Request) × Asks given bytes (keying clerk batch entry) × IsHandedOn clerk batch entry request × (last ≡ request ∷ []))
 
--- who finds the office closed is told so, where he asks it anything; or he is told that he must wait
+-- who finds the office closed gets the answer that it is, where he asks it anything; or the answer that he must wait
 abbrev pub IsToldClosed : Door → Given → Visit → Type 0
 IsToldClosed Clients given visit = IsToldToWait visit ⊎ EndsSo visit (IsServed (ReadiesClosed given.clients (Some visit.got)))
 IsToldClosed Orders given visit = IsTurnedAway given.file visit.got visit.answer
@@ -113,19 +113,19 @@ abbrev pub AreTurnedAway : Given → List Visit → Type 0
 AreTurnedAway given [] = ⊤
 AreTurnedAway given (visit ∷ visits) = IsToldClosed visit.door given visit × AreTurnedAway given visits
 
--- Who has his turn at a state is answered, and these requests were answered for him: of a client none or one keying, and one where he is told what the office says
--- to it; of who must wait none; of an order those that its page tells.
+-- Who has his turn at a state is answered, and these requests were answered for him. For a client there is none, or one keying, and one where his answer is what
+-- the office says to it. For a client who must wait there is none. For an order they are those that its page has.
 abbrev pub IsAnsweredAt : {S : Type 0} → Door → (Held S → State) → Given → OfficeState → Visit → List Request → Type 0
 IsAnsweredAt Clients state_of given s visit sent = (IsToldToWait visit × (sent ≡ [])) ⊎ EndsSo visit (IsServed (TellsFor given.clients (Some visit.got) s sent))
 IsAnsweredAt Orders state_of given s visit sent = (last : List Request) × TellsOrder state_of given.file s visit.got visit.answer sent last
 
--- A fault, which he is told, closed the office in his turn: these requests were answered, and one more may be kept or not.
+-- A fault, which he gets as his answer, closed the office in his turn: these requests were answered, and one more may be kept or not.
 abbrev pub IsStoppedAt : {S : Type 0} → Door → (Held S → State) → Given → OfficeState → Visit → List Request → List Request → Type 0
 IsStoppedAt Clients state_of given s visit answered last = EndsSo visit (IsServed TellsFault) × (answered ≡ []) × IsLastFor given.clients visit.got last
 IsStoppedAt Orders state_of given s visit answered last = TellsOrder state_of given.file s visit.got visit.answer answered last
 
 -- All are answered in turn, each as the office's machine says where his turn comes, and these requests were answered for them. Or a fault closed the office in
--- the turn of one of them, and everyone behind him is told that it is closed.
+-- the turn of one of them, and everyone behind him gets the answer that it is closed.
 abbrev pub AnswersInTurn : {S : Type 0} → (Held S → State) → Given → OfficeState → List Visit → List Request → List Request → Type 0
 AnswersInTurn state_of given s [] answered last = (answered ≡ []) × (last ≡ [])
 AnswersInTurn state_of given s (visit ∷ visits) answered last =

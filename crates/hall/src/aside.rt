@@ -15,7 +15,7 @@ use votes::Sink;
 /// Copies an open office to a new file, and prints its journal. The office goes on, and is only read; which files these are,
 /// the program says.
 pub trait Aside {
-    /// Copies the office to the file at a path, as it is seen from a folder, and tells how much the copy has.
+    /// Copies the office to the file at a path, as it is seen from a folder, and prints how much the copy has.
     fn copy<S: Alter, O: Sink, E: Sink>(
         &self,
         office: &mut Office<S>,

@@ -1,4 +1,4 @@
-//! Who goes on, a client or an order: he is heard, has his turn once what he asks has come to its end, and is told his answer.
+//! Who goes on, a client or an order: he is heard, has his turn once what he asks has come to its end, and gets his answer.
 
 ghost use Rattle.std.specs.Prelude.{◌≡◌, ℕ, [], None, Ok, Some, false, true};
 ghost use Rattle.sqlite.specs.Held.{state};
@@ -30,7 +30,7 @@ use wire::{Given, Lacks, Served, knock_of, lacks, serve_one, tell_to_wait};
 /// How many bytes of a client are heard before it is looked what they lack: as many as the head of a request may have.
 const FRONT: usize = 8192;
 
-/// The status of an answer that tells a fault, which isn't kept.
+/// The status of an answer with a fault, which isn't kept.
 const FAULT: u16 = 503;
 
 /// What became of who went on.
@@ -99,7 +99,7 @@ fn hear<L: Line>(alloc: Global, given: Given<'_>, client: &mut Client<L>) -> Res
     }
 }
 
-/// Whether an answer was told whole, and tells no fault.
+/// Whether an answer was given whole, and is no fault.
 fn tells_no_fault(served: Served) -> bool
     ensures { result ≡ true → TellsNoFault served }
 {
@@ -110,8 +110,8 @@ fn tells_no_fault(served: Served) -> bool
     }
 }
 
-/// Serves a client of whom these bytes were gathered, and gives his answer, of which nothing was told yet; and whether it was
-/// told whole, and without a fault. Where memory is wanting for it, it is a beginning.
+/// Serves a client of whom these bytes were gathered, and gives his answer, of which nothing went out yet; and whether it is
+/// whole, and without a fault. Where memory is wanting for it, it is a beginning.
 fn served<S: Alter>(
     alloc: Global,
     given: Given<'_>,
@@ -143,8 +143,8 @@ fn is_reading<S: Alter>(alloc: Global, given: Given<'_>, got: &[u8], office: &Of
     asks_reading(alloc, given, got)
 }
 
-/// The answer to a client who asks for a read. What is read anew is kept for who asks the same; and where an answer to the same
-/// is kept, it is told again.
+/// The answer to a client who asks for a read. What is read anew is kept for who
+/// asks the same; and where an answer to the same is kept, it is given again.
 fn read_answer<S: Alter>(
     alloc: Global,
     given: Given<'_>,
@@ -170,7 +170,7 @@ fn read_answer<S: Alter>(
     Answer { bytes, sent: 0 }
 }
 
-/// The answer to a client who is let in, of whom these bytes were gathered, of which nothing was told yet. Before anything but a
+/// The answer to a client who is let in, of whom these bytes were gathered; nothing of it went out yet. Before anything but a
 /// read no answer is kept any more.
 fn answered<S: Alter>(
     alloc: Global,
@@ -192,7 +192,7 @@ fn answered<S: Alter>(
     Answer { bytes, sent: 0 }
 }
 
-/// The answer to who must wait, of which nothing was told yet.
+/// The answer to a client who must wait; nothing of it went out yet.
 fn to_wait(alloc: Global) -> Answer
     ensures told { (visit : Visit) → visit.answer ≡ result.bytes.items → IsToldToWait visit }
     ensures untold { result.sent ≡ 0 }
@@ -205,8 +205,8 @@ fn to_wait(alloc: Global) -> Answer
     }
 }
 
-/// The answer to a client of whom these bytes were gathered, of which nothing was told yet. Who knocks under the number of a
-/// clerk who must wait is told so, and nothing else comes of it; of anybody else it is noted if his code was wrong.
+/// The answer to a client of whom these bytes were gathered; nothing of it went out yet. A client who knocks under the number of
+/// a clerk who must wait is answered so, and nothing else comes of it. Of anybody else it is noted if his code was wrong.
 fn answer_client<S: Alter>(
     alloc: Global,
     given: Given<'_>,
@@ -228,8 +228,8 @@ fn answer_client<S: Alter>(
     answer
 }
 
-/// The answer to who came in at a door, of whom all was heard, and his line again: of a client nothing was told yet, and an order
-/// was told what its line took.
+/// The answer to who came in at a door, of whom all was heard, and his line
+/// again. To a client nothing went out yet, and to an order what its line took.
 fn answer_to<L: Line, A: Aside, S: Alter>(
     alloc: Global,
     terms: Terms<'_>,
@@ -259,7 +259,7 @@ fn answer_to<L: Line, A: Aside, S: Alter>(
     }
 }
 
-/// Tells a client more of his answer, if he has one.
+/// Puts out more of his answer to a client, if he has one.
 fn tell_more<L: Line>(client: &mut Client<L>) -> Attended
     ensures is { (start : L) → IsOf (line_of L.held L.taken) start client.old → IsOf (line_of L.held L.taken) start client.new }
     ensures same { IsSameClient client.old client.new }
@@ -276,7 +276,7 @@ fn tell_more<L: Line>(client: &mut Client<L>) -> Attended
     }
 }
 
-/// Who was heard to the end has his turn: he is served, or followed, from that alone, and told of his answer what he takes now.
+/// Who was heard to the end has his turn: he is served, or followed, from that alone, and gets of his answer what he takes now.
 fn take_turn<L: Line, A: Aside, S: Alter>(
     alloc: Global,
     terms: Terms<'_>,
@@ -327,12 +327,11 @@ fn take_turn<L: Line, A: Aside, S: Alter>(
     }
 }
 
-/// A client, or an order that is handed over, goes on at a moment, in milliseconds of a clock, as far as his line lets him now:
-/// he is heard; once what he asks has come to its end, this is his turn, and he is served, or told that he must wait for wrong
-/// codes; and he is told his answer. He is given back, with what became of him.
+/// A client, or an order that is handed over, goes on at a moment, in milliseconds of a clock, as far as his line lets him now.
+/// He is heard. Once what he asks has come to its end, this is his turn: he is served, or answered that he must wait for wrong
+/// codes. Then he gets his answer. He is given back, with what became of him.
 ///
-/// What is gathered of him are his own bytes, from his first one on, and what he is told is the answer to just these. Nobody
-/// else is touched.
+/// What is gathered of him are his own bytes, from his first one on, and what he gets is the answer to just these. Nobody else is touched.
 pub fn attend<L: Line, A: Aside, S: Alter>(
     alloc: Global,
     terms: Terms<'_>,

@@ -68,8 +68,7 @@ pub fn is_for_file(handed: &Handed<'_>, file: FileNumbers) -> bool
         && handed.inode == file.inode
 }
 
-/// What an order asks that was handed over for the file that is served. `init`, `migrate` and `serve` are told that the
-/// office is being served.
+/// What an order asks that was handed over for the file that is served. `init`, `migrate` and `serve` get the answer that the office is being served.
 pub fn asked_by<'w>(alloc: Global, words: &'w [&'w str]) -> Asked<'w>
     ensures { (h : HandedEntry) → map (λ p. p.name) h.words ≡ map (λ word. word.now) words.entry.now → AsksSo h result }
 {

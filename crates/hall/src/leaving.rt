@@ -61,8 +61,8 @@ fn is_full<L>(room: &Room<L>) -> bool
     room.clients.len() >= MAX_CLIENTS || bytes_held(room.clients.as_slice()) >= MAX_BYTES
 }
 
-/// Sees that one more may come in: where nobody more may be in, and somebody may be let go for him, the one is let go who has
-/// waited longest, if that is a second at least; whether one more may.
+/// Sees that one more may come in, and answers whether one may. Where nobody more may be in, and somebody may be let go for him,
+/// the one is let go who has waited longest, if that is a second at least.
 pub fn make_room<L: Line + Drop>(room: &mut Room<L>, lets_go: bool, now: u64) -> bool
     ensures go { AreLetGo GRACE now room.old room.new }
     ensures room { result ≡ true → IsWithin room.old → length room.new.clients.items < MAX_CLIENTS }

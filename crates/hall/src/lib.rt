@@ -4,19 +4,19 @@
 //! [`serve_hall`] lets in who comes to the [`Doors`](gathering::Doors), at most 512 at once. [`attend`] hears who goes on as far
 //! as his line lets him now. Once what he asks has come to its end, this is his turn: a client is served from what was
 //! gathered, and an order is followed in the open office. So nobody waits for another's line, and the office does one thing at
-//! a time. A read that is asked for again, while nothing has changed, is told from memory. Where clerks' codes are asked for,
-//! who sends ten wrong ones makes his clerk wait a minute.
+//! a time. A read that is asked for again, while nothing has changed, is answered from memory. Where clerks' codes are asked
+//! for, ten wrong ones under a clerk's number make everyone wait who asks under it, for a minute.
 //!
-//! `specs/Visits.antt` says what is kept of those who had their turns, `specs/Handings.antt` what an order asks and is told,
-//! `specs/Reads.antt` which answers and wrong codes are kept, `specs/Turns.antt` what a turn is, `specs/Guests.antt` how it
-//! went with each who came, and `specs/Halls.antt` what is promised of them all.
+//! `specs/Visits.antt` says what is kept of those who had their turns, and `specs/Handings.antt` what an order asks and what
+//! it prints. `specs/Reads.antt` says which answers and wrong codes are kept, and `specs/Turns.antt` what a turn is.
+//! `specs/Guests.antt` says how it went with each who came, and `specs/Halls.antt` what is promised of them all.
 //!
 //! ```text
 //! serve_hall(alloc, &clock, &mut doors, terms, tries, &aside, connections, &mut office)?    // Broken: the doors or the clock failed
 //! ```
 #![tactic(auto)]
 
-// what an order asks, and what it is told
+// what an order asks, and what comes of it
 pub mod aside;
 mod handing;
 mod message;

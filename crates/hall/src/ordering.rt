@@ -1,4 +1,4 @@
-//! An order that was handed over has its turn: it is followed in the open office, and its page is told in frames.
+//! An order that was handed over has its turn: it is followed in the open office, and its page goes out in frames.
 
 ghost use Rattle.std.specs.Prelude.{◌≡◌, ◌-◌, ◌^◌, ◌<◌, ℕ, List, [], true};
 ghost use Rattle.sqlite.specs.State.{HasCleanDisk};
@@ -46,7 +46,7 @@ impl<'b> Folder for Brought<'b> {
     }
 }
 
-/// Tells what a closed office tells of an order: that it is closed, of what is followed; and why anything else isn't.
+/// Prints what a closed office says of an order: that it is closed, of what is followed; and why anything else isn't.
 fn tell_shut<O: Sink, E: Sink>(asked: &Asked<'_>, out: &mut O, err: &mut E) -> u8
     requires out { O.failed out.old < 2 ^ 64 - 1 }
     requires err { E.failed err.old < 2 ^ 64 - 1 }
@@ -108,8 +108,8 @@ fn do_open<A: Aside, S: Alter, O: Sink, E: Sink>(
     }
 }
 
-/// Does what an order asks in the office, which is open or closed, and gives the status. A closed office tells that it is
-/// closed, of whatever it would do otherwise.
+/// Does what an order asks in the office, which is open or closed, and gives the status. A closed office reports that it is
+/// closed, for whatever it would do otherwise.
 fn do_asked<A: Aside, S: Alter, O: Sink, E: Sink>(
     alloc: Global,
     aside: &A,
@@ -134,9 +134,9 @@ fn do_asked<A: Aside, S: Alter, O: Sink, E: Sink>(
     do_open(alloc, aside, asked, brought, office, out, err)
 }
 
-/// Gives an order its turn, which asks this, and tells its page in frames, over its line, which it gives back. What the line
-/// doesn't take now stays in the answer, which is told side by side with those of others. Where memory is wanting for the
-/// frame of the end, the answer ends without it.
+/// Gives an order its turn, which asks this, and puts its page out in frames, over its line, which it
+/// gives back. What the line doesn't take now stays in the answer, which goes out side by side with
+/// those of others. Where memory is wanting for the frame of the end, the answer ends without it.
 fn tell_asked<L: Line, A: Aside, S: Alter>(
     alloc: Global,
     aside: &A,
@@ -155,7 +155,7 @@ fn tell_asked<L: Line, A: Aside, S: Alter>(
     out.end(status, err.into_bytes().as_slice())
 }
 
-/// Gives an order its turn that was read: what it asks is told, or why it isn't followed.
+/// Gives an order its turn that was read: it prints what the order asks, or why it isn't followed.
 fn tell_handed<L: Line, A: Aside, S: Alter>(
     alloc: Global,
     file: FileNumbers,
@@ -191,11 +191,11 @@ fn tell_handed<L: Line, A: Aside, S: Alter>(
     tell_asked(alloc, aside, &asked, brought, line, office)
 }
 
-/// Gives an order its turn whose message was gathered: it is followed in the office, and its page is told in frames, over its
-/// line, which is given back.
+/// Gives an order its turn whose message was gathered: it is followed in the
+/// office, and its page goes out in frames, over its line, which is given back.
 ///
-/// Bytes that spell no order, an order of another version of the program, and one over another file are told what a file is
-/// told that another program holds (102). `init`, `migrate` and `serve` are told that the office is being served (111).
+/// Bytes that spell no order, an order of another version of the program, and one over another file get what a file gets that
+/// another program holds (102). `init`, `migrate` and `serve` get the answer that the office is being served (111).
 pub fn answer_order<L: Line, A: Aside, S: Alter>(
     alloc: Global,
     file: FileNumbers,

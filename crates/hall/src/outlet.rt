@@ -1,4 +1,4 @@
-//! Where what an order tells goes, while it has its turn: into frames, and on to its line.
+//! Where what an order prints goes, while it has its turn: into frames, and on to its line.
 
 ghost use Rattle.std.specs.Prelude.{◌≡◌, ◌++◌, ◌≤◌, [], List, OnErr, OnOk, Some, length, ℕ};
 ghost use Rattle.gathering.specs.Lines.{HasTaken, line_of};
@@ -10,17 +10,17 @@ use handover::{put_over, put_said};
 use std::alloc::Global;
 use votes::{Broken, Sink};
 
-/// The most bytes that are told in one frame.
+/// The most bytes in one frame.
 pub const FRAME: usize = 65536;
 
 /// The most bytes of one order's answer. Whoever wants more ends `serve` first.
 const MAX_ANSWER: usize = 32 << 20;
 
-/// Where an order's replies go: behind what is told of it already, and on to its line, as far as that takes them now. It
-/// breaks where the line breaks, where memory is wanting, and where the answer gets too long.
+/// Where an order's replies go: behind what it has printed already, and on to its line, as far as that takes them now. It breaks
+/// where the line breaks, where memory is wanting, and where the answer gets too long.
 ///
-/// It has the line itself, not a reference to it: an order is followed by code that knows of a `Sink` alone, and so of a line
-/// that stood elsewhere nothing would be known behind it.
+/// It has the line itself, not a reference to it. An order is followed by code that knows of a `Sink` alone; so nothing would be
+/// known, behind it, of a line that stood elsewhere.
 pub struct Outlet<L> {
     pub line: L,
     pub answer: Answer,
@@ -28,7 +28,7 @@ pub struct Outlet<L> {
 }
 
 impl<L: Line> Outlet<L> {
-    /// Nothing is told yet. Takes no memory.
+    /// Nothing is printed yet. Takes no memory.
     pub fn new(alloc: Global, line: L) -> Outlet<L>
         requires { HasTaken (L.taken line) [] }
         ensures taken { said_through (line_of L.held L.taken) result ≡ Some [] }
@@ -44,8 +44,8 @@ impl<L: Line> Outlet<L> {
         }
     }
 
-    /// Puts the frame of the end behind what was told, and gives the line back, and the answer. Where memory is wanting for
-    /// the frame, the answer ends without it.
+    /// Puts the frame of the end behind what was printed, and gives the line back, and
+    /// the answer. Where memory is wanting for the frame, the answer ends without it.
     pub fn end(self, status: u8, err: &[u8]) -> (L, Answer)
         ensures { (said : List ℕ) → said_through (line_of L.held L.taken) self ≡ Some said → IsEnded (line_of L.held L.taken) said status err.now result.0 result.1 }
     {

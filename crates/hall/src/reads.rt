@@ -1,6 +1,6 @@
-//! Answers to reads that are kept, to be told again while nothing changes.
+//! Answers to reads that are kept, to be given again while nothing changes.
 //!
-//! Whoever asks the same, byte for byte, is told the same. Before any turn that isn't a read, nothing is kept any more.
+//! Whoever asks the same, byte for byte, gets the same. Before any turn that isn't a read, nothing is kept any more.
 
 ghost use Rattle.std.specs.Prelude.{◌≡◌, ◌⊎◌, ◌≤◌, ◌<◌, ◌++◌, ◌∷◌, [], IfSome, List, Option, ℕ, length, true};
 ghost use Rattle.std.specs.List.{Contains};
@@ -22,14 +22,14 @@ const MAX_ANSWERS: usize = 512;
 /// How a request for a read begins. What begins otherwise isn't read twice.
 const GET: &[u8] = b"GET ";
 
-/// A request, and what was told to it.
+/// A request, and the answer to it.
 #[derive(Drop)]
 pub struct KeptAnswer {
     pub got: Vec<u8>,
     pub answer: Vec<u8>,
 }
 
-/// The answers to reads that were told since anything may have changed, the oldest first.
+/// The answers to reads that were given since anything may have changed, the oldest first.
 #[derive(Drop)]
 pub struct Kept {
     pub answers: Vec<KeptAnswer>,
@@ -67,7 +67,7 @@ impl Kept {
         self.bytes = 0;
     }
 
-    /// The answer that was told to these bytes, if one is kept, and memory isn't wanting for it.
+    /// The answer that these bytes got, if one is kept, and memory isn't wanting for it.
     pub fn told_to(&self, alloc: Global, got: &[u8]) -> Option<Vec<u8>>
         ensures { IfSome result (λ answer. (entry : ReadEntry) × Contains (reads_in self.now) entry × (entry.got ≡ got.now) × (entry.answer ≡ answer.items)) }
     {

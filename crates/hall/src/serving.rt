@@ -29,7 +29,7 @@ use std::alloc::Global;
 use std::time::{Clock, Duration};
 use votes::Broken;
 
-/// How long the next look at those who wait may be put off, while somebody waits whom no event may tell of.
+/// How long the next look at those who wait may be put off, while somebody waits whom no event may name.
 const LOOK: u64 = 1_000;
 
 /// The most who come in before those who are in go on.
@@ -168,7 +168,7 @@ fn go_on_numbered<L: Line + Drop, C: Clock, A: Aside, S: Alter>(
     }
 }
 
-/// Each who may go on goes on, in the order in which that is told.
+/// Each who may go on goes on, in the order in which the doors name them.
 fn go_on_all<D: Doors, C: Clock, A: Aside, S: Alter>(
     alloc: Global,
     clock: &C,
@@ -195,8 +195,8 @@ fn go_on_all<D: Doors, C: Clock, A: Aside, S: Alter>(
     Ok(())
 }
 
-/// Lets in the next who waits at the doors, as far as there is room, or room is made: an order, or a client, as long as fewer
-/// clients came than are to come. Where nobody came in, how long the next look at the doors may be put off, in milliseconds.
+/// Lets in the next who waits at the doors, as far as there is room, or room is made: an order, or a client, as long as fewer clients
+/// came than are to come. Where nobody came in, it gives how long the next look at the doors may be put off, in milliseconds.
 fn let_one_in<D: Doors>(
     alloc: Global,
     doors: &mut D,
@@ -261,8 +261,8 @@ fn pause<L>(room: &Room<L>, look: u64, now: u64) -> Duration
     }
 }
 
-/// Those who are in go on, those whose time is over are let go, more come in, and it waits until somebody may go on; whether
-/// all have come who were to come, and all of them left.
+/// One round: those who are in go on, those whose time is over are let go, more come in, and it waits until somebody may go on.
+/// It answers whether all have come who were to come, and all of them left.
 fn go_round<D: Doors, C: Clock, A: Aside, S: Alter>(
     alloc: Global,
     clock: &C,
@@ -292,23 +292,24 @@ fn go_round<D: Doors, C: Clock, A: Aside, S: Alter>(
     Ok(false)
 }
 
-/// Serves those who come to the doors of an office, by what it was given, the origin of a proxy and the gate, if any: until so
-/// many clients came in and all who are in left, or without end, where no number is given. Orders that are handed over come in
-/// too, before clients, and don't count.
+/// Serves those who come to the doors of an office, by what it was given: the origin of a proxy and the gate, if any. It goes on
+/// until so many clients came in and all who are in left, or without end, where no number is given. Orders that are handed over
+/// come in too, before clients, and don't count.
 ///
-/// All are heard side by side, and so they are told their answers. Each has his turn once what he asks has come to its
+/// All are heard side by side, and side by side they get their answers. Each has his turn once what he asks has come to its
 /// end: a client is served whole in it, and an order is followed whole, in the very office. At most 512 are in at once, with
 /// 64 MiB of what they sent and are to take. Past that the next waits at the doors, and who has waited longest is let go for
 /// him, if that is a second at least. One has half a minute for what he asks, and half a minute more to take his answer. Who is
 /// let go gets no answer. Who can't be let in now is let in later.
 ///
-/// At the gate ten wrong codes under a clerk's number within a minute make everyone wait who asks there, for a minute: they
-/// are told so, and nothing else. The moments are those that the clock shows, and `tries` are the wrong codes that came before.
+/// At the gate ten wrong codes under a clerk's number within a minute make everyone wait who asks there, for a minute. The
+/// answer says so, and nothing else. The moments are those that the clock shows, and `tries` are the wrong codes that came
+/// before.
 ///
-/// What is gathered of a client, or of an order, are his own bytes, from the first one on, and what he is told is the answer
-/// to just these. Nothing changes an open office but clerks' keyings, at most one a client, and the requests of orders: whatever a
-/// stop leaves is the state after those that were answered, and at most one more. Each is told what the office's machine says
-/// where his turn comes. A closed office stays as it is.
+/// What is gathered of a client, or of an order, are his own bytes, from the first one on, and what he gets is the answer to just
+/// these. Nothing changes an open office but clerks' keyings, at most one a client, and the requests of orders. Whatever a stop
+/// leaves is the state after those that were answered, and at most one more. Each is answered as the office's machine says where
+/// his turn comes. A closed office stays as it is.
 ///
 /// `Broken` where the doors or the clock fail; what was answered before stands.
 pub fn serve_hall<D: Doors, C: Clock, A: Aside, S: Alter>(

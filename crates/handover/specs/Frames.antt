@@ -1,4 +1,4 @@
--- What is told of an order as it goes on, and of its end; and what of that has come, byte by byte.
+-- The frames of an order: what it prints as it goes on, and its end; and what of that has come, byte by byte.
 use Rattle.std.specs.Prelude.{◌≡◌, ℕ, zero, suc, ◌+◌, ◌*◌, ◌==◌, List, [], ◌∷◌, ◌++◌, fold, if◌then◌else◌}
 use Rattle.std.specs.List.{flat_map}
 use Rattle.handover.specs.Spelling.{string}
@@ -16,8 +16,8 @@ frame_bytes (over status err) = 2 ∷ string (status ∷ err)
 abbrev pub frames_bytes : List Frame → List ℕ
 frames_bytes frames = flat_map frame_bytes frames
 
--- where the next byte stands: it is the kind of a frame; or one of its length, of which those before gave this number, and so many are to come; or one of
--- its bytes, of which so many are to come
+-- where the next byte stands. It is the kind of a frame; or a byte of its length, of which those before gave this number, and so many are to come; or one
+-- of the frame's own bytes, of which so many are to come.
 pub data Place : Type 0 where
   at_kind : Place
   in_length : ℕ → ℕ → ℕ → Place

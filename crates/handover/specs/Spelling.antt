@@ -10,8 +10,8 @@ pub record PieceEntry : Type 0 where
   pub name : List ℕ
   pub bytes : Option (List ℕ)
 
--- an order that is handed over: by which version of the program, over which file, by the numbers of its device and its own; what was typed, in which
--- folder; and the files that it names
+-- An order that is handed over. It has the version of the program that gave it; the file that it is for, by the numbers of its device and its own;
+-- what was typed, and in which folder; and the files that it names.
 pub record HandedEntry : Type 0 where
   pub version : List ℕ
   pub device : ℕ

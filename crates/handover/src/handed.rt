@@ -7,8 +7,8 @@ pub struct Piece<'b> {
     pub bytes: Option<&'b [u8]>,
 }
 
-/// An order that is handed over: by which version of the program, over which file, by the numbers of its device and its
-/// own; what was typed, in which folder; and the files that it names.
+/// An order that is handed over. It has the version of the program that gave it; the file that it is for, by the numbers of its
+/// device and its own; what was typed, and in which folder; and the files that it names.
 #[derive(Drop)]
 pub struct Handed<'b> {
     pub version: &'b [u8],

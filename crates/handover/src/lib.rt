@@ -1,4 +1,4 @@
-//! An order that is handed over to the office that serves, as bytes; and what is told of it, as frames.
+//! An order that is handed over to the office that serves, as bytes; and what comes of it, as frames.
 //!
 //! [`Handed`] has one spelling, and what is read is spelled so.
 #![tactic(auto)]

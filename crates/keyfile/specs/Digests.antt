@@ -23,12 +23,13 @@ asked_digest digest = option_map digest_bytes digest
 abbrev pub digest_in : List ℕ → Option (List ℕ)
 digest_in text = result_ok (decode_sized text 32)
 
--- P holds of the bytes that a file is read as: of its own, where it tells them; where a digest is asked for, of bytes that have it, whatever the file tells
+-- P holds of the bytes that a file is read as. These are its own, where it says which it
+-- has. Where a digest is asked for, they are bytes that have it, whatever the file says.
 abbrev pub IsReadAs : Option (List ℕ) → Option (List ℕ) → (List ℕ → Type 0) → Type 0
 IsReadAs None told P = Known told P
 IsReadAs (Some digest) told P = (bytes : List ℕ) × (sha256 bytes ≡ digest) × Known told (λ own. own ≡ bytes) × P bytes
 
--- what is told of a file's bytes: where a digest is asked for and they have another, that, or that the reading was stopped; else what is told of any file
+-- what is reported of a file's bytes: where a digest is asked for and they have another, that, or that the reading was stopped; else what is reported of any file
 abbrev pub IsFaultBy : {Row : Type 0} → Option (List ℕ) → Format Row → List ℕ → FileFault → Type 0
 IsFaultBy None format bytes fault = IsFaultOf format (file_records bytes) fault
 IsFaultBy (Some digest) format bytes fault =

@@ -1,4 +1,4 @@
--- How the flaws of import files are told.
+-- The numbers and texts of the flaws of import files.
 use Rattle.std.specs.Prelude.{ℕ, List, [], ◌++◌, codes, Bool, true, false}
 use Rattle.std.specs.Fmt.{decimal}
 use Rattle.csv.specs.declared.error.ErrorKind.{ErrorKind}
@@ -6,7 +6,7 @@ use Rattle.csv.specs.declared.error.ErrorKind.TheVariants as kind
 use Rattle.keyfile.specs.declared.fault.Flaw.{Flaw}
 use Rattle.keyfile.specs.declared.fault.Flaw.TheVariants.{Header, RecordLength, Number, PaperOrder, Marks, NotUtf8, TooManyRecords, ReadFailed, Memory, OtherKeying, OtherFile}
 
--- the number by which a flaw is told
+-- the number of a flaw
 abbrev pub flaw_number : Flaw → ℕ
 flaw_number Header = 1
 flaw_number RecordLength = 2
@@ -66,7 +66,7 @@ is_stop Memory = true
 is_stop (OtherKeying batch clerk) = false
 is_stop OtherFile = false
 
--- what is told for an error of `csv`: `Io` is the one kind of an error of its reader
+-- the flaw for an error of `csv`: `Io` is the one kind of an error of its reader
 abbrev pub flaw_of : ErrorKind → Flaw
 flaw_of (kind.UnequalLengths pos expected len) = RecordLength
 flaw_of kind.OutOfMemory = Memory

@@ -8,8 +8,7 @@ use Rattle.keyfile.specs.declared.fault.FileFault.{FileFault}
 use Rattle.keyfile.specs.declared.fault.Flaw.{Flaw}
 use Rattle.keyfile.specs.declared.fault.Flaw.TheVariants.{Header, RecordLength, NotUtf8, TooManyRecords}
 
--- what a file holds: what is wrong with its first record as a header, if anything is, how many records may stand behind that, and what the one of some
--- number is read as
+-- what a file holds: what is wrong with its first record as a header, if anything is; how many records may stand behind that; and what the record of some number is read as
 pub record Format (Row : Type 0) : Type 0 where
   pub header_flaw : Record → Option Flaw
   pub most : ℕ
@@ -54,7 +53,7 @@ abbrev pub file_rows : {Row : Type 0} → Format Row → List Record → Result 
 file_rows format [] = Err (fault_at 0 Header)
 file_rows format (header ∷ others) = behind_header (text_header_flaw format header) (rows_from (read_record format header) 1 others)
 
--- what is told of a file: its own fault; or that reading was stopped at a record, and then no fault stands before that
+-- what is reported of a file: its own fault; or that reading was stopped at a record, and then no fault stands before that
 pub record IsFaultOf {Row : Type 0} (format : Format Row) (records : List Record) (fault : FileFault) : Type 0 where
   pub own : is_stop fault.flaw ≡ false → file_rows format records ≡ Err fault
   pub within : is_stop fault.flaw ≡ true → fault.record_number ≤ length records

@@ -30,8 +30,8 @@ abbrev pub first_flaw : Option Flaw → Option Flaw → Option Flaw
 first_flaw (Some flaw) later = Some flaw
 first_flaw None later = later
 
--- what is wrong with the header of a keying of a batch by a clerk: whose keying its first field says that it is comes before its columns, since a batch of
--- another ward has other columns
+-- what is wrong with the header of a keying of a batch by a clerk. Whose keying it is, by its
+-- first field, comes before its columns, since a batch of another ward has other columns.
 abbrev pub keying_header_flaw : List ℕ → ℕ → ℕ → Record → Option Flaw
 keying_header_flaw columns batch clerk [] = Some Header
 keying_header_flaw columns batch clerk (first ∷ fields) = first_flaw (first_field_flaw batch clerk first) (columns_flaw columns fields)

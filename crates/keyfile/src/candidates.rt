@@ -33,8 +33,7 @@ pub struct CandidateRow {
 /// file's records as `csv` has them, or the fault is that of the first faulty record, and of that
 /// its first flaw. `ReadFailed` and `Memory` may come at any record that no fault stands before.
 ///
-/// Where a digest is asked for, the rows are those of bytes that have it, and a file of others is
-/// told as `OtherFile`, whatever else is wrong with it.
+/// Where a digest is asked for, the rows are those of bytes that have it. A file of other bytes is `OtherFile`, whatever else is wrong with it.
 pub fn read_candidates<R: Read + Drop>(
     alloc: Global,
     r: R,

@@ -1,4 +1,4 @@
-//! The digest that a file may have to have: it tells one file from any other.
+//! The digest that a file may be asked to have: by it one knows the file from any other.
 
 ghost use Rattle.std.specs.Prelude.{◌≡◌, ◌≢◌, ◌↔◌, ◌⊎◌, IsTrue, IfErr, IfOk, option_map, true};
 ghost use Rattle.sha2.specs.Sha256.{sha256};

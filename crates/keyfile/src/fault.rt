@@ -7,8 +7,8 @@ ghost use Rattle.keyfile.specs.Faults.{flaw_number, flaw_words};
 use std::alloc::AllocError;
 use thiserror::Error;
 
-/// Why a record of an import file can't be taken. Of several the first in this order is told: other file,
-/// other keying, header, record length, too many records, not UTF-8, number, paper order, marks.
+/// Why a record of an import file can't be taken. Of several the first in this order is reported: other file, other keying,
+/// header, record length, too many records, not UTF-8, number, paper order, marks.
 #[derive(Clone, Copy, Debug, PartialEq, Eq, Error)]
 #[error("{}", self.words())]
 pub enum Flaw {
@@ -47,7 +47,7 @@ pub struct FileFault {
 }
 
 impl Flaw {
-    /// The number by which a flaw is told, 1 to 11.
+    /// The number of a flaw, 1 to 11.
     pub fn number(&self) -> u32
         ensures { result ≡ flaw_number self.now }
     {

@@ -10,8 +10,7 @@ use csv::ByteRecord;
 use std::alloc::Global;
 use std::str;
 
-/// The fields of a record as texts. `NotUtf8` is told where one of them isn't, `Memory` where it is
-/// wanting.
+/// The fields of a record as texts. `NotUtf8` where one of them isn't UTF-8, `Memory` where memory is wanting.
 pub(crate) fn texts(alloc: Global, raw: &ByteRecord) -> Result<Vec<&str>, Flaw>
     ensures fields { IfOk result (λ texts. map (λ t. t.now) texts.items ≡ fields_of raw.now) }
     ensures all { IfOk result (λ _. list_all is_utf8 (fields_of raw.now) ≡ true) }

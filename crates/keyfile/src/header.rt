@@ -52,8 +52,8 @@ fn named_in(field: &str) -> Option<(u32, u32)>
     in_range(plain_number_in(batch), plain_number_in(clerk))
 }
 
-/// What is wrong with the first field of a keying of a batch by a clerk, if anything is: `Header` where it is neither `paper`
-/// nor names a batch and a clerk in their ranges, and `OtherKeying` where it names others than these.
+/// What is wrong with the first field of a keying of a batch by a clerk, if anything is. It is `Header` where the field is
+/// neither `paper` nor names a batch and a clerk in their ranges. It is `OtherKeying` where the field names others than these.
 pub(crate) fn first_field_flaw(field: &str, batch: u32, clerk: u32) -> Option<Flaw>
     ensures { result ≡ first_field_flaw batch clerk field.now }
 {

@@ -28,11 +28,9 @@ const MOST_PAPERS: u32 = 500;
 /// right isn't judged here. The fault is that of the first faulty record, and of that its first flaw.
 /// `ReadFailed` and `Memory` may come at any record that no fault stands before.
 ///
-/// In place of `paper` the header may have `paper 12/4`: the file is then of batch 12 by clerk 4. One
-/// of another batch or by another clerk is told as `OtherKeying`, whatever its columns are; any other
-/// file of other columns is told as `Header`. A header that isn't UTF-8 is told as `Header`, and names
-/// nothing. Where a digest is asked for, the papers are those of bytes that have it, and a file of
-/// others is told as `OtherFile`.
+/// In place of `paper` the header may have `paper 12/4`: the file is then of batch 12 by clerk 4. A file of another batch or by another
+/// clerk is `OtherKeying`, whatever its columns are; any other file of other columns is `Header`. A header that isn't UTF-8 is `Header` too,
+/// and names nothing. Where a digest is asked for, the papers are those of bytes that have it, and a file of other bytes is `OtherFile`.
 pub fn read_keying<R: Read + Drop>(
     alloc: Global,
     r: R,

@@ -23,7 +23,7 @@ pub(crate) fn open<R: Read + Drop>(alloc: Global, r: R) -> Reader<R>
         .from_reader(alloc, r)
 }
 
-/// What is told for an error of `csv`: a failed read only where its reader failed.
+/// The flaw for an error of `csv`: a failed read only where its reader failed.
 fn flaw_of(error: &Error) -> Flaw
     ensures { result ≡ flaw_of (error_kind error.now) }
 {

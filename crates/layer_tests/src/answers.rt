@@ -1,4 +1,4 @@
-//! What the checker tells over files that can't be read, memory that is wanting, and outputs that fail. (What else it tells is
+//! What the checker prints over files that can't be read, memory that is wanting, and outputs that fail. (What else it prints is
 //! played in examples/checking.sh and examples/transcripts/checks.txt.)
 
 ghost use Rattle.std.specs.Prelude.{◌-◌, ◌^◌, ◌<◌};
@@ -11,7 +11,7 @@ use std::process::Abort;
 use std::test::Fail;
 use votes::{Counted, Sink};
 
-/// What is told of the sheet.
+/// What it prints of the sheet.
 const IS_SHEET: &str =
     "the text is the stage sheet that these ballots, rejected papers and lots give\n";
 
@@ -74,7 +74,7 @@ fn asked<O: Sink, E: Sink>(
     run(alloc, words, &folder, out, err)
 }
 
-/// Asks the checker by some words, and compares what it tells on the output and the error output, and its status.
+/// Asks the checker by some words, and compares what it prints on the output and the error output, and its status.
 fn tells(
     rt: &(impl Abort + AllocGlobal),
     words: &Result<Vec<String>, WordsFault>,
@@ -95,13 +95,13 @@ fn asks(rt: &(impl Abort + AllocGlobal), words: &str, told: &(&str, &str, u8)) -
     Ok(())
 }
 
-/// What is told where memory is wanting.
+/// What it prints where memory is wanting.
 const MEMORY: (&str, &str, u8) = ("", "error: memory is wanting\n", 3);
 
-/// What is told of a file that can't be read.
+/// What it prints of a file that can't be read.
 const UNREAD: (&str, &str, u8) = ("", "error: no?ne can't be read: there is none\n", 3);
 
-/// The words that the checker is asked by, and what it tells.
+/// The words that the checker is asked by, and what it prints.
 const ASKED: [(&str, (&str, &str, u8)); 5] = [
     ("large text", MEMORY),
     ("ballots large", MEMORY),
@@ -117,7 +117,7 @@ fn asked_over(alloc: Global, text: &str, out: &mut [u8], err: &mut [u8]) -> Resu
     Ok(asked(alloc, &words, text, &mut to_out, &mut to_err))
 }
 
-/// What is told of a text over outputs that have room for just this.
+/// What it prints of a text over outputs that have room for just this.
 fn breaks(
     rt: &(impl Abort + AllocGlobal),
     (text, out_told, err_told): &(&str, &str, &str),

@@ -218,7 +218,7 @@ fn long_file(alloc: Global) -> Result<String, AllocError> {
     Ok(file)
 }
 
-/// What a read that fails gives is told at its record.
+/// What a read that fails gives is reported at its record.
 fn break_off(rt: &(impl Abort + AllocGlobal), digest: Option<FileDigest>) -> Result<(), Fail> {
     let left = b"paper,1,2,3\n1,,,\n2,,".as_slice();
     gives(

@@ -62,7 +62,7 @@ fn reaches_sinks<P: Printed>(
     Ok(())
 }
 
-/// Prints it as a text, which is told, and to both sinks.
+/// Prints it as a text, which it gives, and to both sinks.
 pub fn print<P: Printed>(rt: &(impl Abort + AllocGlobal), printed: &P) -> Result<String, Fail> {
     let text = printed.text(rt.alloc())?;
     reaches_sinks(rt, printed, text.as_str())?;

@@ -1,5 +1,5 @@
-//! Texts checked against ballots, by the call itself: what is told of each, and the texts of an uncontested ward. (What else is
-//! told of ballots and texts is played in examples/transcripts/checks.txt.)
+//! Texts checked against ballots, by the call itself: what is reported of each, and the texts of an uncontested ward. (What else
+//! is printed of ballots and texts is played in examples/transcripts/checks.txt.)
 
 use crate::printed::{candidates_of, is_text};
 use count::Bundles;
@@ -64,12 +64,12 @@ fn words_of(alloc: Global, came: &Result<Checked, Problem>) -> Result<String, Al
     }
 }
 
-/// What is told of a text beside ballots, in words.
+/// What is reported of a text beside ballots, in words.
 fn told(alloc: Global, ballots: &[u8], text: &[u8]) -> Result<String, AllocError> {
     words_of(alloc, &check(alloc, ballots, text))
 }
 
-/// This is told of a text beside ballots.
+/// This is reported of a text beside ballots.
 fn tells(
     rt: &(impl Abort + AllocGlobal),
     ballots: &str,
@@ -81,7 +81,7 @@ fn tells(
     Ok(())
 }
 
-/// What is told of texts beside the ballots.
+/// What is reported of texts beside the ballots.
 const CHECKS: [(&str, &str); 4] = [
     (SHEET, "the sheet"),
     (DECLARATION, "the declaration"),

@@ -1,4 +1,4 @@
--- What an answer tells, and what it says of the office.
+-- What an answer says, and what it says of the office.
 use Rattle.std.specs.Prelude.{◌≡◌, ◌⊎◌, ℕ, Bool, true, false, List, [], string_bytes, Result, Ok, Err}
 use Rattle.sqlite.specs.Held.{Held}
 use Rattle.sqlite.specs.State.{State, HasCleanDisk}
@@ -14,25 +14,25 @@ use Rattle.office.specs.declared.answers.Answer.{Answer}
 use Rattle.office.specs.declared.answers.Answer.TheVariants.{Done, Kept, Refused}
 use Rattle.office.specs.Values.{OfficeValue}
 
--- what is told of an outcome: the reply of an accepted or a kept request, or the reason of a refusal
+-- what an outcome comes to for who asked: the reply of an accepted or a kept request, or the reason of a refusal
 pub data Told : Type 0 where
   done : List ℕ → Told
   again : List ℕ → Told
   no : Reason → Told
 
--- what an answer tells
+-- what an answer says
 abbrev pub told : Answer → Told
 told (Done reply) = done (string_bytes reply)
 told (Kept reply) = again (string_bytes reply)
 told (Refused why) = no why
 
--- what the machine would tell
+-- what the machine would answer
 abbrev pub told_of : Outcome → Told
 told_of (accepted next reply) = done reply
 told_of (kept reply) = again reply
 told_of (refused why) = no why
 
--- it tells that a request was accepted now
+-- it says that a request was accepted now
 abbrev pub is_done : Told → Bool
 is_done (done reply) = true
 is_done (again reply) = false
@@ -70,8 +70,8 @@ pub record IsKeptOpen (s : OfficeState) (f : Fault) (closed : Bool) (st : State)
   pub memory : f ≡ Memory
   pub open_at : IsOpenAt s closed st
 
--- What an order leaves that only read, whether or not it could be ended: the office is open at its state, or its store failed, which closed it; a stop
--- leaves the state as it was.
+-- What an order that only read leaves, whether or not it could be ended. The office is open
+-- at its state; or its store failed, which closed it. A stop leaves the state as it was.
 abbrev pub IsReadAt : OfficeState → Bool → State → Type 0
 IsReadAt s closed st = IsOpenAt s closed st ⊎ ((closed ≡ true) × LeavesState st (λ x. x ≡ s))
 
@@ -91,7 +91,7 @@ abbrev pub Handled : OfficeState → Outcome → Result Answer Fault → Bool �
 Handled s outcome (Ok answer) closed st = (told answer ≡ told_of outcome) × IsOpenAt (state_after s outcome) closed st
 Handled s outcome (Err f) closed st = IsKeptOpen s f closed st ⊎ IsClosedIn s outcome f closed st
 
--- A request that met a fault and was accepted all the same, sent again to an office that was opened at the state after it: it is kept, with the reply that
+-- A request that met a fault and was accepted all the same, sent again to an office that was opened at the state after it. It is kept, with the reply that
 -- it would have had, and nothing changes. (Where the office was opened at the state before it, it is handled as for the first time.)
 abbrev pub HandledAgain : OfficeState → Outcome → Result Answer Fault → Bool → State → Type 0
 HandledAgain s outcome (Ok answer) closed st = (told answer ≡ again (reply_of outcome)) × IsOpenAt (state_after s outcome) closed st

@@ -13,6 +13,6 @@ none_is_the_office requests = list_all (λ (r : Request). not (is_office r.actor
 abbrev pub own_requests : ℕ → List Request → List Request
 own_requests clerk requests = filter (λ (r : Request). r.actor == clerk) requests
 
--- the answers to the requests of one clerk, of those to the first requests of a list
+-- of the answers to the first requests of a list, those to the requests of one clerk
 abbrev pub own_answers : ℕ → List Request → List Answer → List Answer
 own_answers clerk requests answers = map (λ (p : Request × Answer). p.1) (filter (λ (p : Request × Answer). p.0.actor == clerk) (zip requests answers))

@@ -18,7 +18,7 @@ standing_in Keying = standing.Keying
 standing_in Sealed = standing.Sealed
 standing_in Declared = standing.Declared
 
--- a candidate is among those elected, where that is told
+-- a candidate is among those elected, where these are known
 abbrev pub is_among_elected : Option (List ℕ) → CandidateEntry → Bool
 is_among_elected None c = false
 is_among_elected (Some elected) c = list_any (nat_eq c.number) elected
@@ -37,6 +37,6 @@ listed_shown v = record {
 abbrev pub index_of : List ℕ → OfficeState → List ℕ
 index_of title s = index title (map listed_shown (ward_views s))
 
--- what is told where it is asked for: it is never refused
+-- the answer where the page is asked for: it is never refused
 abbrev pub index_told : List ℕ → OfficeState → Result (List ℕ) Reason
 index_told title s = Ok (index_of title s)

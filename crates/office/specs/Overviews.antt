@@ -1,4 +1,4 @@
--- What the office is told of how all stands.
+-- What the office alone gets as answers on how all stands.
 use Rattle.std.specs.Prelude.{ℕ, Bool, true, ◌||◌, if◌then◌else◌, List, Option, Some, None, Result, Ok, Err}
 use Rattle.register.specs.declared.refusal.Reason.{Reason}
 use Rattle.register.specs.declared.refusal.Reason.TheVariants.{NumberOutOfRange, NoSuchWard, NoSuchBatch, NoDifference, NotTaken}
@@ -7,15 +7,15 @@ use Rattle.register.specs.Offices.{OfficeState, ReceiptEntry}
 use Rattle.store.specs.Overviews.{BatchView, DifferencesView, DoubtfulPapersView, PapersView, WardView, batch_views_at, differences_at, doubtful_at, papers_at, receipts_of, ward_views}
 use Rattle.office.specs.Reads.{found_or}
 
--- what is told of all wards
+-- the answer on all wards
 abbrev pub wards_told : OfficeState → Result (List WardView) Reason
 wards_told s = Ok (ward_views s)
 
--- what is told of the batches of a ward
+-- the answer on the batches of a ward
 abbrev pub batches_told : OfficeState → ℕ → Result (List BatchView) Reason
 batches_told s ward = if is_ward_number ward then found_or NoSuchWard (batch_views_at s ward) else Err NumberOutOfRange
 
--- what is told of their doubtful papers
+-- the answer on their doubtful papers
 abbrev pub doubtful_told : OfficeState → ℕ → Result DoubtfulPapersView Reason
 doubtful_told s ward = if is_ward_number ward then found_or NoSuchWard (doubtful_at s ward) else Err NumberOutOfRange
 
@@ -24,7 +24,7 @@ abbrev pub differing_or : Reason → Option DifferencesView → Result Differenc
 differing_or why None = Err why
 differing_or why (Some d) = if d.differs then Ok d else Err NoDifference
 
--- what is told of them
+-- the answer on them
 abbrev pub differences_told : OfficeState → ℕ → Result DifferencesView Reason
 differences_told s batch = if is_batch_number batch then differing_or NoSuchBatch (differences_at s batch) else Err NumberOutOfRange
 
@@ -33,7 +33,7 @@ abbrev pub taken_or : Reason → Option PapersView → Result PapersView Reason
 taken_or why None = Err why
 taken_or why (Some p) = if p.taken then Ok p else Err NotTaken
 
--- what is told of them
+-- the answer on them
 abbrev pub papers_told : OfficeState → ℕ → Result PapersView Reason
 papers_told s batch = if is_batch_number batch then taken_or NoSuchBatch (papers_at s batch) else Err NumberOutOfRange
 
@@ -42,6 +42,6 @@ abbrev pub may_have_receipts : Option ℕ → Bool
 may_have_receipts None = true
 may_have_receipts (Some actor) = is_office actor || is_clerk actor
 
--- what is told of receipts
+-- the answer on receipts
 abbrev pub receipts_told : OfficeState → Option ℕ → Result (List ReceiptEntry) Reason
 receipts_told s actor = if may_have_receipts actor then Ok (receipts_of s actor) else Err NumberOutOfRange

@@ -1,4 +1,4 @@
--- What is told of a state, and what a read leaves.
+-- What is read of a state, and what a read leaves.
 use Rattle.std.specs.Prelude.{◌≡◌, ◌⊎◌, ◌&&◌, ⊤, ℕ, Bool, true, if◌then◌else◌, List, Option, Some, None, Result, Ok, Err}
 use Rattle.sqlite.specs.Held.{Held}
 use Rattle.sqlite.specs.State.{State}
@@ -22,19 +22,19 @@ abbrev pub found_or : {X : Type 0} → Reason → Option X → Result X Reason
 found_or why (Some x) = Ok x
 found_or why None = Err why
 
--- what is told of how a ward stands
+-- the answer on how a ward stands
 abbrev pub status_told : OfficeState → ℕ → Result StatusEntry Reason
 status_told s ward = if is_ward_number ward then found_or NoSuchWard (status_at s ward) else Err NumberOutOfRange
 
--- what is told of what comes next in a ward
+-- the answer on what comes next in a ward
 abbrev pub next_told : OfficeState → ℕ → Result StepEntry Reason
 next_told s ward = if is_ward_number ward then found_or NoSuchWard (next_at s ward) else Err NumberOutOfRange
 
--- what is told of the columns of a batch's papers
+-- the answer on the columns of a batch's papers
 abbrev pub columns_told : OfficeState → ℕ → Result (List ℕ) Reason
 columns_told s batch = if is_batch_number batch then found_or NoSuchBatch (columns_at s batch) else Err NumberOutOfRange
 
--- what is told of the work of a clerk
+-- the answer on the work of a clerk
 abbrev pub work_told : OfficeState → ℕ → Result (List WorkEntry) Reason
 work_told s clerk = if is_clerk clerk then Ok (work_of s clerk) else Err NumberOutOfRange
 
@@ -48,8 +48,8 @@ pub record IsClosedReading (s : OfficeState) (f : Fault) (closed : Bool) (st : S
   pub fault : f ≡ Store
   pub leaves : LeavesState st (λ x. x ≡ s)
 
--- What each exit of a read says and leaves: what is told of the state, or the reason why nothing is, with the office as it
--- was; or a fault. The values read stand for those of the definition by a view.
+-- What each exit of a read says and leaves. It is the answer that the state gives, or the reason why it gives none, with the office as it was; or a
+-- fault. The values read stand for those of the definition by a view.
 abbrev pub Read : {X Y : Type 0} → (Y → X) → OfficeState → Result X Reason → Result Y Stop → Bool → State → Type 0
 Read view s told (Ok y) closed st = (told ≡ Ok (view y)) × IsOpenAt s closed st
 Read view s told (Err (Refused why)) closed st = (told ≡ Err why) × IsOpenAt s closed st

@@ -38,8 +38,8 @@ pub record IsAfterBeginning (earlier requests : List Request) (answered : ℕ) (
   pub within : count ≤ length requests
   pub is : s ≡ after empty_office (accepted_of empty_office (earlier ++ take count requests))
 
--- The promise of the office: whatever a stop leaves is the state after the accepted requests of a beginning, which contains every earlier request, every
--- answered one of these, and at most one more.
+-- The promise of the office. Whatever a stop leaves is the state after the accepted requests of a beginning. That beginning contains every earlier
+-- request, every answered one of these, and at most one more.
 abbrev pub Keeps : List Request → List Request → ℕ → State → Type 0
 Keeps earlier requests answered st = LeavesState st (IsAfterBeginning earlier requests answered)
 

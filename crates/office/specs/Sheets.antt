@@ -32,12 +32,12 @@ candidate_shown c = (c.number, c.name)
 abbrev pub poll_shown : ElectionEntry → Option Poll
 poll_shown e = if has_count e then Some (record { valid = length e.ballots.papers; rejected = e.ballots.rejected }) else None
 
--- what the texts tell of an election, with these papers
+-- what the texts show of an election, with these papers
 abbrev pub shown_with : Option Poll → ElectionEntry → SheetEntry
 shown_with poll e =
     record { number = e.ward.number; name = e.ward.name; seats = e.ward.seats; candidates = map candidate_shown e.candidates; poll = poll }
 
--- what the texts tell of an election, with its own papers
+-- what the texts show of an election, with its own papers
 abbrev pub election_shown : ElectionEntry → SheetEntry
 election_shown e = shown_with (poll_shown e) e
 
@@ -49,8 +49,8 @@ is_numbered c = is_candidate_number c.number
 abbrev pub CanBeCounted : ElectionEntry → Type 0
 CanBeCounted e = has_count e ≡ true → IsContest (contest_of e)
 
--- an election whose texts can be written, as those of each ward of an office can: the ward's number and its seats are in range,
--- so are the numbers of its candidates, which ascend, its papers are no more than a ward can have, and it can be counted
+-- an election whose texts can be written, as those of each ward of an office can. The ward's number and its seats are in range, and so are the
+-- numbers of its candidates, which ascend. Its papers are no more than a ward can have, and it can be counted.
 pub record IsTextual (e : ElectionEntry) : Type 0 where
   pub number : e.ward.number ≤ last_ward
   pub some_seats : 1 ≤ e.ward.seats
@@ -84,7 +84,7 @@ lots_shown e = if has_count e then e.lots else []
 abbrev pub ballots_of : ElectionEntry → List ℕ
 ballots_of e = ballots (election_shown e) (bundles_shown e) (lots_shown e)
 
--- the result as a page to print and sign, under a title, where declared; before, how far the count is
+-- the result as a page to print and sign, under a title, where it is declared; before that, how far the count is
 abbrev pub result_page_of : List ℕ → ElectionEntry → List ℕ
 result_page_of title e = page (election_shown e) title (is_declared e.ward.phase) (stages_shown e) (lots_shown e)
 
@@ -92,7 +92,7 @@ result_page_of title e = page (election_shown e) title (is_declared e.ward.phase
 abbrev pub table_of : ElectionEntry → List ℕ
 table_of e = spreadsheet (election_shown e) (stages_shown e)
 
--- which text is told once the ward is in which phase
+-- which text may be printed once the ward is in which phase
 abbrev pub is_told_in : Text → Phase → Bool
 is_told_in Sheet phase = is_counted phase
 is_told_in Declaration phase = is_declared phase
@@ -113,7 +113,7 @@ abbrev pub text_found : Text → OfficeState → Option WardEntry → Result (Li
 text_found text s None = Err NoSuchWard
 text_found text s (Some w) = if is_told_in text w.phase then Ok (text_shown text (election_of s w)) else Err WrongPhase
 
--- what is told where a text of the ward of a number is asked for: the declaration once it is declared, each other once it is sealed
+-- the answer where a text of the ward of a number is asked for: the declaration once it is declared, each other text once it is sealed
 abbrev pub text_told : Text → OfficeState → ℕ → Result (List ℕ) Reason
 text_told text s ward = if is_ward_number ward then text_found text s (ward_at s ward) else Err NumberOutOfRange
 
@@ -122,8 +122,7 @@ abbrev pub StopsWriting : Bool → Stop → Type 0
 StopsWriting closed (Refused why) = ⊥
 StopsWriting closed (Failed f) = ((f ≡ Memory) × (closed ≡ false)) ⊎ ((f ≡ Store) × (closed ≡ true))
 
--- why no text of a ward in a phase is told: it isn't told in that phase, or memory was wanting and the office stays open; or a
--- fault closed the office
+-- why no text of a ward in a phase is given: the text may not be printed in that phase, or memory was wanting and the office stays open; or a fault closed the office
 abbrev pub StopsText : Text → Phase → Bool → Stop → Type 0
 StopsText text phase closed (Refused why) = (why ≡ WrongPhase) × (is_told_in text phase ≡ false) × (closed ≡ false)
 StopsText text phase closed (Failed f) = StopsWriting closed (Failed f)

@@ -17,10 +17,10 @@ pub enum Answer {
     Refused(Refusal),
 }
 
-/// Why a read tells nothing.
+/// Why a read gives nothing.
 #[derive(Drop)]
 pub enum Stop {
-    /// There is nothing to tell, for this reason.
+    /// The state gives nothing, for this reason.
     Refused(Refusal),
     /// It met a fault.
     Fault(Fault),

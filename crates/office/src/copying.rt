@@ -17,13 +17,12 @@ use std::alloc::Global;
 use store::{CopyFault, Fault, Holdings};
 
 impl<S: Alter> Office<S> {
-    /// Copies the office that a connection's database holds into that of another connection, which has nothing in it, in
-    /// one transaction. Tells how much the copy has: it opens at the very state of the office, with every receipt. No
-    /// office is open afterwards.
+    /// Copies the office that a connection's database holds into that of another connection, which has nothing in it, in one transaction.
+    /// Gives how much the copy has: it opens at the very state of the office, with every receipt. No office is open afterwards.
     ///
-    /// `Office` tells what `open_from` would, and nothing is copied; the office is only read, whatever comes of it.
-    /// `Taken` where there is a table with the name of one of ours already, or where the other connection is inside
-    /// a transaction. The other database is not changed then. After `Copy` it is found as it was, or the whole copy.
+    /// `Office` where `open_from` would report a fault, and nothing is copied; the office is only read, whatever comes of it.
+    /// `Taken` where there is a table with the name of one of ours already, or where the other connection is inside a
+    /// transaction. The other database is not changed then. After `Copy` it is found as it was, or the whole copy.
     pub fn copy<T: Alter>(
         alloc: Global,
         conn: &mut Connection<S>,
@@ -35,10 +34,10 @@ impl<S: Alter> Office<S> {
     }
 
     /// Copies this office, which goes on, into the database of another connection, which has nothing in it, in one
-    /// transaction. Tells how much the copy has: it opens at the very state of the office, with every receipt.
+    /// transaction. Gives how much the copy has: it opens at the very state of the office, with every receipt.
     ///
-    /// `Office` tells why the office couldn't be read, and nothing is copied. Any such fault but want of memory closes it.
-    /// `Taken` and `Copy` are those of `copy`. A closed office tells `Closed`.
+    /// `Office` says why the office couldn't be read, and nothing is copied. Any such fault but want of memory closes it. `Taken`
+    /// and `Copy` are those of `copy`. A closed office answers `Closed`.
     pub fn copy_open<T: Alter>(&mut self, copy: &mut Connection<T>) -> Result<Holdings, CopyFault>
         ensures copies { WhenOpenAt (state S.Store) self.old self.new
             (λ s. CopiesAt s (state T.Store copy.old) (state T.Store copy.new) result × IsReadAt s self.new.closed (state S.Store self.new.held)) }

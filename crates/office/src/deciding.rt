@@ -16,7 +16,7 @@ use sqlite::Alter;
 use std::alloc::Global;
 use store::{Fault, Store};
 
-/// The decision on a view; want of memory is told as `Memory`.
+/// The decision on a view; want of memory is the fault `Memory`.
 fn decided(alloc: Global, view: &View<'_>, command: &Command) -> Result<Decision, Fault>
     ensures decides { IfOk result (λ decision. (s : OfficeState) → IsViewOf s command.now view.now → outcome_of s decision ≡ step s view.now.actor view.now.id.now command.now) }
     ensures stays { (s : OfficeState) → IsState s → IsState (state_after s (step s view.now.actor view.now.id.now command.now)) }

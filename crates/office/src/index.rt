@@ -48,7 +48,7 @@ fn is_among(columns: &[u8], number: u32) -> bool
     columns.iter().any(|column| has_number(number, *column))
 }
 
-/// Whether a candidate is among those elected, where that is told.
+/// Whether a candidate is among those elected, where these are known.
 fn is_elected(elected: &Option<Columns>, candidate: &Candidate) -> bool
     ensures { result ≡ is_among_elected elected.now (candidate_entry candidate.now) }
 {
@@ -124,8 +124,7 @@ impl<S: Alter> Office<S> {
     /// The page of all wards, to hang at the door: how each stands, and who is elected where that is declared. An empty
     /// title is left out.
     ///
-    /// Nothing is changed. `Memory` leaves the office open; any other fault closes it. A closed office tells
-    /// `Closed`.
+    /// Nothing is changed. `Memory` leaves the office open; any other fault closes it. A closed office answers `Closed`.
     pub fn index(&mut self, title: &str) -> Result<String, Stop>
         ensures reads { ReadWhenOpen (state S.Store) self.old self.new string_bytes (λ s. index_told title.now s) result }
         ensures same { OnlyReads (state S.Store self.old.held) (state S.Store self.new.held) }

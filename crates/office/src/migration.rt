@@ -8,15 +8,13 @@ use std::alloc::Global;
 use store::{Fault, Migrated};
 
 impl<S: Alter> Office<S> {
-    /// Makes of an office that an earlier program made one that this program opens: its state stays as it is,
-    /// with every receipt, so that a request that was accepted then is `Kept` when it comes again. No office is
-    /// open afterwards; `open_from` opens it.
+    /// Makes of an office that an earlier program made one that this program opens. Its state stays as it is, with every receipt.
+    /// So a request that was accepted then is `Kept` when it comes again. No office is open afterwards; `open_from` opens it.
     ///
-    /// `WrongDatabase` and `NewerSchema` as `open_from` tells them. `Damaged` where the rows are the tables of
-    /// no state, neither of this program's version nor of the earlier one's. Nothing is changed then. After
-    /// `Memory` and `Store` the earlier office is found as it was, or the whole of the new one; where none was
-    /// there, nothing is changed. `Store` where the store failed, where rowids aren't the rows' own, or where the
-    /// connection is inside a transaction.
+    /// `WrongDatabase` and `NewerSchema` are those of `open_from`. `Damaged` where the rows are the tables of no state, neither
+    /// of this program's version nor of the earlier one's. Nothing is changed then. After `Memory` and `Store` the earlier office
+    /// is found as it was, or the whole of the new one; where none was there, nothing is changed. `Store` where the store failed,
+    /// where rowids aren't the rows' own, or where the connection is inside a transaction.
     pub fn migrate(alloc: Global, conn: &mut Connection<S>) -> Result<Migrated, Fault>
         ensures { Migrates S.Store conn.old conn.new result }
     {

@@ -77,10 +77,9 @@ impl<S: Alter> Office<S> {
 
     /// Opens the office that the connection's database holds, and changes nothing.
     ///
-    /// `WrongDatabase` where there is no office table or no row in it, `NewerSchema` where a later program
-    /// made it, `OlderSchema` where an earlier one did, `Damaged` where the rows are the tables of no state.
-    /// `Store` where the store failed, where rowids aren't the rows' own, or where the connection is inside
-    /// a transaction. The connection is handed back with a fault, its database as it was.
+    /// `WrongDatabase` where there is no office table or no row in it. `NewerSchema` where a later program made the office, `OlderSchema`
+    /// where an earlier one did. `Damaged` where the rows are the tables of no state. `Store` where the store failed, where rowids aren't
+    /// the rows' own, or where the connection is inside a transaction. The connection is handed back with a fault, its database as it was.
     pub fn open_from(alloc: Global, conn: Connection<S>) -> Result<Self, (Fault, Connection<S>)>
         ensures opened { IfOk result (λ o. HasCleanDisk (state S.Store o.held) → (db : Database) → IsOurs db.schema → RestsAt db (state S.Store conn)
             → (s : OfficeState) × HoldsState db s × IsOpenAt s o.closed (state S.Store o.held)) }
@@ -135,12 +134,11 @@ impl<S: Alter> Office<S> {
     /// accepted, those after it. A closed office answers `Closed`. Where the office stays open after a
     /// fault, no row was written, not even in a transaction that was undone.
     ///
-    /// The request that met a fault, sent again after the office was opened again, is `Done` where the old
-    /// tables were found and `Kept` where the new ones were, with the same reply and state after.
+    /// A request that met a fault may be sent again after the office was opened again. Where the old tables were found it is
+    /// `Done`, and `Kept` where the new ones were, with the same reply and state after.
     ///
-    /// A clerk is answered by what he sees of the state alone: the wards and their phases, the candidates,
-    /// the batches, his own keyings and receipts. Whatever his request leaves, another clerk sees of it
-    /// what he saw before.
+    /// A clerk is answered by what he sees of the state alone: the wards and their phases, the candidates, the batches, his own
+    /// keyings and receipts. Whatever his request leaves, another clerk sees what he saw before.
     pub fn handle(&mut self, actor: u32, id: &str, command: &Command) -> Result<Answer, Fault>
         ensures handled { WhenOpenAt (state S.Store) self.old self.new
             (λ s. Handled s (step s actor id.now command.now) result self.new.closed (state S.Store self.new.held)) }
@@ -198,8 +196,8 @@ impl<S: Alter> Office<S> {
 
     /// Answers a list of requests in order, up to the first fault.
     ///
-    /// Room for all answers is made first; where that is refused, nothing is handled and `Memory` is told.
-    /// A closed office tells `Closed`, whatever the list.
+    /// Room for all answers is made first. Where that is refused, nothing is handled,
+    /// and the fault is `Memory`. A closed office answers `Closed`, whatever the list.
     ///
     /// In a list of clerks' requests each clerk's answers are those that his requests alone get from what
     /// he sees, whatever others keyed before or between.

@@ -1,5 +1,5 @@
-//! What the office alone is told of how all stands: its wards, the batches of a ward, their doubtful papers, where
-//! a batch differs, the papers of a batch as they count, and what was kept. No read changes the state.
+//! What the office alone reads of how all stands: its wards, the batches of a ward, their doubtful papers, where a batch differs,
+//! the papers of a batch as they count, and what was kept. No read changes the state.
 #![tactic(auto, using(crate::proofs::StopLemmas::stops_of_memory))]
 
 ghost use Rattle.std.specs.Prelude.{◌≡◌, true, map, IfErr, Err};
@@ -35,8 +35,7 @@ fn may_have_receipts(actor: Option<u32>) -> bool
 impl<S: Alter> Office<S> {
     /// How all wards stand, in the order of their numbers, each with who is elected where that is declared.
     ///
-    /// Nothing is changed. `Memory` leaves the office open; any other fault closes it. A closed office tells
-    /// `Closed`.
+    /// Nothing is changed. `Memory` leaves the office open; any other fault closes it. A closed office answers `Closed`.
     pub fn wards(&mut self) -> Result<Vec<WardOverview>, Stop>
         ensures reads { ReadWhenOpen (state S.Store) self.old self.new (λ wards. map ward_view wards.items) (λ s. wards_told s) result }
         ensures same { OnlyReads (state S.Store self.old.held) (state S.Store self.new.held) }
@@ -50,7 +49,7 @@ impl<S: Alter> Office<S> {
     /// How the batches of a ward stand, in the order of their numbers.
     ///
     /// Refused where the number is outside 1 to 99, or no ward has it. Nothing is changed. `Memory` leaves
-    /// the office open; any other fault closes it. A closed office tells `Closed`.
+    /// the office open; any other fault closes it. A closed office answers `Closed`.
     pub fn batches(&mut self, ward: u32) -> Result<Vec<BatchOverview>, Stop>
         ensures reads { ReadWhenOpen (state S.Store) self.old self.new (λ batches. map batch_view batches.items) (λ s. batches_told s ward) result }
         ensures same { OnlyReads (state S.Store self.old.held) (state S.Store self.new.held) }
@@ -61,11 +60,11 @@ impl<S: Alter> Office<S> {
         read!(self, is_ward_number(ward) => load_batches(ward), Reason::NoSuchWard)
     }
 
-    /// The doubtful papers of the batches of a ward that are taken, by batch and paper, each as it counts, with its
-    /// verdict, if there is one; and the candidates of the ward.
+    /// The doubtful papers of the batches of a ward that are taken, by batch and paper; and the candidates of the ward. Each
+    /// paper comes as it counts, with its verdict, if there is one.
     ///
     /// Refused where the number is outside 1 to 99, or no ward has it. Nothing is changed. `Memory` leaves
-    /// the office open; any other fault closes it. A closed office tells `Closed`.
+    /// the office open; any other fault closes it. A closed office answers `Closed`.
     pub fn doubtful(&mut self, ward: u32) -> Result<DoubtfulPapers, Stop>
         ensures reads { ReadWhenOpen (state S.Store) self.old self.new doubtful_papers_view (λ s. doubtful_told s ward) result }
         ensures same { OnlyReads (state S.Store self.old.held) (state S.Store self.new.held) }
@@ -79,7 +78,7 @@ impl<S: Alter> Office<S> {
     /// The papers of a batch on which keyings of its current round differ.
     ///
     /// Refused where the number is outside 1 to 9999, no batch has it, or its keyings don't differ. Nothing is
-    /// changed. `Memory` leaves the office open; any other fault closes it. A closed office tells `Closed`.
+    /// changed. `Memory` leaves the office open; any other fault closes it. A closed office answers `Closed`.
     pub fn differences(&mut self, batch: u32) -> Result<Differences, Stop>
         ensures reads { ReadWhenOpen (state S.Store) self.old self.new differences_view (λ s. differences_told s batch) result }
         ensures same { OnlyReads (state S.Store self.old.held) (state S.Store self.new.held) }
@@ -102,7 +101,7 @@ impl<S: Alter> Office<S> {
     /// its ward.
     ///
     /// Refused where the number is outside 1 to 9999, no batch has it, or the batch isn't taken. Nothing is
-    /// changed. `Memory` leaves the office open; any other fault closes it. A closed office tells `Closed`.
+    /// changed. `Memory` leaves the office open; any other fault closes it. A closed office answers `Closed`.
     pub fn papers(&mut self, batch: u32) -> Result<CountedPapers, Stop>
         ensures reads { ReadWhenOpen (state S.Store) self.old self.new papers_view (λ s. papers_told s batch) result }
         ensures same { OnlyReads (state S.Store self.old.held) (state S.Store self.new.held) }
@@ -124,7 +123,7 @@ impl<S: Alter> Office<S> {
     /// The receipts of an actor, 0 for the office itself or a clerk's number, or of all, by actor and id.
     ///
     /// Refused where the number is above 999. Nothing is changed. `Memory` leaves the office open; any other
-    /// fault closes it. A closed office tells `Closed`.
+    /// fault closes it. A closed office answers `Closed`.
     pub fn receipts(&mut self, actor: Option<u32>) -> Result<Vec<Receipt>, Stop>
         ensures reads { ReadWhenOpen (state S.Store) self.old self.new (λ receipts. map receipt_entry receipts.items) (λ s. receipts_told s actor) result }
         ensures same { OnlyReads (state S.Store self.old.held) (state S.Store self.new.held) }

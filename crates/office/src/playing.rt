@@ -22,7 +22,7 @@ use sqlite::{Alter, Connection};
 use std::alloc::Global;
 use store::{Fault, read_office};
 
-/// Why a database that was empty a moment ago tells nothing: memory was wanting, or its store failed.
+/// Why a database that was empty a moment ago gives nothing: memory was wanting, or its store failed.
 fn trial_fault(fault: Fault) -> Fault
     ensures memory { fault ≡ Fault.Memory → result ≡ Fault.Memory }
     ensures other { ¬ (fault ≡ Fault.Memory) → result ≡ Fault.Store }
@@ -62,20 +62,19 @@ fn has_rows<S: Alter>(alloc: Global, conn: &mut Connection<S>, rows: &Rows) -> R
 }
 
 impl<S: Alter> Office<S> {
-    /// All entries of the office that a connection's database holds, each table's in the order of its keys. No office
-    /// is open afterwards, and nothing is changed, whatever is told.
+    /// All entries of the office that a connection's database holds, each table's in the order of its keys. No office is open
+    /// afterwards, and nothing is changed, whatever comes of it.
     ///
-    /// What `open_from` would tell is told, with its cause; within a transaction that is `Store`, and nothing is read.
+    /// A fault is the one that `open_from` would report, with its cause; within a transaction it is `Store`, and nothing is read.
     pub fn rows(alloc: Global, conn: &mut Connection<S>) -> Result<Rows, Fault>
         ensures { ReadsOffice (state S.Store conn.old) (state S.Store conn.new) result }
     {
         read_office(alloc, conn)
     }
 
-    /// All entries of this office, which goes on, each table's in the order of its keys. Nothing is changed, whatever is
-    /// told.
+    /// All entries of this office, which goes on, each table's in the order of its keys. Nothing is changed, whatever comes of it.
     ///
-    /// `Memory` leaves the office open. Any other fault closes it. A closed office tells `Closed`.
+    /// `Memory` leaves the office open. Any other fault closes it. A closed office answers `Closed`.
     pub fn rows_open(&mut self) -> Result<Rows, Fault>
         ensures kept { WhenOpenAt (state S.Store) self.old self.new
             (λ s. IfOk result (λ rows. state_of rows ≡ s) × IfErr result IsMemoryOrStore × IsReadAt s self.new.closed (state S.Store self.new.held)) }
@@ -98,8 +97,8 @@ impl<S: Alter> Office<S> {
         }
     }
 
-    /// Answers requests in order, and says whether each was accepted. A fault is told as `Memory` or `Store`; what it
-    /// leaves isn't said, since the office was made for the trial alone.
+    /// Answers requests in order, and says whether each was accepted. A fault is `Memory` or `Store`; what it leaves isn't said,
+    /// since the office was made for the trial alone.
     fn accepts_all(&mut self, requests: &[Request]) -> Result<bool, Fault>
         ensures all { WhenOpenAt (state S.Store) self.old self.new
             (λ s. IfOk result (λ yes. (yes ≡ are_accepted s requests.now) × IsOpenAt (after s requests.now) self.new.closed (state S.Store self.new.held))) }
@@ -113,12 +112,12 @@ impl<S: Alter> Office<S> {
         }
     }
 
-    /// Plays requests over an empty office, which it makes in a connection's database, and says whether they lead to
-    /// the office of these rows: each is accepted, and the entries are the same in the end, receipts too. It is said
-    /// where the database had nothing in it. The connection is handed back, with whatever the trial left there.
+    /// Plays requests over an empty office, and answers whether they lead to the office of these rows: each is accepted, and the
+    /// entries are the same in the end, receipts too. It makes the empty office in a connection's database. The clauses say so
+    /// where that database had nothing in it. The connection is handed back, with whatever the trial left there.
     ///
-    /// `Memory` or `Store` is told where the trial couldn't be ended: memory was wanting, or the trial's store gave up.
-    /// No clause says why. The rows are an argument, so no other database is read or changed.
+    /// `Memory` or `Store` where the trial couldn't be ended: memory was wanting, or the trial's store gave up. No clause says
+    /// why. The rows are an argument, so no other database is read or changed.
     pub fn leads_to(
         alloc: Global,
         blank: Connection<S>,

@@ -1,4 +1,4 @@
-//! What the office tells of its state, which no read changes.
+//! What the office answers of its state, which no read changes.
 #![tactic(auto, using(crate::proofs::StopLemmas::stops_of_memory))]
 
 ghost use Rattle.std.specs.Prelude.{◌≡◌, ◌⊎◌, Bool, true, false, map, IfOk, IfErr, IfSome, IfNone, IsSome, OnOk, Some, None, Ok, Err, string_bytes};
@@ -24,8 +24,8 @@ use sqlite::Alter;
 use std::alloc::{AllocError, Global};
 use store::Fault;
 
-/// Reads from the store, where the office is open and the number is in its range; else it tells why not. What was found
-/// is told, or what is made of it. Where the store may have nothing under the number, the reason for that is given.
+/// Reads from the store, where the office is open and the number is in its range; else it answers why not. It gives what was
+/// found, or what is made of that. Where the store may have nothing under the number, the reason for that is given.
 macro_rules! read {
     ($office:ident, $is_in_range:expr => $load:ident($($number:ident)?)) => {{
         if let Some(stop) = $office.stop_before($is_in_range) {
@@ -82,7 +82,7 @@ impl<S: Alter> Office<S> {
         None
     }
 
-    /// Tells a fault that a read met. Any but want of memory closes the office.
+    /// Gives a fault that a read met. Any but want of memory closes the office.
     pub(crate) fn stopped_by(&mut self, fault: Fault) -> Stop
         ensures told { result ≡ Stop.Fault fault }
         ensures held { self.new.held ≡ self.old.held }
@@ -97,7 +97,7 @@ impl<S: Alter> Office<S> {
     /// How the election of a ward stands.
     ///
     /// Refused where the number is outside 1 to 99, or no ward has it. Nothing is changed. `Memory` leaves
-    /// the office open; any other fault closes it. A closed office tells `Closed`.
+    /// the office open; any other fault closes it. A closed office answers `Closed`.
     pub fn status(&mut self, ward: u32) -> Result<Status, Stop>
         ensures reads { ReadWhenOpen (state S.Store) self.old self.new status_entry (λ s. status_told s ward) result }
         ensures same { OnlyReads (state S.Store self.old.held) (state S.Store self.new.held) }
@@ -111,7 +111,7 @@ impl<S: Alter> Office<S> {
     /// What comes next in the election of a ward, with its candidates once it is counted.
     ///
     /// Refused where the number is outside 1 to 99, or no ward has it. Nothing is changed. `Memory` leaves
-    /// the office open; any other fault closes it. A closed office tells `Closed`.
+    /// the office open; any other fault closes it. A closed office answers `Closed`.
     pub fn next_step(&mut self, ward: u32) -> Result<NextStep, Stop>
         ensures reads { ReadWhenOpen (state S.Store) self.old self.new step_entry (λ s. next_told s ward) result }
         ensures same { OnlyReads (state S.Store self.old.held) (state S.Store self.new.held) }
@@ -125,7 +125,7 @@ impl<S: Alter> Office<S> {
     /// The columns of the papers of a batch: the numbers of its ward's candidates, in ascending order.
     ///
     /// Refused where the number is outside 1 to 9999, or no batch has it. Nothing is changed. `Memory` leaves
-    /// the office open; any other fault closes it. A closed office tells `Closed`.
+    /// the office open; any other fault closes it. A closed office answers `Closed`.
     pub fn columns(&mut self, batch: u32) -> Result<Columns, Stop>
         ensures reads { ReadWhenOpen (state S.Store) self.old self.new (λ columns. columns) (λ s. columns_told s batch) result }
         ensures same { OnlyReads (state S.Store self.old.held) (state S.Store self.new.held) }
@@ -136,12 +136,11 @@ impl<S: Alter> Office<S> {
         read!(self, is_batch_number(batch) => load_columns(batch), Reason::NoSuchBatch)
     }
 
-    /// The work of a clerk: his batches in wards in keying, in the order of their numbers, each with its
-    /// ward, the columns and the number of its papers, its current round, and whether he has keyed that.
+    /// The work of a clerk: his batches in wards in keying, in the order of their numbers. Each has its ward, the columns and the
+    /// number of its papers, its current round, and whether he has keyed that.
     ///
-    /// It rests on what the clerk sees of the state alone, whatever others keyed. Refused where the number is
-    /// outside 1 to 999. Nothing is changed. `Memory` leaves the office open; any other fault closes it. A
-    /// closed office tells `Closed`.
+    /// It rests on what the clerk sees of the state alone, whatever others keyed. Refused where the number is outside 1 to
+    /// 999. Nothing is changed. `Memory` leaves the office open; any other fault closes it. A closed office answers `Closed`.
     pub fn work(&mut self, clerk: u32) -> Result<Vec<Work>, Stop>
         ensures reads { ReadWhenOpen (state S.Store) self.old self.new (λ work. map work_entry work.items) (λ s. work_told s clerk) result }
         ensures blind { WhenOpenAt (state S.Store) self.old self.new (λ s. IfOk result (λ work. map work_entry work.items ≡ work_of (seen_by clerk s) clerk)) }
@@ -173,7 +172,7 @@ impl<S: Alter> Office<S> {
     /// its seats.
     ///
     /// Refused where the number is outside 1 to 99, no ward has it, or the ward isn't sealed yet. Nothing is
-    /// changed. `Memory` leaves the office open; any other fault closes it. A closed office tells `Closed`.
+    /// changed. `Memory` leaves the office open; any other fault closes it. A closed office answers `Closed`.
     pub fn sheet(&mut self, ward: u32) -> Result<String, Stop>
         ensures reads { ReadWhenOpen (state S.Store) self.old self.new string_bytes (λ s. text_told Text.Sheet s ward) result }
         ensures same { OnlyReads (state S.Store self.old.held) (state S.Store self.new.held) }
@@ -184,12 +183,11 @@ impl<S: Alter> Office<S> {
         self.text(ward, Text::Sheet)
     }
 
-    /// A text of a ward, from what its stage sheet is written from: of its papers and of the stages that are done, no
-    /// more. The ballots of an uncontested ward tell its seats and candidates.
+    /// A text of a ward, from what its stage sheet is written from: of its papers and of the stages that are done, no more. The
+    /// ballots of an uncontested ward have its seats and candidates.
     ///
-    /// Refused where the number is outside 1 to 99, no ward has it, or the text isn't told yet: the declaration before
-    /// the ward is declared, any other before it is sealed. Nothing is changed. `Memory` leaves the office open; any
-    /// other fault closes it. A closed office tells `Closed`.
+    /// Refused where the number is outside 1 to 99, no ward has it, or the text can't be had yet: the declaration before the ward is declared, any
+    /// other before it is sealed. Nothing is changed. `Memory` leaves the office open; any other fault closes it. A closed office answers `Closed`.
     pub fn text(&mut self, ward: u32, text: Text) -> Result<String, Stop>
         ensures reads { ReadWhenOpen (state S.Store) self.old self.new string_bytes (λ s. text_told text.entry s ward) result }
         ensures same { OnlyReads (state S.Store self.old.held) (state S.Store self.new.held) }
@@ -203,9 +201,8 @@ impl<S: Alter> Office<S> {
 
     /// The declaration of a ward: who is elected.
     ///
-    /// Refused where the number is outside 1 to 99, no ward has it, or the ward isn't declared yet. Nothing
-    /// is changed. `Memory` leaves the office open; any other fault closes it. A closed office tells
-    /// `Closed`.
+    /// Refused where the number is outside 1 to 99, no ward has it, or the ward isn't declared yet. Nothing is
+    /// changed. `Memory` leaves the office open; any other fault closes it. A closed office answers `Closed`.
     pub fn result(&mut self, ward: u32) -> Result<String, Stop>
         ensures reads { ReadWhenOpen (state S.Store) self.old self.new string_bytes (λ s. text_told Text.Declaration s ward) result }
         ensures same { OnlyReads (state S.Store self.old.held) (state S.Store self.new.held) }
@@ -217,7 +214,7 @@ impl<S: Alter> Office<S> {
         read!(self, is_ward_number(ward) => load_counted(ward), Reason::NoSuchWard, counted => self.declaration_of(&counted))
     }
 
-    /// Tells a text as it was written. Where it can't be written, the rows are those of no office, which is closed then.
+    /// Gives a text as it was written. Where it can't be written, the rows are those of no office, which is closed then.
     fn told(&mut self, written: Result<Option<String>, AllocError>) -> Result<String, Stop>
         ensures told { IfOk result (λ text. written ≡ Ok (Some text)) }
         ensures stopped { self.old.closed ≡ false → IfErr result (StopsWriting self.new.closed) }

@@ -29,7 +29,7 @@ pub fn texts_are_there()
     columns_of(&[]);
 }
 
-/// Which text of a ward is told.
+/// Which text of a ward is asked for.
 #[derive(Clone, Copy, Debug)]
 pub enum Text<'a> {
     /// The stage sheet, once the ward is sealed.
@@ -45,7 +45,7 @@ pub enum Text<'a> {
 }
 
 impl<'a> Text<'a> {
-    /// Whether the text is told in a phase.
+    /// Whether the text may be printed in a phase.
     pub(crate) fn is_told_in(self, phase: Phase) -> bool
         ensures is { result ≡ is_told_in self.entry phase }
         ensures counted { result ≡ true → is_counted phase ≡ true }
@@ -88,7 +88,7 @@ fn candidate_lines(
     Ok(Some(lines))
 }
 
-/// What is told of the papers of a ward in count.
+/// What the papers of a ward in count come to.
 fn poll_of(sheet: &WardSheet) -> Option<Poll>
     ensures { (e : ElectionEntry) → IsSheetOf e sheet.now → is_counted e.ward.phase ≡ true → result ≡ poll_shown e }
 {
@@ -101,8 +101,8 @@ fn poll_of(sheet: &WardSheet) -> Option<Poll>
     }
 }
 
-/// A ward that was counted, as the texts show it, with these lines of its candidates and its papers. `None` where a
-/// number is out of range, so that it can't be printed. No ward of an office has such a number.
+/// A ward that was counted, as the texts show it, with these lines of its candidates and its papers. `None` where a number is out
+/// of range, so that the ward can't be printed. No ward of an office has such a number.
 fn ward_of<'a>(
     counted: &'a CountedWard,
     candidates: &'a [(u8, String)],
@@ -143,7 +143,7 @@ fn stages_of(counted: &CountedWard) -> &[Stage]
     }
 }
 
-/// The bundles of equal valid papers of a ward in count; of an uncontested ward `none`, which has no bundle.
+/// The bundles of equal valid papers of a ward in count; an uncontested ward has no bundle, and gives `none`.
 fn bundles_of<'a>(counted: &'a CountedWard, none: &'a Bundles) -> &'a Bundles
     requires { none.now ≡ [] }
     ensures { (e : ElectionEntry) → IsCountedWard e counted.now → is_counted e.ward.phase ≡ true → result.now ≡ bundles_shown e }

@@ -1,4 +1,4 @@
-//! What a check says of the texts that an office tells.
+//! What a check says of the texts that an office prints.
 
 ghost use Rattle.own_texts.specs.OwnTexts.{DeclaredAreFinished, OwnBallotsAreRead, OwnDeclarationsAreConfirmed, OwnSheetsAreConfirmed};
 
@@ -6,11 +6,10 @@ use office::texts_are_there;
 use recount::ballots_read_back;
 use register::marks::columns_of;
 
-/// The law of an office's own texts. At each state the ballots that the office tells of a ward are read as that
-/// ward's election: its number, name, seats and candidates, its valid and rejected papers, and its lots. Beside
-/// them `recount`'s `check` tells of the stage sheet of a finished count that it is the sheet, and of the
-/// declaration that it is the declaration. It tells nothing else of them, and only want of memory keeps it from
-/// telling so. The count of a declared ward is finished.
+/// The law of an office's own texts. At each state the ballots that the office prints of a ward are read as that ward's election:
+/// its number, name, seats and candidates, its valid and rejected papers, and its lots. Beside them `recount`'s `check` says of
+/// the stage sheet of a finished count that it is the sheet, and of the declaration that it is the declaration. It says nothing
+/// else of them, and only want of memory keeps it from saying so. The count of a declared ward is finished.
 pub fn own_texts_are_confirmed()
     ensures read { OwnBallotsAreRead }
     ensures sheets { OwnSheetsAreConfirmed }

@@ -5,13 +5,13 @@ use Rattle.paper.specs.declared.marks.MarkFault.TheVariants.{FieldCount, NotANum
 use Rattle.paper.specs.declared.validity.Rejection.{Rejection}
 use Rattle.paper.specs.declared.validity.Rejection.TheVariants.{NoFirstPreference, SeveralFirstPreferences, NoOfficialMark, VoterIdentifiable, VoidForUncertainty}
 
--- the number by which a mark fault is told
+-- the number of a mark fault
 abbrev pub fault_number : MarkFault → ℕ
 fault_number FieldCount = 1
 fault_number NotANumber = 2
 fault_number TooLarge = 3
 
--- the code by which a rejection is told
+-- the code of a rejection
 abbrev pub rejection_code : Rejection → ℕ
 rejection_code NoFirstPreference = 1
 rejection_code SeveralFirstPreferences = 2

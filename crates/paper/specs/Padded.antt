@@ -7,7 +7,7 @@ use Rattle.paper.specs.Columns.{max_candidates}
 abbrev pub listed : List ℕ → List ℕ
 listed numbers = before_first (λ n. n == 0) numbers
 
--- the array that a list of no more numbers than candidates stands in, with zeros behind it
+-- the array in which a list stands, with zeros behind it; the list has no more numbers than there can be candidates
 abbrev pub padded : List ℕ → List ℕ
 padded list = list ++ replicate (max_candidates - length list) 0
 

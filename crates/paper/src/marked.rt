@@ -15,8 +15,8 @@ use std::marker::Model;
 /// The numbers to look for beside candidates: 0, and one for each preference.
 pub(crate) const NUMBERS: usize = MAX_CANDIDATES + 1;
 
-/// The marks on a ballot paper, seen as each candidate's number beside the number in the field for
-/// him, 1 to 99, or 0 where that is empty, in ascending order of the candidates.
+/// The marks on a ballot paper: each candidate's number, and beside it the number in the field for him, 1 to 99, or 0 where that
+/// field is empty. They stand in ascending order of the candidates.
 #[derive(Clone, Copy, Debug, PartialEq, Eq)]
 pub struct Marked {
     columns: Columns,

@@ -23,8 +23,7 @@ pub enum MarkFault {
 }
 
 impl MarkFault {
-    /// The number by which a fault is told: 1 a wrong number of fields, 2 a field that isn't empty and
-    /// isn't a number without a leading zero, 3 a number over 99.
+    /// The number of a fault: 1 a wrong number of fields, 2 a field that isn't empty and isn't a number without a leading zero, 3 a number over 99.
     pub fn number(&self) -> u32
         ensures { result ≡ fault_number self.now }
     {
@@ -42,9 +41,9 @@ pub struct Marks;
 impl Marks {
     /// What is keyed by a text of a paper with some columns.
     ///
-    /// The text is the letter `D` for a doubtful paper, else one field for each column in ascending
-    /// order, parted by commas; a field is empty or a number 1 to 99 without a leading zero. Faults: a
-    /// wrong number of fields first, else that of the leftmost faulty field. Takes no memory.
+    /// The text is the letter `D` for a doubtful paper. Else it has one field for each column in ascending order, parted by
+    /// commas; a field is empty or a number 1 to 99 without a leading zero. A wrong number of fields comes first among the
+    /// faults, else the fault of the leftmost faulty field. Takes no memory.
     pub fn read(text: &[u8], columns: Columns) -> Result<Keyed, MarkFault>
         ensures is { result ≡ reading columns text.now }
         // each keyed paper has one spelling

@@ -16,8 +16,8 @@ use std::marker::Model;
 /// The preferences of a valid ballot paper, seen as the list of its candidates' numbers, each once,
 /// the first preference first. In their order the first number that differs decides, and a list
 /// stands before those that it begins.
-// One byte a candidate, which is the least for a value that is Copy and lends so many numbers as a
-// slice: the numbers, and zeros behind them in place of a length.
+// One byte a candidate: the numbers, and zeros behind them in place of a length.
+// No value that is Copy and lends so many numbers as a slice has fewer bytes.
 #[derive(Clone, Copy, Debug)]
 pub struct Prefs {
     numbers: [u8; MAX_CANDIDATES],

@@ -28,8 +28,7 @@ pub enum Rejection {
 }
 
 impl Rejection {
-    /// The code by which a rejection is told: 1 and 2 are judged by the marks, 3 to 5 by the returning
-    /// officer.
+    /// The code of a rejection: 1 and 2 are judged by the marks, 3 to 5 by the returning officer.
     pub fn number(&self) -> u32
         ensures { result ≡ rejection_code self.now }
     {

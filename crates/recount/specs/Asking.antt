@@ -68,7 +68,7 @@ IsOutcome held (Ok words) told = IsAnswer held (asked words) told
 IsOutcome held (Err words.NotUtf8) told = told ≡ outcome.NotUtf8
 IsOutcome held (Err words.Memory) told = told ≡ outcome.Hindered problem.Memory
 
--- a page tells it, or that memory was wanting
+-- a page has what came of it, or says that memory was wanting
 pub record IsPageFor (held : Folder) (words : Result (List Text) WordsFault) (page : Page) : Type 0 where
   pub outcome : Outcome
   pub so : IsOutcome held words outcome

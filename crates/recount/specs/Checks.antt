@@ -71,14 +71,13 @@ abbrev pub IsWardCheck : Option Poll → SheetEntry → List Bundle → List (�
 IsWardCheck None ward bundles lots text checked = IsComparison text (sheet ward []) (declaration ward (numbers_of ward)) checked
 IsWardCheck (Some poll) ward bundles lots text checked = IsCountedCheck ward bundles lots text checked
 
--- what is told of a text beside a file of ballots: the file is understood, and this comes of the text beside the ward that it tells
+-- what is reported of a text beside a file of ballots: the file is understood, and this comes of the text beside the ward that the file describes
 pub record IsChecked (bytes text : Text) (checked : Checked) : Type 0 where
   pub reading : Reading
   pub understood : read bytes ≡ Ok reading
   pub compared : IsWardCheck (ward_told reading).poll (ward_told reading) reading.papers.bundles reading.remarks.lots text checked
 
--- why the count of a ward isn't finished by its lots: none may be held, a lot is wanting, one names none of the tied, or one isn't drawn;
--- or memory was wanting
+-- why the count of a ward isn't finished by its lots: none may be held, a lot is wanting, a lot names none of the tied, or a lot isn't drawn there; or memory was wanting
 abbrev pub IsCountProblem : Contest → List (ℕ × ℕ) → Problem → Type 0
 IsCountProblem contest lots (problem.Line line flaw) = ⊥
 IsCountProblem contest lots problem.NoContest = ¬ (IsContest contest)
@@ -92,14 +91,14 @@ abbrev pub IsWardProblem : Option Poll → SheetEntry → List Bundle → List (
 IsWardProblem None ward bundles lots why = why ≡ problem.Memory
 IsWardProblem (Some poll) ward bundles lots why = IsCountProblem (contest_in ward bundles) lots why
 
--- a file is understood, and this hinders the count of the ward that it tells
+-- a file is understood, and this hinders the count of the ward that it describes
 pub record Hinders (bytes : Text) (why : Problem) : Type 0 where
   pub reading : Reading
   pub understood : read bytes ≡ Ok reading
   pub hinders : IsWardProblem (ward_told reading).poll (ward_told reading) reading.papers.bundles reading.remarks.lots why
 
--- why a text can't be checked against a file of ballots: its line of this number is the first that isn't understood; or it is understood,
--- and its count isn't finished; or memory was wanting
+-- why a text can't be checked against a file of ballots: the file's line of this number is the first that isn't understood; or the file is
+-- understood, and its count isn't finished; or memory was wanting
 abbrev pub IsProblem : Text → Problem → Type 0
 IsProblem bytes (problem.Line line flaw) = read bytes ≡ Err (line, flaw)
 IsProblem bytes problem.NoContest = Hinders bytes problem.NoContest

@@ -11,7 +11,7 @@ use Rattle.recount.specs.declared.pieces.Separator.TheVariants.{Mark}
 use Rattle.recount.specs.declared.problem.Flaw.{Flaw}
 use Rattle.recount.specs.declared.problem.Flaw.TheVariants.{Lot, Rejected, Twice, Ward}
 
--- what they tell: the number of the ward, the rejected papers by their code, and each lot's stage and candidate
+-- what they say: the number of the ward, the rejected papers by their code, and each lot's stage and candidate
 pub record Remarks : Type 0 where
   pub ward : Option ℕ
   pub rejected : Option (List ℕ)
@@ -69,12 +69,12 @@ lot_in (at ∷ stage ∷ k ∷ c ∷ []) =
     if is_word (codes "at") at && is_word (codes "stage") stage then option_and_then (λ number. option_and_then (λ candidate. Some (number, candidate)) (small_in c)) (small_in k) else None
 lot_in (at ∷ stage ∷ k ∷ c ∷ other ∷ words) = None
 
--- what a comment tells, where it is understood, and the same wasn't told before
+-- what a comment says, where it is understood, and no comment before said the same
 abbrev pub told_once : {X : Type 0} → Flaw → Option X → Option X → Result (Option X) Flaw
 told_once flaw before None = Err flaw
 told_once flaw before (Some told) = if is_some before then Err Twice else Ok (Some told)
 
--- what is told, with what a comment tells of the ward, of the rejected papers, and of a lot
+-- the remarks so far, and what a comment says of the ward, of the rejected papers, and of a lot
 abbrev pub with_ward : Remarks → Option ℕ → Result Remarks Flaw
 with_ward remarks ward = and_then (told_once Ward remarks.ward ward) (λ kept. Ok (record { ward = kept; rejected = remarks.rejected; lots = remarks.lots }))
 
@@ -89,7 +89,7 @@ with_lot remarks None = Err Lot
 with_lot remarks (Some lot) =
     if is_drawn lot.0 remarks.lots then Err Twice else Ok (record { ward = remarks.ward; rejected = remarks.rejected; lots = remarks.lots ++ lot ∷ [] })
 
--- a comment that isn't ours tells nothing
+-- a comment that isn't ours adds nothing
 abbrev pub with_other : Remarks → Text → Result Remarks Flaw
 with_other remarks line = and_then (pass_over line) (λ passed. Ok remarks)
 

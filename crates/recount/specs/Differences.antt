@@ -39,8 +39,7 @@ pub record DiffersAt (text should : Text) (line : ℕ) (should_be : Text) : Type
   pub at : line ≡ same_lines text should + 1
   pub is : should_be ≡ first_line (behind_lines (same_lines text should) should)
 
--- what is told of a text beside a sheet and a declaration: which of them it is; or that it is neither, and its first line that
--- differs from the one it is like
+-- what is reported of a text beside a sheet and a declaration: which of them it is; or that it is neither, and its first line that differs from the one that it is like
 abbrev pub IsComparison : Text → Text → Text → Checked → Type 0
 IsComparison text sheet declaration checked.Sheet = text ≡ sheet
 IsComparison text sheet declaration checked.Declaration = text ≡ declaration

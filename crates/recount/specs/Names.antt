@@ -35,8 +35,8 @@ with_comment_byte quoting byte = record { name = quoting.name; comment = quoting
 abbrev pub outside : ℕ → Within → Quoting → ℕ → Quoting
 outside sign next quoting byte = if byte == sign then moved_to next quoting else (if is_blank byte then quoting else moved_to Beside quoting)
 
--- one byte more: a quotation mark opens the name and closes it; within it a backslash stands before a quotation mark and before a
--- backslash, and before another byte for itself; behind it a `#` begins a comment
+-- one byte more. A quotation mark opens the name and closes it. Within the name a backslash before a quotation mark or a backslash stands for that
+-- byte, and before another byte for itself. Behind the name a `#` begins a comment.
 abbrev pub quoting_at : Within → Quoting → ℕ → Quoting
 quoting_at Before quoting byte = outside 34 Inside quoting byte
 quoting_at Inside quoting byte =

@@ -5,7 +5,7 @@ use Rattle.votes.specs.Streams.{AppendsBeginning}
 use Rattle.recount.specs.Pages.{Page}
 use Rattle.recount.specs.Pieces.{Text}
 
--- an output: the bytes that it took, as far as it tells them, and how many of its calls failed
+-- an output: the bytes that it took, as far as it says which, and how many of its calls failed
 pub record Output : Type 0 where
   pub taken : Option (List ℕ)
   pub failed : ℕ
@@ -31,17 +31,17 @@ pub record Outputs : Type 0 where
 abbrev pub outputs_of : {O E : Type 0} → (O → Option (List ℕ)) → (O → ℕ) → (E → Option (List ℕ)) → (E → ℕ) → O → E → Outputs
 outputs_of taken failed taken_err failed_err out err = record { out = output_of taken failed out; err = output_of taken_err failed_err err }
 
--- what is told on the error output of an output that failed
+-- the line on the error output where an output failed
 abbrev pub broken_line : Text
 broken_line = codes "error: the output failed\n"
 
--- the page was told whole, and the program ends with its status
+-- the page was printed whole, and the program ends with its status
 pub record IsWhole (old new : Outputs) (page : Page) (status : ℕ) : Type 0 where
   pub out : Took old.out new.out page.out
   pub err : Took old.err new.err page.err
   pub ends : status ≡ page.status
 
--- the output failed behind a beginning, which is told on the error output, unless that fails too; and the program ends with 3
+-- the output failed after a beginning; the error output says so, unless it fails too; and the program ends with 3
 pub record IsOutputBroken (old new : Outputs) (page : Page) (status : ℕ) : Type 0 where
   pub out : BrokeOff old.out new.out page.out
   pub told : Took old.err new.err broken_line ⊎ BrokeOff old.err new.err broken_line
@@ -53,11 +53,11 @@ pub record IsErrorOutputBroken (old new : Outputs) (page : Page) (status : ℕ) 
   pub err : BrokeOff old.err new.err page.err
   pub ends : status ≡ 3
 
--- a page was told; where an output failed, a beginning of it
+-- a page was printed; where an output failed, a beginning of it
 abbrev pub Tells : Outputs → Outputs → Page → ℕ → Type 0
 Tells old new page status = IsWhole old new page status ⊎ (IsOutputBroken old new page status ⊎ IsErrorOutputBroken old new page status)
 
--- some page of a kind was told
+-- some page of a kind was printed
 pub record TellsSome (old new : Outputs) (status : ℕ) (IsPage : Page → Type 0) : Type 0 where
   pub page : Page
   pub told : Tells old new page status

@@ -75,7 +75,7 @@ pub record Page : Type 0 where
 abbrev pub page_with : ℕ → Text → Page
 page_with status text = if status == 0 then record { out = text; err = []; status = status } else record { out = []; err = text; status = status }
 
--- a line that tells why nothing was checked
+-- a line that says why nothing was checked
 abbrev pub error_line : Text → Text
 error_line text = joined (codes "error: " ∷ text ∷ codes "\n" ∷ [])
 

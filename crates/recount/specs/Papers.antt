@@ -10,7 +10,7 @@ use Rattle.recount.specs.Ranks.{named_in, without}
 use Rattle.recount.specs.declared.problem.Flaw.{Flaw}
 use Rattle.recount.specs.declared.problem.Flaw.TheVariants.{NoPapers, NoPreference, NoSeat, NotNumber, Size, TooManyPapers}
 
--- what a file tells of them: the highest number of a candidate, the seats, the numbers at which nobody stands, and the papers in bundles
+-- what a file says of them: the highest number of a candidate, the seats, the numbers at which nobody stands, and the papers in bundles
 pub record Told : Type 0 where
   pub highest : ℕ
   pub seats : ℕ

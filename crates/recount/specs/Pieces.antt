@@ -13,8 +13,7 @@ Text = List ℕ
 abbrev pub is_blank : ℕ → Bool
 is_blank byte = byte == 32 || (byte == 9 || byte == 13)
 
--- whether a byte parts two pieces: a line feed parts lines, and blanks part words; in our own comments colons and commas do too; and an
--- equals sign parts those who share a rank
+-- whether a byte parts two pieces. A line feed parts lines, and blanks part words; in our own comments colons and commas do too. An equals sign parts those who share a rank.
 abbrev pub parts : Separator → ℕ → Bool
 parts LineFeed byte = byte == 10
 parts Blank byte = is_blank byte

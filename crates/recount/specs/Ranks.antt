@@ -52,8 +52,8 @@ standing_from highest withdrawn standing [] = Ok standing
 standing_from highest withdrawn standing (word ∷ words) =
     and_then (candidate_in highest word) (λ c. standing_from highest withdrawn (standing_with withdrawn standing c) words)
 
--- a rank more, of whose candidates so many stand: where several do, no preference is read behind it; else it is that of each, since all
--- but one at most are withdrawn and passed over
+-- a rank more, of whose candidates so many stand. Where several stand, no preference is read behind it. Else the preference is that of each of them,
+-- since all but one at most are withdrawn and passed over.
 abbrev pub with_rank : NextWord → ℕ → Ranked → List Text → ℕ → Result Ranked Flaw
 with_rank Preference highest ranks words standing = if nat_lt 1 standing then Ok (at_next BehindShared ranks) else with_each highest ranks words
 with_rank BehindShared highest ranks words standing = Ok ranks

@@ -19,7 +19,7 @@ pub record Named : Type 0 where
   pub names : List Text
   pub ward : Text
 
--- what a file has told so far, and where its next line stands
+-- what a file has said so far, and where its next line stands
 pub record Reading : Type 0 where
   pub place : NextLine
   pub papers : Told
@@ -88,7 +88,7 @@ with_name reading name =
 abbrev pub with_name_line : Reading → Text → Result Reading Flaw
 with_name_line reading line = and_then (name_in line) (λ name. Ok (with_name reading name))
 
--- a line that tells something, by where it stands
+-- a line with content, by where it stands
 abbrev pub with_content_at : NextLine → Reading → Text → Result Reading Flaw
 with_content_at place.Size reading line = and_then (words_before_comment line) (with_size_line reading)
 with_content_at place.Withdrawn reading line = and_then (words_before_comment line) (with_withdrawn_line reading)
@@ -118,13 +118,13 @@ abbrev pub on_line : {X Y : Type 0} → ℕ → Result X Flaw → (X → Result 
 on_line k (Ok x) f = f x
 on_line k (Err flaw) f = Err (k, flaw)
 
--- what is told by some lines behind others, so many in all; or what is wrong with the first that isn't understood, or with the end, which is told of the
--- last line: behind a line feed at the end that is an empty one
+-- what some lines say behind others, so many in all; or what is wrong with the first that isn't understood, or with the end. The last line is named for
+-- the end: behind a line feed at the end that is an empty one.
 abbrev pub read_from : ℕ → Reading → List Text → Result Reading (ℕ × Flaw)
 read_from k reading [] = on_line k (at_end reading.place reading) (λ read. Ok read)
 read_from k reading (line ∷ lines) = on_line (k + 1) (with_line reading line) (λ more. read_from (k + 1) more lines)
 
--- before the first line nothing is told
+-- nothing is known before the first line
 abbrev pub nothing_told : Reading
 nothing_told = record {
   place = place.Size;
@@ -133,6 +133,6 @@ nothing_told = record {
   remarks = record { ward = None; rejected = None; lots = [] };
 }
 
--- what a file tells
+-- what a file says
 abbrev pub read : Text → Result Reading (ℕ × Flaw)
 read bytes = read_from 0 nothing_told (lines_of bytes)

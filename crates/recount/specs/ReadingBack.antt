@@ -58,7 +58,7 @@ pub record CanBeReadBack (ward : SheetEntry) (bundles : List Bundle) (lots : Lis
   pub lots_small : AreSmall lots
   pub lots_once : AreOnce lots
 
--- its ballots tell just that ward, its bundles and its lots
+-- its ballots are read as just that ward, its bundles and its lots
 pub record IsReadBack (ward : SheetEntry) (bundles : List Bundle) (lots : List (ℕ × ℕ)) : Type 0 where
   pub reading : Reading
   pub understood : read (ballots ward bundles lots) ≡ Ok reading
@@ -70,13 +70,13 @@ pub record IsReadBack (ward : SheetEntry) (bundles : List Bundle) (lots : List (
 abbrev pub AreReadBack : Type 0
 AreReadBack = (ward : SheetEntry) (bundles : List Bundle) (lots : List (ℕ × ℕ)) → CanBeReadBack ward bundles lots → IsReadBack ward bundles lots
 
--- what is told of a text beside a ward's ballots is what comes of it beside that ward
+-- what is reported of a text beside a ward's ballots is what comes of it beside that ward
 abbrev pub AreCheckedAsTold : Type 0
 AreCheckedAsTold =
     (ward : SheetEntry) (bundles : List Bundle) (lots : List (ℕ × ℕ)) → CanBeReadBack ward bundles lots →
     (text : Text) (checked : Checked) → IsChecked (ballots ward bundles lots) text checked → IsWardCheck ward.poll ward bundles lots text checked
 
--- a problem that is told of it is one of its count
+-- a problem that is reported of it is one of its count
 abbrev pub AreHinderedAsTold : Type 0
 AreHinderedAsTold =
     (ward : SheetEntry) (bundles : List Bundle) (lots : List (ℕ × ℕ)) → CanBeReadBack ward bundles lots →

@@ -19,7 +19,7 @@ use Rattle.recount.specs.declared.state.Reader.{Reader}
 abbrev pub ranks_of : Ranks → Ranked
 ranks_of ranks = record { named = ranks.named.items; next = ranks.next }
 
--- what a file tells of candidates, seats and papers
+-- what a file says of candidates, seats and papers
 abbrev pub told_of : Papers → Told
 told_of papers = record { highest = papers.highest; seats = papers.seats; withdrawn = papers.withdrawn; bundles = papers.bundles }
 
@@ -27,7 +27,7 @@ told_of papers = record { highest = papers.highest; seats = papers.seats; withdr
 abbrev pub quoting_of : Quoted → Quoting
 quoting_of quoted = record { name = quoted.name.items; comment = quoted.comment.items; within = quoted.within }
 
--- what our own comments tell
+-- what our own comments say
 abbrev pub remarks_of : Comments → Remarks
 remarks_of comments = record { ward = comments.ward; rejected = comments.rejected; lots = comments.lots.items }
 
@@ -35,7 +35,7 @@ remarks_of comments = record { ward = comments.ward; rejected = comments.rejecte
 abbrev pub named_of : Names → Named
 named_of names = record { names = map string_bytes names.names.items; ward = string_bytes names.ward }
 
--- what a file has told so far
+-- what a file has said so far
 abbrev pub reading_of : Reader → Reading
 reading_of reader = record { place = reader.place; papers = told_of reader.papers; names = named_of reader.names; remarks = remarks_of reader.comments }
 

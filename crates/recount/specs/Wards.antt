@@ -1,4 +1,4 @@
--- The ward and the contest that a file of ballots tells.
+-- The ward and the contest that a file of ballots describes.
 use Rattle.std.specs.Prelude.{ℕ, ◌+◌, nat_eq, nat_le, if◌then◌else◌, List, [], ◌∷◌, length, map, Option, Some, None}
 use Rattle.std.specs.List.{list_any}
 use Rattle.std.specs.Option.{unwrap_or}
@@ -22,14 +22,14 @@ candidates_of withdrawn names = candidates_from withdrawn 1 names
 abbrev pub poll_of : List Bundle → List ℕ → Poll
 poll_of bundles rejected = record { valid = length (papers_of bundles); rejected = rejected }
 
--- the poll of a ward: where rejected papers aren't told there are none; and a ward with no more candidates than seats is
--- uncontested where neither papers nor rejected ones are told
+-- the poll of a ward. Where the file says nothing of rejected papers there are none. A ward with no more candidates than seats is uncontested where
+-- the file has neither papers nor rejected ones.
 abbrev pub poll_by : Option (List ℕ) → List Bundle → ℕ → ℕ → Option Poll
 poll_by (Some rejected) bundles candidates seats = Some (poll_of bundles rejected)
 poll_by None (bundle ∷ bundles) candidates seats = Some (poll_of (bundle ∷ bundles) (0 ∷ 0 ∷ 0 ∷ 0 ∷ 0 ∷ []))
 poll_by None [] candidates seats = if nat_le candidates seats then None else Some (poll_of [] (0 ∷ 0 ∷ 0 ∷ 0 ∷ 0 ∷ []))
 
--- the ward that a file tells; where its number isn't told it is ward 1
+-- the ward that a file describes; without a number it is ward 1
 abbrev pub candidates_told : Reading → List (ℕ × Text)
 candidates_told reading = candidates_of reading.papers.withdrawn reading.names.names
 

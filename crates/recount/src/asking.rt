@@ -111,13 +111,12 @@ fn outcome_of<F: Folder>(
     }
 }
 
-/// Does what the program's words ask, tells what comes of it, and gives the status.
+/// Does what the program's words ask, prints what comes of it, and gives the status.
 ///
-/// The words are `--help`, or the paths of the ballots and of the text that is checked against them. The status is 0
-/// where the text is the sheet or the declaration that the ballots give, which `out` is told, or help; 1 where it
-/// differs, 2 where the words or the ballots aren't understood or the count doesn't come to its end, and 3 where a
-/// file can't be read or memory is wanting, which `err` is told; and 3 where one of the two fails, which has then taken
-/// a beginning.
+/// The words are `--help`, or the paths of the ballots and of the text that is checked against them. The status is 0 for help, and
+/// where the text is the sheet or the declaration that the ballots give; `out` gets that. It is 1 where the text differs. It is 2
+/// where the words or the ballots aren't understood, or the count doesn't come to its end. It is 3 where a file can't be read or
+/// memory is wanting. Each of these goes to `err`. It is 3 too where one of the two outputs fails, which has then taken a beginning.
 pub fn run<F: Folder, O: Sink, E: Sink>(
     alloc: Global,
     words: &Result<Vec<String>, WordsFault>,

@@ -106,7 +106,7 @@ fn checked_for(
     }
 }
 
-/// A text beside the sheet and the declaration of the ward that a file tells, with its candidates.
+/// A text beside the sheet and the declaration of the ward that a file describes, with its candidates.
 fn checked_with(
     alloc: Global,
     told: &Reader,
@@ -130,7 +130,7 @@ fn checked_with(
     checked_for(alloc, &ward, bundles, &told.comments.lots, text)
 }
 
-/// A text beside the sheet and the declaration of the ward that a file tells.
+/// A text beside the sheet and the declaration of the ward that a file describes.
 fn checked_as(alloc: Global, told: &Reader, text: &[u8]) -> Result<Checked, Problem>
     ensures ok { let ward = ward_told (reading_of told.now) in IfOk result (λ checked. IsWardCheck ward.poll ward told.now.papers.bundles told.now.comments.lots.items text.now checked) }
     ensures err { let ward = ward_told (reading_of told.now) in IfErr result (λ problem. IsWardProblem ward.poll ward told.now.papers.bundles told.now.comments.lots.items problem) }
@@ -141,15 +141,15 @@ fn checked_as(alloc: Global, told: &Reader, text: &[u8]) -> Result<Checked, Prob
     }
 }
 
-/// Checks a text against the ballots of its ward: whether it is exactly the stage sheet of the finished count
-/// that these ballots, rejected papers and lots give, or the declaration of who is elected by it.
+/// Checks a text against the ballots of its ward. It is to be exactly the stage sheet of the finished count that these ballots,
+/// rejected papers and lots give, or the declaration of who is elected by that count.
 ///
-/// The ballots are read as `ballots` prints them, or as other counting programs write them: where our own
-/// comments are missing it is ward 1, there are no rejected papers, and no lots. A text that differs is compared
-/// with the sheet or the declaration, whichever it is like for longer, the sheet where it is like both.
+/// The ballots are read as `ballots` prints them, or as other counting programs write them. Where our own comments are missing it
+/// is ward 1, there are no rejected papers, and no lots. A text that differs is compared with the sheet or the declaration,
+/// whichever it is like for longer; with the sheet where it is like both.
 ///
-/// A `Problem` tells the first line of the ballots that isn't understood, or why the count doesn't come to its
-/// end; nothing is told of the text then.
+/// A `Problem` names the first line of the ballots that isn't understood, or
+/// says why the count doesn't come to its end; nothing is said of the text then.
 pub fn check(alloc: Global, ballots: &[u8], text: &[u8]) -> Result<Checked, Problem>
     ensures ok { IfOk result (λ checked. IsChecked ballots.now text.now checked) }
     ensures err { IfErr result (λ problem. IsProblem ballots.now problem) }

@@ -113,7 +113,7 @@ fn is_drawn(stage: u8, lots: &[(u8, u8)]) -> bool
     false
 }
 
-/// Keeps what a comment tells, where it is understood, and the same wasn't told before.
+/// Keeps what a comment says, where it is understood, and no comment before said the same.
 fn keep_once<T: Copy>(kept: &mut Option<T>, told: Option<T>, flaw: Flaw) -> Result<(), Flaw>
     ensures { outcome result kept.new ≡ told_once flaw kept.old told }
 {
@@ -128,21 +128,21 @@ fn keep_once<T: Copy>(kept: &mut Option<T>, told: Option<T>, flaw: Flaw) -> Resu
 }
 
 impl Comments {
-    /// The number of the ward, where it is told.
+    /// The number of the ward, where a comment gives it.
     fn take_ward(&mut self, ward: Option<u8>) -> Result<(), Flaw>
         ensures { outcome result (remarks_of self.new) ≡ with_ward (remarks_of self.old) ward }
     {
         keep_once(&mut self.ward, ward, Flaw::Ward)
     }
 
-    /// The rejected papers, where they are told.
+    /// The rejected papers, where a comment gives them.
     fn take_rejected(&mut self, rejected: Option<[u32; 5]>) -> Result<(), Flaw>
         ensures { outcome result (remarks_of self.new) ≡ with_rejected (remarks_of self.old) rejected }
     {
         keep_once(&mut self.rejected, rejected, Flaw::Rejected)
     }
 
-    /// A lot, where it is told.
+    /// A lot, where a comment gives it.
     fn take_lot(&mut self, lot: Option<(u8, u8)>) -> Result<Result<(), Flaw>, AllocError>
         ensures { IfOk result (λ told. outcome told (remarks_of self.new) ≡ with_lot (remarks_of self.old) lot) }
     {

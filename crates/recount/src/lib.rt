@@ -1,10 +1,9 @@
 //! Checks a stage sheet or a declaration against the ballots of its ward: whether the text is exactly the one
 //! that these ballots, rejected papers and lots give. Nothing of an office is needed.
 //!
-//! [`check`] reads the ballots, as `ballots` prints them or as other counting programs write them (BLT), counts
-//! them to the end by the recorded lots, and compares. A [`Problem`] tells what of the ballots isn't understood, or
-//! which lot is wanting. [`run`] does what the checker's words ask: it has both files read from a [`Folder`], and
-//! tells what came of it on two outputs.
+//! [`check`] reads the ballots, as `ballots` prints them or as other counting programs write them (BLT), counts them to the end
+//! by the recorded lots, and compares. A [`Problem`] says what of the ballots isn't understood, or which lot is wanting. [`run`]
+//! does what the checker's words ask: it has both files read from a [`Folder`], and prints what came of it on two outputs.
 //!
 //! ```text
 //! match check(alloc, ballots, text)? {
@@ -15,13 +14,13 @@
 //! ```
 #![tactic(auto)]
 
-// what is told
+// what the check reports
 mod differences;
 mod problem;
 // a text in lines, a line in words, and words that are numbers
 mod numbers;
 mod pieces;
-// what a file has told so far, and what each of its lines adds
+// what a file has said so far, and what each of its lines adds
 mod comments;
 mod names;
 mod papers;
@@ -29,12 +28,12 @@ mod passing;
 mod ranks;
 mod reading;
 mod state;
-// the ward that it tells, and a text beside it
+// the ward that it describes, and a text beside it
 mod checking;
 mod lots;
 mod reading_back;
 mod wards;
-// what the program is asked for, and what it tells
+// what the program is asked for, and what it prints
 mod asking;
 mod folders;
 mod help;

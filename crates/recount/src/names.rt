@@ -11,7 +11,7 @@ use crate::problem::Flaw;
 use std::alloc::{AllocError, Global};
 use std::str;
 
-/// The most bytes of a name. A sheet tells each name at each stage, so a longer one would take much room there.
+/// The most bytes of a name. A sheet shows each name at each stage, so a longer one would take much room there.
 const MAX_NAME: usize = 1000;
 
 /// Where the next byte of a line with a name stands.

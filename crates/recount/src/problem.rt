@@ -39,15 +39,15 @@ pub enum Flaw {
     NotUtf8,
     /// It stands behind the name of the ward.
     BehindName,
-    /// The comment doesn't tell the number of a ward.
+    /// The comment doesn't give the number of a ward.
     Ward,
-    /// The comment doesn't tell the rejected papers of each code.
+    /// The comment doesn't give the rejected papers of each code.
     Rejected,
-    /// The comment doesn't tell a stage and a candidate.
+    /// The comment doesn't give a stage and a candidate.
     Lot,
     /// A comment begins with one of our words, but isn't written as ours are.
     Astray,
-    /// The comment tells what was told before.
+    /// The comment says what a comment said before.
     Twice,
     /// The file ends before its first line of numbers.
     NoSize,

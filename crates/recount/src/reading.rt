@@ -60,7 +60,7 @@ fn is_withdrawn_line(words: &[&[u8]]) -> bool
 }
 
 impl Reader {
-    /// Nothing is told.
+    /// Nothing is known yet.
     fn new(alloc: Global) -> Reader
         ensures { reading_of result ≡ nothing_told }
     {
@@ -145,7 +145,7 @@ impl Reader {
         Ok(Ok(()))
     }
 
-    /// A line that tells something.
+    /// A line with content.
     fn take_content(&mut self, alloc: Global, line: &[u8]) -> Result<Result<(), Flaw>, AllocError>
         ensures { IfOk result (λ told. outcome told (reading_of self.new) ≡ with_content_at self.old.place (reading_of self.old) line.now) }
     {
@@ -189,7 +189,7 @@ impl Reader {
     }
 }
 
-/// What some lines tell, or the first of them that isn't understood.
+/// What some lines say, or the first of them that isn't understood.
 fn read_lines(alloc: Global, lines: &[&[u8]]) -> Result<Reader, Problem>
     ensures ok { IfOk result (λ reader. read_from 0 nothing_told (map (λ line. line.now) lines.now) ≡ Ok (reading_of reader)) }
     ensures err { IfErr result (λ problem. IsFlawOf (read_from 0 nothing_told (map (λ line. line.now) lines.now)) problem) }
@@ -216,7 +216,7 @@ fn read_lines(alloc: Global, lines: &[&[u8]]) -> Result<Reader, Problem>
     }
 }
 
-/// What a file tells, or the first line of it that isn't understood.
+/// What a file says, or the first line of it that isn't understood.
 pub(crate) fn read(alloc: Global, bytes: &[u8]) -> Result<Reader, Problem>
     ensures ok { IfOk result (λ reader. read bytes.now ≡ Ok (reading_of reader)) }
     ensures err { IfErr result (λ problem. IsFlawOf (read bytes.now) problem) }

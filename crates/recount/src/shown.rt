@@ -27,7 +27,7 @@ fn show(character: char, text: &mut String) -> Result<(), AllocError>
     }
 }
 
-/// A text as a terminal is shown it: names may come from anyone, so a question mark stands for what could steer it.
+/// A text as it is printed on a terminal: names may come from anyone, so a question mark stands for what could steer it.
 pub(crate) fn shown(alloc: Global, text: &str) -> Result<String, AllocError>
     ensures { IfOk result (λ shown_text. string_bytes shown_text ≡ shown text.now) }
 {

@@ -1,4 +1,4 @@
-//! What a file of ballots has told so far.
+//! What a file of ballots has said so far.
 
 ghost use Rattle.std.specs.Prelude.{◌≤◌, length};
 ghost use Rattle.paper.specs.Columns.{max_candidates};
@@ -28,7 +28,7 @@ pub(crate) struct Names {
     ghost few: { length names.items ≤ max_candidates },
 }
 
-/// What our own comments tell.
+/// What our own comments say.
 #[derive(Drop)]
 pub(crate) struct Comments {
     /// The number of the ward.
@@ -54,7 +54,7 @@ pub(crate) enum NextLine {
     End,
 }
 
-/// What a file has told so far, and where its next line stands.
+/// What a file has said so far, and where its next line stands.
 #[derive(Drop)]
 pub(crate) struct Reader {
     pub(crate) place: NextLine,

@@ -1,4 +1,4 @@
-//! What is told on the outputs, and the status that the program ends with.
+//! What is printed on the outputs, and the status that the program ends with.
 
 ghost use Rattle.std.specs.Prelude.{◌≡◌, ◌⊎◌, ◌-◌, ◌^◌, ◌<◌};
 ghost use Rattle.recount.specs.Outputs.{BrokeOff, Tells, Took, broken_line, output_of, outputs_of};
@@ -8,7 +8,7 @@ use crate::pages::{FAILED, Outcome, status_of, text_of};
 use std::alloc::Global;
 use votes::{Broken, Sink, put_all};
 
-/// Tells that the output failed.
+/// Prints that the output failed.
 fn tell_broken<E: Sink>(err: &mut E) -> u8
     requires { E.failed err.old < 2 ^ 64 - 1 }
     ensures told { let output = output_of E.taken E.failed in Took (output err.old) (output err.new) broken_line ⊎ BrokeOff (output err.old) (output err.new) broken_line }
@@ -18,7 +18,7 @@ fn tell_broken<E: Sink>(err: &mut E) -> u8
     FAILED
 }
 
-/// Tells a text on the output that its status asks for, and gives the status: another, 3, where an output fails.
+/// Prints a text on the output that its status asks for, and gives the status: 3 in its place where an output fails.
 fn tell_text<O: Sink, E: Sink>(text: &str, status: u8, out: &mut O, err: &mut E) -> u8
     requires out { O.failed out.old < 2 ^ 64 - 1 }
     requires err { E.failed err.old < 2 ^ 64 - 1 }
@@ -36,7 +36,7 @@ fn tell_text<O: Sink, E: Sink>(text: &str, status: u8, out: &mut O, err: &mut E)
     }
 }
 
-/// Tells an outcome, and gives its status; where memory is wanting that is told in its place.
+/// Prints an outcome, and gives its status. Where memory is wanting, it prints that in its place.
 pub(crate) fn tell<O: Sink, E: Sink>(
     alloc: Global,
     outcome: &Outcome,

@@ -1,4 +1,4 @@
-//! The ward that a file tells.
+//! The ward that a file describes.
 
 ghost use Rattle.std.specs.Prelude.{◌≡◌, ◌≤◌, length, map, string_bytes, IfOk};
 ghost use Rattle.paper.specs.Columns.{IsColumnSet, max_candidates};

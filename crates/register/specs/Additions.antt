@@ -50,7 +50,7 @@ abbrev pub addition_due : ElectionEntry → Option Action → AdditionEntries
 addition_due e None = no_addition
 addition_due e (Some action) = addition_at e action
 
--- this is what the stage that is due adds to a ward's count, where that is the one shown
+-- this is what the stage that is due adds to a ward's count, where this count is the one shown
 abbrev pub IsAddedTo : ℕ → CountValue → Addition → Type 0
 IsAddedTo ward count addition =
     (e : ElectionEntry) → IsCountOf e count → ward ≡ e.ward.number → addition_entries addition ≡ addition_due e (next_action (contest_of e) e.lots (stages_of e))

@@ -45,7 +45,7 @@ part_of s actor (Third batch clerk) =
 abbrev pub is_in_last_round : BatchEntry → Bool
 is_in_last_round b = nat_le last_round b.round
 
--- the numbers are in range, and the actor is one who may send it; of a batch in its last round there is no next one
+-- the numbers are in range, and the actor is one who may send it; a batch in its last round has no next one
 abbrev pub is_in_range : ℕ → BatchCommand → PartEntries → Bool
 is_in_range actor (Add batch ward size first_clerk second_clerk) part =
     is_office actor && (is_batch_number batch && (is_ward_number ward && (is_paper_number size && (is_clerk first_clerk && is_clerk second_clerk))))
@@ -76,7 +76,7 @@ abbrev pub next_round : Option BatchEntry → ℕ
 next_round None = 1
 next_round (Some b) = if is_in_last_round b then b.round else b.round + 1
 
--- what the receipt is about: the same for two commands that an id may stand for only once
+-- what the receipt is about: by it a command that comes again under its id is known as the same
 unfoldable pub subject_of : BatchCommand → List ℕ
 subject_of (Add batch ward size first_clerk second_clerk) = codes "batch " ++ decimal batch
 subject_of (Again batch) = codes "again " ++ decimal batch

@@ -34,7 +34,7 @@ objections actor (Withdraw ward candidate) part =
     ∷ phase_objections Nominations part.ward
     ++ (objection (is_none part.candidate) NoSuchCandidate ∷ [])
 
--- what the receipt is about: the same for two commands that an id may stand for only once
+-- what the receipt is about: by it a command that comes again under its id is known as the same
 unfoldable pub subject_of : CandidateCommand → List ℕ
 subject_of (Add ward candidate name) = codes "candidate " ++ (decimal ward ++ (codes " " ++ decimal candidate))
 subject_of (Withdraw ward candidate) = codes "withdraw " ++ (decimal ward ++ (codes " " ++ decimal candidate))

@@ -91,7 +91,7 @@ abbrev pub objections : ℕ → CountCommand → PartEntries → List (Option Re
 objections actor command part =
     objection (not (is_in_range actor command)) NumberOutOfRange ∷ phase_objections (phase_for command) part.ward ++ own_objections command part
 
--- what the receipt is about: the same for two commands that an id may stand for only once
+-- what the receipt is about: by it a command that comes again under its id is known as the same
 unfoldable pub subject_of : CountCommand → List ℕ
 subject_of (Seal ward) = codes "seal " ++ decimal ward
 subject_of (Advance ward) = codes "advance " ++ decimal ward
@@ -107,12 +107,12 @@ abbrev pub next_stage : Option WardEntry → ℕ
 next_stage None = 1
 next_stage (Some w) = stage_after w.done
 
--- what is told of a poll: its valid papers, its rejected ones, and the quota
+-- what a reply says of a poll: its valid papers, its rejected ones, and the quota
 abbrev pub poll_told : Option PollEntry → List ℕ
 poll_told None = []
 poll_told (Some poll) = codes " sealed: " ++ (decimal poll.valid ++ (codes " valid, " ++ (decimal (all_rejected poll.rejected) ++ (codes " rejected, quota " ++ votes_text poll.quota))))
 
--- what is told of an action that comes next
+-- what a reply says of an action that comes next
 abbrev pub action_told : Option Due → List ℕ
 action_told None = []
 action_told (Some (Act action)) = action_text action

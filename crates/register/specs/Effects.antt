@@ -9,9 +9,8 @@ use Rattle.register.specs.Offices.{WardEntry, CandidateEntry, BatchEntry, ThirdE
 use Rattle.register.specs.Offices.{candidate_cmp, batch_cmp, third_cmp, keyed_cmp, judged_cmp, lot_cmp, receipt_cmp, ward_compared, candidate_compared, batch_compared, ward_entry}
 use Rattle.register.specs.Offices.{candidate_entry, batch_entry, third_entry, keyed_entry, judged_entry, lot_entry, receipt_entry}
 
--- what a command does to the state, beside its receipt: a ward is new, or comes to a phase; a candidate of a ward stands,
--- or stands no longer; a batch is new, or is keyed in another round; a third clerk of a batch is set; papers are keyed; a paper is judged; so many stages of a
--- ward's count are done; a lot is drawn
+-- what a command does to the state, beside its receipt. A ward is new, or comes to a phase. A candidate of a ward stands, or stands no longer. A batch is new,
+-- or is keyed in another round, or gets a third clerk. Papers are keyed; a paper is judged. So many stages of a ward's count are done; a lot is drawn.
 pub data EffectEntry : Type 0 where
   ward_added : WardEntry → EffectEntry
   ward_moved : ℕ → Phase → EffectEntry

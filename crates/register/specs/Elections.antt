@@ -89,7 +89,7 @@ is_tied (Act action) c = false
 is_tied (Lot stage kind tied) c = list_any (nat_eq c) tied
 is_tied Finished c = false
 
--- the same of what may be due: where it isn't known, neither is told
+-- the same of what may be due: where it isn't known, neither holds
 abbrev pub has_finished : Option Due → Bool
 has_finished None = false
 has_finished (Some due) = is_finished due

@@ -50,7 +50,7 @@ objections actor command part =
     ∷ []
     )
 
--- what the receipt is about: the same for two commands that an id may stand for only once
+-- what the receipt is about: by it a command that comes again under its id is known as the same
 unfoldable pub subject_of : KeyingCommand → List ℕ
 subject_of command = codes "key " ++ (decimal command.batch ++ (codes " " ++ decimal command.round))
 

@@ -53,7 +53,7 @@ abbrev pub or_reason : Option Reason → Option Reason → Option Reason
 or_reason (Some why) other = Some why
 or_reason None other = other
 
--- the reason that the marks of some papers give, which are numbered from a number on: the first faulty paper's
+-- the reason that the marks of some papers give, by the first faulty paper; the papers are numbered from some number on
 unfoldable pub first_bad_marks : List ℕ → ℕ → List (List ℕ) → Option Reason
 first_bad_marks columns paper [] = None
 first_bad_marks columns paper (marks ∷ others) = or_reason (marks_objection columns paper marks) (first_bad_marks columns (paper + 1) others)

@@ -40,12 +40,12 @@ pub record BatchEntry : Type 0 where
   pub second_clerk : ℕ
   pub round : ℕ
 
--- a third clerk who keys a batch, whose two keyed it unequally: of which batch, his number
+-- a third clerk who keys a batch, since its two clerks keyed it unequally: the batch, and his number
 pub record ThirdEntry : Type 0 where
   pub batch : ℕ
   pub clerk : ℕ
 
--- a ballot paper as a clerk keyed it: of which batch, in which round, by whom, its number there, its marks text
+-- a ballot paper as a clerk keyed it: its batch, the round, the clerk, its number in the batch, and its marks text
 pub record KeyedEntry : Type 0 where
   pub batch : ℕ
   pub round : ℕ
@@ -53,15 +53,14 @@ pub record KeyedEntry : Type 0 where
   pub paper : ℕ
   pub marks : List ℕ
 
--- a doubtful ballot paper as the returning officer judged it: of which batch, its number there, 0 with the marks that it was
--- accepted with, or the code of its rejection
+-- a doubtful ballot paper as the returning officer judged it: its batch, its number there, and 0 with the marks that it was accepted with, or the code of its rejection
 pub record JudgedEntry : Type 0 where
   pub batch : ℕ
   pub paper : ℕ
   pub code : ℕ
   pub marks : List ℕ
 
--- a lot that was drawn: of which ward, for which stage of its count, the candidate whose surplus is transferred or who is excluded
+-- a lot that was drawn: its ward, the stage of the count, and the candidate whose surplus is transferred or who is excluded
 pub record LotEntry : Type 0 where
   pub ward : ℕ
   pub stage : ℕ
@@ -125,14 +124,15 @@ entry_at compared xs = find (λ x. is_eq (compared x)) xs
 abbrev pub without : {X : Type 0} → (X → Ordering) → List X → List X
 without compared xs = filter (λ x. not (is_eq (compared x))) xs
 
--- the entries with a change made in the one whose key is the one that is compared with
+-- the entries, with a change in the one whose key compares as equal
 abbrev pub changed : {X : Type 0} → (X → Ordering) → (X → X) → List X → List X
 changed compared change xs = map (λ x. if is_eq (compared x) then change x else x) xs
 
 -- ---- the state
 
--- the wards by number, the candidates by ward and number, the batches by number, the third clerks by batch, the keyed papers by
--- batch, round, clerk and number, the judged papers by batch and number, the lots by ward and stage, the receipts by actor and id
+-- The state of an office, in maps. Wards are found by number, and candidates by ward and number. Batches are found by number, third clerks by batch,
+-- keyed papers by batch, round, clerk and number, and judged papers by batch and number. Lots are found by ward and stage, and receipts by actor and
+-- id.
 pub record OfficeState : Type 0 where
   pub wards : List WardEntry
   pub candidates : List CandidateEntry

@@ -21,7 +21,7 @@ same_marks [] [] = true
 same_marks (j ∷ js) (k ∷ ks) = bytes_eq j.marks k.marks && same_marks js ks
 same_marks js ks = false
 
--- of some keyings the first that one behind it equals: the papers that a batch is taken with; none where no two are equal
+-- the first of some keyings that a later one equals: the papers with which a batch is taken; none where no two are equal
 abbrev pub agreed : List (List KeyedEntry) → List KeyedEntry
 agreed [] = []
 agreed (k ∷ ks) = if list_any (same_marks k) ks then k else agreed ks

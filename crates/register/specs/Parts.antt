@@ -12,10 +12,9 @@ use Rattle.register.specs.Papers.{of_three}
 use Rattle.register.specs.Polls.{PollEntry, poll_entry}
 use Rattle.register.specs.Offices.{WardEntry, CandidateEntry, BatchEntry, ThirdEntry, KeyedEntry, JudgedEntry, ward_entry, candidate_entry, batch_entry, third_entry, keyed_entry, judged_entry}
 
--- what any command may need, each there only where the command needs it: the ward that it names, or that the batch which it
--- names belongs to; the candidate that it names; the candidates of the ward; the batch that it names, and its third clerk; the
--- actor's own keying of it; the keyings of its current round that are there; the verdict on the paper that it names; the poll
--- of the ward; what is due in its count, and who is elected
+-- what any command may need, each there only where the command needs it. Of the ward that it names, or to which the batch that it names belongs: the
+-- ward, its candidates, its poll, what is due in its count, and who is elected. The candidate that it names. The batch that it names, and its third
+-- clerk; the actor's own keying of it; the keyings of its current round that are there; and the verdict on the paper that it names.
 pub record PartEntries : Type 0 where
   pub ward : Option WardEntry
   pub candidate : Option CandidateEntry

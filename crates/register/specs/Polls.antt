@@ -135,7 +135,7 @@ ballots_by js =
       settled = true;
     }
 
--- what is told of a ward's papers: how many are valid, how many rejected by each code, the quota, and whether each batch is settled
+-- what a ward's papers come to: how many are valid, how many rejected by each code, the quota, and whether each batch is settled
 pub record PollEntry : Type 0 where
   pub valid : ℕ
   pub rejected : List ℕ
@@ -158,7 +158,7 @@ are_listed kept papers = kept.items ≡ papers
 abbrev pub are_bundled : List Bundle → List (List ℕ) → Type 0
 are_bundled bundles papers = bundles ≡ bundled papers
 
--- ballots stand for these: their papers are held, as something holds papers, and the rest is the same
+-- ballots stand for these: `holds` says which papers they have, and the rest is the same
 pub record StandFor {P : Type 0} (holds : P → List (List ℕ) → Type 0) (ballots : Ballots P) (entry : BallotsEntry) : Type 0 where
   pub papers_held : holds ballots.papers entry.papers
   pub rejected_are : ballots.rejected ≡ entry.rejected

@@ -10,8 +10,8 @@ use Rattle.register.specs.Elections.{election_of, due_of}
 use Rattle.register.specs.Standings.{StatusEntry, status_of, status_entry}
 use Rattle.register.specs.Counts.{stage_after}
 
--- what comes next in a ward: the end of its nominations, with so many candidates for so many seats so far; the rest of its papers, which stand
--- so; in its count what is due, at the stage of this number, with its candidates; or nothing
+-- What comes next in a ward. In nominations it is their end, with so many candidates for so many seats so far. In keying it is the rest of the
+-- papers, which stand so. In the count it is what is due, at the stage of this number, with its candidates. Once it is declared, it is nothing.
 pub data StepEntry : Type 0 where
   nominations_end : ℕ → ℕ → StepEntry
   papers_stand : StatusEntry → StepEntry

@@ -32,8 +32,7 @@ use Rattle.register.specs.Elections.{ElectionEntry, election_of, has_count, is_i
 
 -- ---- entries
 
--- a bundle of equal ballot papers of a ward: their list of preferences, how many they are, who holds them, 0 for no one, and the
--- value in units at which each was received
+-- a bundle of equal ballot papers of a ward: their list of preferences, how many they are, who holds them (0 for no one), and the value in units at which each was received
 pub record PlacedEntry : Type 0 where
   pub ward : ℕ
   pub list : List ℕ

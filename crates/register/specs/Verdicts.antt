@@ -58,11 +58,11 @@ objections actor command part =
     ∷ []
     )
 
--- what the receipt is about: the same for two commands that an id may stand for only once
+-- what the receipt is about: by it a command that comes again under its id is known as the same
 unfoldable pub subject_of : VerdictCommand → List ℕ
 subject_of command = codes "judge " ++ (decimal command.batch ++ (codes " " ++ decimal command.paper))
 
--- what is told of a verdict
+-- what a reply says of a verdict
 abbrev pub verdict_word : Verdict → List ℕ
 verdict_word (Accept marks) = codes " accepted"
 verdict_word (Reject code) = codes " rejected " ++ decimal code

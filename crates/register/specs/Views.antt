@@ -17,8 +17,7 @@ use Rattle.register.specs.Keyings.{reply_to}
 use Rattle.register.specs.Tabulated.{IsCountFor}
 use Rattle.register.specs.Machine.{Ruling, accepts, keeps, refuses, Outcome, accepted, outcome_at, decided, part_of}
 
--- the view shows what the state has for this command: its receipt, and where there is none the part of the state, and the count that
--- a stage is to be added to
+-- the view shows what the state has for this command: its receipt; where there is none, the part of the state; and the count that a stage is to be added to
 pub record IsViewOf (s : OfficeState) (command : Command) (view : View) : Type 0 where
   pub receipt : option_map receipt_entry view.receipt ≡ receipt_at s view.actor view.id.now
   pub part : receipt_at s view.actor view.id.now ≡ None → part_entries view.part ≡ part_of s view.actor command
@@ -28,17 +27,17 @@ pub record IsViewOf (s : OfficeState) (command : Command) (view : View) : Type 0
 abbrev pub decided_on : View → Command → Ruling
 decided_on view command = decided view.actor view.id.now command (option_map receipt_entry view.receipt) (part_entries view.part)
 
--- the ruling that a decision tells
+-- the ruling of a decision
 abbrev pub ruling_of : Decision → Ruling
 ruling_of (Accepted change reply) = accepts (change_entry change) (string_bytes reply)
 ruling_of (Kept reply) = keeps (string_bytes reply)
 ruling_of (Refused why) = refuses why
 
--- the outcome that a decision tells at a state
+-- the outcome of a decision at a state
 abbrev pub outcome_of : OfficeState → Decision → Outcome
 outcome_of s decision = outcome_at s (ruling_of decision)
 
--- An accepted keying gets a reply that is made of the command alone: whatever another clerk keyed, all are told alike.
+-- An accepted keying gets a reply that is made of the command alone: whatever another clerk keyed, all get the same.
 abbrev pub IsToldAlike : Command → Ruling → Type 0
 IsToldAlike (Keying command) (accepts change reply) = reply ≡ reply_to command
 IsToldAlike command ruling = ⊤

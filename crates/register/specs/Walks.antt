@@ -10,7 +10,7 @@ use Rattle.register.specs.declared.polls.Judgement.{Judgement}
 use Rattle.register.specs.Polls.{is_rejected}
 use Rattle.register.specs.Tabulated.{PlacedEntry, FigureEntry, AdditionEntries, placed_at, figure_at, figures_to}
 
--- the numbers of papers rejected, by code 1 to 5, of a paper more; over all judgements they are `rejected_with` of each code
+-- the numbers of papers rejected, by code 1 to 5, with one paper more; over all judgements they are `rejected_with` of each code
 abbrev pub and_rejected : List ℕ → Judgement → List ℕ
 and_rejected rejected judgement =
     map (λ n. slice_index rejected (n - 1) + (if is_rejected n judgement then 1 else 0)) (1 ∷ 2 ∷ 3 ∷ 4 ∷ 5 ∷ [])

@@ -40,11 +40,11 @@ is_to_be_polled (Some w) candidates = is_contested w candidates
 abbrev pub closed_phase : PartEntries → Phase
 closed_phase part = if is_to_be_polled part.ward part.candidates then Keying else Sealed
 
--- what is told of a ward whose nominations are closed
+-- what a reply says of a ward whose nominations are closed
 abbrev pub closed_word : PartEntries → List ℕ
 closed_word part = if is_to_be_polled part.ward part.candidates then codes " polled" else codes " uncontested"
 
--- what the receipt is about: the same for two commands that an id may stand for only once
+-- what the receipt is about: by it a command that comes again under its id is known as the same
 unfoldable pub subject_of : WardCommand → List ℕ
 subject_of (Add ward seats name) = codes "ward " ++ decimal ward
 subject_of (Close ward) = codes "close " ++ decimal ward

@@ -92,7 +92,7 @@ other_batch = record { number = 13; ward = 7; size = 1; first_clerk = 9; second_
 abbrev pub keyed : ℕ → List ℕ → List KeyedEntry
 keyed clerk marks = record { batch = 12; round = 1; clerk = clerk; paper = 1; marks = marks } ∷ record { batch = 12; round = 1; clerk = clerk; paper = 2; marks = codes "D" } ∷ []
 
--- what the office asked under an id, and was told; and what a clerk was told of his keying
+-- what the office asked under an id, and its reply; and the reply to a clerk's keying
 abbrev pub told : List ℕ → List ℕ → List ℕ → ReceiptEntry
 told id subject reply = record { actor = 0; id = id; subject = subject; reply = reply }
 
@@ -105,7 +105,7 @@ told_keyed clerk = record { actor = clerk; id = codes "k1"; subject = codes "key
 abbrev pub in_nominations : List CandidateEntry → List ReceiptEntry → OfficeState
 in_nominations stand behind = record empty_office { wards = harbour Nominations ∷ []; candidates = stand; receipts = told (codes "w1") (codes "ward 7") (codes "ward 7 added") ∷ behind }
 
--- what was told of the candidates of Harbour
+-- the receipts of the candidates of Harbour
 abbrev pub told_of_dee : ReceiptEntry
 told_of_dee = told (codes "x1") (codes "candidate 7 1") (codes "candidate 1 of ward 7 added")
 
@@ -179,7 +179,7 @@ third_keyed marks = given_to_third (keyed 4 (codes "1,2,") ++ (keyed 5 marks ++ 
 abbrev pub with_quay : Phase → List CandidateEntry → List ReceiptEntry → OfficeState
 with_quay phase stand behind = record empty_office { wards = quay phase ∷ []; candidates = stand; receipts = told (codes "w1") (codes "ward 8") (codes "ward 8 added") ∷ behind }
 
--- its two candidates, what was told of them, and of its nominations closed
+-- its two candidates, their receipts, and that of its nominations closed
 abbrev pub both_there : List CandidateEntry
 both_there = dee 8 ∷ eve 8 ∷ []
 
@@ -215,8 +215,8 @@ pub record NominationRows : Type 0 where
   pub batch_given_out : step (in_keying [] [] [] []) 0 (codes "z1") (adds_batch 12 7 2 4 9) ≡ accepted (in_keying (batch_in 1 ∷ []) [] [] (told_of_batch ∷ [])) (codes "batch 12 added")
   pub other_given_out : step (in_keying (batch_in 1 ∷ []) [] [] (told_of_batch ∷ [])) 0 (codes "z2") (adds_batch 13 7 1 9 4) ≡ accepted given_out (codes "batch 13 added")
 
--- Two clerks key a batch, each told the same whatever the other keyed. Equal keyings take it, and its doubtful paper is judged; where
--- they differ the ward isn't ready to be sealed, and the batch is keyed again.
+-- Two clerks key a batch, and each gets the same reply whatever the other keyed. Equal keyings take it, and its doubtful paper is judged. Where they
+-- differ the ward isn't ready to be sealed, and the batch is keyed again.
 pub record KeyedRows : Type 0 where
   pub first_clerk : Marked (codes "1,2," ∷ codes "D" ∷ []) (λ papers. step given_out 4 (codes "k1") (keys 12 1 papers) ≡ accepted keyed_once (codes "batch 12 round 1 keyed"))
   pub kept_whatever : (papers : Vec (String Global) Global) → step keyed_once 4 (codes "k1") (keys 12 1 papers) ≡ kept (codes "batch 12 round 1 keyed")

@@ -5,8 +5,7 @@ use Rattle.register.specs.Tabulated.{PlacedEntry, FigureEntry, bundles_in, figur
 use Rattle.register.specs.Elections.{ElectionEntry}
 use Rattle.register.specs.WorkedOffice.{harbour, dee, eve, fay}
 
--- the election in Harbour after so many stages: three stand for its two seats, and its nine papers are four of 1, 2, two of 1, 3, one
--- of 2 and two of 3
+-- the election in Harbour after so many stages: three stand for its two seats; of its nine papers four are 1, 2, two are 1, 3, one is 2 and two are 3
 abbrev pub harbour_after : ℕ → ElectionEntry
 harbour_after done =
     record {

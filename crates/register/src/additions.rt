@@ -51,7 +51,7 @@ fn last_figures(
 ) -> Result<Vec<StageFigure>, AllocError>
     ensures { IfOk result (λ figures. map figure_entry figures.items ≡ last_figures ward candidates.now stages.now) }
 {
-    // no memory holds more stages than a number tells
+    // no memory holds more stages than such a number can count
     let Ok(stage) = u32::try_from(stages.len()) else {
         return Err(AllocError);
     };

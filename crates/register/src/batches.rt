@@ -19,8 +19,8 @@ use crate::view::Part;
 use crate::wards::is_in_phase;
 use std::alloc::{AllocError, Global};
 
-/// A batch of ballot papers: its number (1 to 9999, over all wards), its ward (1 to 99), how many papers
-/// it has (1 to 500), the two clerks who first key it (1 to 999), and its current round (1 to 99).
+/// A batch of ballot papers. It has its number (1 to 9999, over all wards), its ward (1 to 99), how many papers it has (1 to
+/// 500), its current round (1 to 99), and the two clerks who first key it (1 to 999).
 #[derive(PartialEq, Drop)]
 pub struct Batch {
     pub number: u32,

@@ -25,8 +25,8 @@ use count::Due;
 use paper::Columns;
 use std::alloc::{AllocError, Global};
 
-/// A lot that was drawn: of which ward (1 to 99), for which stage of its count (2 to 31), and the
-/// candidate (1 to 30) whose surplus is transferred or who is excluded.
+/// A lot that was drawn: of which ward (1 to 99), for which stage of its count (2 to 31), and the candidate (1 to 30) whom it
+/// names. His surplus is transferred, or he is excluded.
 #[derive(PartialEq, Drop)]
 pub struct DrawnLot {
     pub ward: u32,
@@ -252,7 +252,7 @@ fn all_rejected(poll: &PollTally) -> u64
     u64::from(first) + (u64::from(second) + others)
 }
 
-/// What is told of a poll.
+/// What a reply says of a poll.
 fn poll_told(alloc: Global, poll: &Option<PollTally>) -> Result<String, AllocError>
     ensures { IfOk result (λ text. string_bytes text ≡ poll_told (option_map poll_entry poll.now)) }
 {
@@ -265,7 +265,7 @@ fn poll_told(alloc: Global, poll: &Option<PollTally>) -> Result<String, AllocErr
     }
 }
 
-/// What is told of an action that comes next.
+/// What a reply says of an action that comes next.
 fn action_told(alloc: Global, due: &Option<Due>) -> Result<String, AllocError>
     ensures { IfOk result (λ text. string_bytes text ≡ action_told due.now) }
 {

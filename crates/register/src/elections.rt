@@ -25,9 +25,8 @@ use paper::Columns;
 use std::alloc::{AllocError, Global};
 use votes::{MAX_SEATS, quota};
 
-/// The election in a ward: its candidates in the order of their numbers, its ballot papers as far as its
-/// batches are taken, and the lots that are recorded, each the stage (counted from 1) and the candidate
-/// that it names, in the order of the stages.
+/// The election in a ward: its candidates in the order of their numbers; its ballot papers as far as its batches are taken; and the
+/// lots that are recorded, in the order of the stages. Of each lot it has the stage (counted from 1) and the candidate that it names.
 #[derive(Drop)]
 pub struct Election {
     pub ward: Ward,
@@ -36,8 +35,8 @@ pub struct Election {
     pub lots: Vec<(u8, u8)>,
 }
 
-/// The count of a ward that goes on from where it was kept, and the lots that are recorded, each the stage
-/// (counted from 1) and the candidate that it names, in the order of the stages.
+/// The count of a ward that goes on from where it was kept, and the lots that are recorded, in the order of the stages. Of each
+/// lot it has the stage (counted from 1) and the candidate that it names.
 #[derive(Drop)]
 pub struct Count {
     pub kept: KeptCount,
@@ -67,10 +66,9 @@ pub struct Progress {
     pub elected: Columns,
 }
 
-/// The laws of the elections of an office, for its callers. Where numbers are in range, keyings are whole
-/// and entries stand in the order of their keys, each contested ward has an election that can be counted,
-/// and no ward has more seats or papers than there may be. At a state, once each batch of a ward is
-/// settled, its valid papers and its rejected ones are all the papers of its batches.
+/// The laws of the elections of an office, for its callers. They hold where numbers are in range, keyings are whole and entries stand in
+/// the order of their keys. Then each contested ward has an election that can be counted, and no ward has more seats or papers than there
+/// may be. At a state, once each batch of a ward is settled, its valid papers and its rejected ones are all the papers of its batches.
 pub fn elections_are_fair()
     ensures fair { (s : OfficeState) (w : WardEntry) → all_in_range s ≡ true → all_keyed s ≡ true → MapsRise s → ward_at s w.number ≡ Some w
         → is_contested w (candidates_of s w.number) ≡ true → IsContest (contest_of (election_of s w)) }
@@ -80,9 +78,8 @@ pub fn elections_are_fair()
         → length (election_of s w).ballots.papers + all_rejected (election_of s w).ballots.rejected ≡ sum_by (λ b. b.size) (batches_of s w.number) }
 {}
 
-/// The law of the papers of a ward that is in count: at a state each of its batches is settled, so that
-/// its papers come to what one keying of each batch comes to: where two clerks key it, that of the lower
-/// number.
+/// The law of the papers of a ward that is in count: they come to what one keying of each batch comes to. At a state each of the
+/// ward's batches is settled. Where two clerks key a batch, it is the keying of the lower number.
 pub fn settled_papers_suffice()
     ensures { (s : OfficeState) (w : WardEntry) (columns : List ℕ) → IsState s → ward_at s w.number ≡ Some w → is_in_count (election_of s w) ≡ true
         → ballots_in columns (piles_of s w.number) ≡ ballots_by (settled_judgements s columns (batches_of s w.number)) }

@@ -19,8 +19,7 @@ use crate::view::Part;
 use crate::wards::is_in_phase;
 use std::alloc::{AllocError, Global};
 
-/// A ballot paper as a clerk (1 to 999) keyed it: of which batch (1 to 9999), in which round (1 to 99),
-/// its number there (1 to 500), and its marks text.
+/// A ballot paper as a clerk (1 to 999) keyed it: its batch (1 to 9999), the round (1 to 99), its number in the batch (1 to 500), and its marks text.
 #[derive(PartialEq, Drop)]
 pub struct KeyedPaper {
     pub batch: u32,

@@ -1,8 +1,8 @@
 //! The abstract machine of the office: what each request makes of its state.
 //!
-//! A request is an actor, an id and a `Command`. The machine answers it from a `View`, the receipt and the
-//! part of the state that the request needs, with a `Decision`: accepted with a `Change` and a reply, kept
-//! (it was accepted before under the same id), or refused for one named reason. Nothing here touches a store.
+//! A request is an actor, an id and a `Command`. The machine answers it from a `View`: the receipt and the part of the state that
+//! the request needs. The answer is a `Decision`. The request is accepted with a `Change` and a reply; or kept, since it was
+//! accepted before under the same id; or refused for one named reason. Nothing here touches a store.
 //!
 //! ```text
 //! let decision = decide(alloc, &view, &command)?;

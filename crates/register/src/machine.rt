@@ -165,16 +165,14 @@ fn decided(alloc: Global, view: &View<'_>, command: &Command) -> Result<Decision
 
 /// Decides a request on the part of the state that it needs.
 ///
-/// A bad id is refused first. An id that has a receipt gets the reply of then, or is refused where the
-/// receipt is about something else. Of several objections to a new request the one with the lowest
-/// number is told. The reply to a keying says nothing of another clerk's. An accepted Advance adds the
-/// stage that is due after the ward's stages found, which stay as they are; an accepted Lot or Declare leaves
-/// them as they are. An error is want of memory, and nothing was decided then.
+/// A bad id is refused first. An id that has a receipt gets the reply of then, or is refused where the receipt is about something
+/// else. Of several objections to a new request the one with the lowest number comes. The reply to a keying says nothing of
+/// another clerk's. An accepted Advance adds the stage that is due after the ward's stages found, which stay as they are; an
+/// accepted Lot or Declare leaves them as they are. An error is want of memory, and nothing was decided then.
 ///
-/// With what an accepted request adds to it, the tabulation of the counts before it is the one after it, up to
-/// the order of its entries. An Advance adds the figures of the stage that is due, with all bundles of the ward
-/// at the first one, and at a later one those whose papers lie elsewhere than before, and no others; no other
-/// request adds anything.
+/// With what an accepted request adds to it, the tabulation of the counts before it is the one after it, up to the order of its
+/// entries. An Advance adds the figures of the stage that is due. At the first stage it adds all bundles of the ward too; at a
+/// later one those whose papers lie elsewhere than before, and no others. No other request adds anything.
 ///
 /// A clerk, or whoever else isn't the office, is answered by what he sees of the state alone: the wards and
 /// their phases, the candidates, the batches, his own keyings and receipts. His requests leave what any other
@@ -199,15 +197,15 @@ pub fn decide(alloc: Global, view: &View<'_>, command: &Command) -> Result<Decis
     decided(alloc, view, command)
 }
 
-/// What any list of requests leads to: from the office where nothing has happened yet a state, from a state a
-/// state again; and those alone that are accepted, each where its turn comes, lead to the same.
+/// Any list of requests leads from the office where nothing has happened yet to a state, and from a state to a state again. Those
+/// alone that are accepted, each where its turn comes, lead to the same.
 pub fn lists_make_states()
     ensures from_empty { (requests : List Request) → IsState (after empty_office requests) }
     ensures from_state { (s : OfficeState) (requests : List Request) → IsState s → IsState (after s requests) }
     ensures of_accepted { (s : OfficeState) (requests : List Request) → after s (accepted_of s requests) ≡ after s requests }
 {}
 
-/// A clerk's work is told by what he sees alone: of the keyings by his own.
+/// A clerk's work follows from what he sees alone: of the keyings from his own.
 pub fn work_is_seen()
     ensures { (s : OfficeState) (clerk : ℕ) → work_of (seen_by clerk s) clerk ≡ work_of s clerk }
 {}

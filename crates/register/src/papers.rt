@@ -35,9 +35,8 @@ fn same_marks(first: &[KeyedPaper], second: &[KeyedPaper]) -> bool
 }
 
 #[tactic(auto, using(crate::proofs::AgreedLemmas::agreed_three))]
-/// Of three clerks' keyings of a round, in the order of the clerks' numbers, the first that one behind it
-/// equals: the papers that a batch is taken with. A keying that isn't there is empty, and so is the answer
-/// where no two are equal.
+/// The first of three clerks' keyings of a round that a later one equals, in the order of the clerks' numbers: the papers with
+/// which a batch is taken. A keying that isn't there is empty, and so is the answer where no two are equal.
 pub fn agreed<'a>(
     first: &'a [KeyedPaper],
     second: &'a [KeyedPaper],

@@ -77,9 +77,8 @@ impl KeepsPapers for NoPapers {
     }
 }
 
-/// The ballot papers of a ward, as far as its batches are taken: the preferences of each valid one, which
-/// come in the order of batch and number, how many are rejected, by code 1 to 5, and whether each batch is
-/// taken and each doubtful paper has a verdict.
+/// The ballot papers of a ward, as far as its batches are taken. It has the preferences of each valid one, which come in the order of batch
+/// and number, and how many are rejected, by code 1 to 5. It also says whether each batch is taken and each doubtful paper has a verdict.
 #[derive(Drop)]
 pub struct Ballots<P> {
     pub papers: P,
@@ -87,8 +86,8 @@ pub struct Ballots<P> {
     pub settled: bool,
 }
 
-/// What is told of a ward's ballot papers: how many are valid, how many rejected, by code 1 to 5, the
-/// quota ("Quota"), and whether each batch is taken and each doubtful paper has a verdict.
+/// What a ward's ballot papers come to: how many are valid, how many rejected, by code 1 to 5, and the quota ("Quota"). It also
+/// says whether each batch is taken and each doubtful paper has a verdict.
 #[derive(Clone, Copy)]
 pub struct PollTally {
     pub valid: u32,
@@ -188,10 +187,9 @@ impl<P: KeepsPapers> Ballots<P> {
         }
     }
 
-    /// Adds the papers of one more batch, from its three clerks' keyings of the current round, in the order of
-    /// the clerks' numbers and empty where they aren't there, and the verdicts on its papers. A batch that isn't
-    /// taken adds no paper, and the ward isn't settled then. An error is want of memory, and the papers before
-    /// are spoilt then.
+    /// Adds the papers of one more batch, by its three clerks' keyings of the current round and the verdicts on its papers. The
+    /// keyings are in the order of the clerks' numbers, and empty where they aren't there. A batch that isn't taken adds no
+    /// paper, and the ward isn't settled then. An error is want of memory, and the papers before are spoilt then.
     pub fn add(
         &mut self,
         columns: Columns,

@@ -75,7 +75,7 @@ pub enum Reason {
 }
 
 impl Reason {
-    /// The table of reasons: each with its number and its words, those before any number that it carries.
+    /// The table of reasons: each with its number and its words, up to the first number that it carries.
     fn told(self) -> (u32, &'static str)
         ensures number { result.0 ≡ reason_number self }
         ensures words { result.1.now ≡ reason_words self }
@@ -169,7 +169,7 @@ impl Refusal {
         self.reason
     }
 
-    /// The number that stands for this reason wherever refusals are told.
+    /// The number of this reason, wherever a refusal is printed.
     pub fn number(&self) -> u32
         ensures { result ≡ reason_number self.now }
     {

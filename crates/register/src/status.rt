@@ -5,10 +5,9 @@ use crate::phase::Phase;
 use crate::wards::Ward;
 use paper::Columns;
 
-/// How the election of a ward (1 to 99) stands: its phase; how many candidates and batches it has; how many
-/// of the batches are taken, two keyings of their current round being equal, and how many differ, at least two
-/// being there and no two equal; how many doubtful papers of the taken ones have no verdict yet;
-/// and how many stages of its count are done.
+/// How the election of a ward (1 to 99) stands: its phase, and how many candidates and batches it has. So many of the batches are
+/// taken, two keyings of their current round being equal. So many differ, at least two being there and no two equal. So many
+/// doubtful papers of the taken batches have no verdict yet, and so many stages of the count are done.
 #[derive(Clone, Copy, PartialEq, Eq)]
 pub struct Status {
     pub ward: u32,
@@ -21,8 +20,8 @@ pub struct Status {
     pub stages: u32,
 }
 
-/// A batch (1 to 9999) that a clerk keys: its ward (1 to 99), the columns of its papers, how many they are
-/// (1 to 500), its current round (1 to 99), and whether this clerk has keyed that round.
+/// A batch (1 to 9999) that a clerk keys: its ward (1 to 99), the columns of its papers, how many they are (1 to 500), and its
+/// current round (1 to 99). It also says whether this clerk has keyed that round.
 #[derive(Clone, Copy, PartialEq, Eq)]
 pub struct Work {
     pub batch: u32,

@@ -16,8 +16,8 @@ pub enum NextStep {
     /// Its papers are being keyed and judged, and stand so. It is sealed once each batch is taken, and each doubtful paper
     /// judged.
     Papers(Status),
-    /// It is sealed, and this is due in its count: a stage, of which this is the number (1 to 31); or a lot, which says
-    /// itself for which stage it is; or nothing more, as in an uncontested ward. These are its candidates, by their numbers.
+    /// It is sealed, and this is due in its count: a stage, of which this is the number (1 to 31); or a lot, which says itself
+    /// for which stage it is; or nothing more, as in an uncontested ward. The candidates are those of the ward, by their numbers.
     Count {
         stage: u32,
         due: Due,

@@ -22,9 +22,8 @@ use paper::{Columns, Prefs};
 use std::alloc::{AllocError, Global};
 use votes::{MAX_PAPERS, Votes};
 
-/// A bundle of equal ballot papers of a ward, where it lies after the stages done: the preferences, one
-/// candidate's number (1 to 30) a byte; how many papers there are, 1 or more; who holds them, a candidate's
-/// number or 0 for no one; and the value of each, in units.
+/// A bundle of equal ballot papers of a ward, where it lies after the stages done. It has the preferences, one candidate's number (1 to 30)
+/// a byte; how many papers there are, 1 or more; who holds them, a candidate's number or 0 for no one; and the value of each, in units.
 #[derive(PartialEq, Eq, Drop)]
 pub struct PlacedBundle {
     pub ward: u32,
@@ -51,9 +50,8 @@ pub struct Tabulation {
     pub figures: Vec<StageFigure>,
 }
 
-/// What an accepted request adds to the tabulation: bundles that come into it, as all of a ward do at its first
-/// stage; bundles that lie elsewhere than before; and the figures of a new stage. Nothing of it, where no stage
-/// is counted.
+/// What an accepted request adds to the tabulation: bundles that come into it, as all of a ward do at its first stage; bundles
+/// that lie elsewhere than before; and the figures of a new stage. Where no stage is counted it adds nothing.
 #[derive(Drop)]
 pub struct Addition {
     pub placed: Vec<PlacedBundle>,
@@ -190,11 +188,10 @@ fn add_figures(
     Ok(())
 }
 
-/// The laws of what is tabulated, for its callers. At a state the bundles stand in the order of ward and list,
-/// the figures in that of ward, stage and candidate, none twice; and those of a ward are what its election has.
-/// Where a ward's count has a stage, its count is read back from them. Of an election worked by hand they are
-/// those that were worked out: before the first stage none, then each bundle where it lies, at its value, and
-/// the figures of each stage.
+/// The laws of what is tabulated, for its callers. At a state the bundles stand in the order of ward and list, and the figures in
+/// that of ward, stage and candidate, none twice. Those of a ward are what its election has. Where a ward's count has a stage,
+/// its count is read back from them. Of an election worked by hand they are those that were worked out. Before the first stage
+/// there are none; then there is each bundle where it lies, at its value, and the figures of each stage.
 pub fn tabulations_are_ordered()
     ensures rise { (s : OfficeState) → IsState s → TabulationRises (tabulation_of s) }
     ensures bundles { (s : OfficeState) (w : WardEntry) → IsState s → ward_at s w.number ≡ Some w

@@ -17,9 +17,8 @@ use crate::wards::is_in_phase;
 use paper::Columns;
 use std::alloc::{AllocError, Global};
 
-/// A doubtful ballot paper as the returning officer judged it: of which batch (1 to 9999), its number
-/// there (1 to 500), and code 0 with the marks that it was accepted with, or 3 to 5, for which it was
-/// rejected, without marks.
+/// A doubtful ballot paper as the returning officer judged it: its batch (1 to 9999), its number there (1 to 500), and the verdict.
+/// That is code 0 with the marks that the paper was accepted with; or the code 3 to 5 for which it was rejected, without marks.
 #[derive(PartialEq, Drop)]
 pub struct JudgedPaper {
     pub batch: u32,

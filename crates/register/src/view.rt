@@ -15,14 +15,12 @@ use count::Due;
 use paper::Columns;
 use std::alloc::Global;
 
-/// What any command may need of the state, each there only where the command needs it and the state has
-/// it: the ward that it names, or that the batch which it names belongs to; the candidate that it
-/// names; the ward's candidates in the order of their numbers; the batch that it names, and its third
-/// clerk; the actor's own keying of it; the keyings of its current round by its two or three clerks, in
-/// the order of the clerks' numbers, each empty where it isn't there; the verdict on the paper that it
-/// names; the poll of the ward; what is due in the ward's count by the recorded lots, and who is
-/// elected after the stages done; and the count that a stage is to be added to. A keying is in the
-/// order of its papers.
+/// What any command may need of the state, each there only where the command needs it and the state has it. Of nominations: the ward
+/// that the command names, or to which the batch belongs that it names; the candidate that it names; and the ward's candidates in the
+/// order of their numbers. Of papers: the batch that the command names, and its third clerk; the actor's own keying of it; the keyings
+/// of its current round by its two or three clerks; and the verdict on the paper that the command names. Of the count: the poll of the
+/// ward; what is due by the recorded lots; who is elected after the stages done; and the count that a stage is to be added to. The
+/// keyings stand in the order of the clerks' numbers, each empty where it isn't there. A keying is in the order of its papers.
 #[derive(Drop)]
 pub struct Part {
     pub ward: Option<Ward>,
@@ -65,8 +63,8 @@ impl Part {
     }
 }
 
-/// What the machine sees for one request: who sends it under which id, the receipt of that actor and id
-/// if there is one, and the part of the state that the command needs.
+/// What the machine sees for one request: who sends it under which id; the receipt of that actor and id, if there is one; and the
+/// part of the state that the command needs.
 #[derive(Drop)]
 pub struct View<'a> {
     pub actor: u32,

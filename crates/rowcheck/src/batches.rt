@@ -71,9 +71,9 @@ fn are_set_right(rows: &Rows, thirds: &[ThirdClerk]) -> bool
     thirds.iter().all(|third| is_set_right(rows, third))
 }
 
-/// Whether batches belong to contested wards past their nominations, and their two clerks differ; and third
-/// clerks belong to batches that are there, and are neither of their two. The third condition on the rows
-/// of an office, whose tables stand in the order of their keys, no key twice.
+/// Whether batches belong to contested wards past their nominations, and their two clerks differ; and whether third clerks belong
+/// to batches that are there, and are neither of the two clerks. This is the third condition on the rows of an office, whose
+/// tables stand in the order of their keys, no key twice.
 pub fn all_given_out(rows: &Rows) -> bool
     requires { MapsRise (state_of rows.now) }
     ensures { result ≡ all_given_out (state_of rows.now) }

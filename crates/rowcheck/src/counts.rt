@@ -1,7 +1,7 @@
 //! The counts of wards: the stages that are done, the lots that are drawn, and what is tabulated of them.
 //!
-//! The stages of a count and what is due before each follow from its papers and lots, so they are counted
-//! again, once, and what the rows say of them is compared; bundles and figures are kept for `is_tabulated`.
+//! The stages of a count, and what is due before each, follow from its papers and lots. So they are counted again, once, and
+//! compared with what the rows say of them. Bundles and figures are kept for `is_tabulated`.
 
 ghost use Rattle.std.specs.Prelude.{◌≡◌, ◌≤◌, ◌<◌, true, [], map, slice_get, option_copied, is_some, IfOk, IfSome, OnOk};
 ghost use Rattle.std.specs.List.{list_all, flat_map, AllByRecursion};
@@ -82,9 +82,8 @@ fn is_declared(phase: Phase) -> bool
     phase.number() == Phase::Declared.number()
 }
 
-/// Counts in a new book the stages done of a ward, or those that there are, and tells whether they are as
-/// many as are done, each lot was needed, and in a declared ward nothing is due any more. An error is want of
-/// memory.
+/// Counts in a new book the stages done of a ward, or those that there are. It answers whether they are as many as are done, each
+/// lot was needed, and in a declared ward nothing is due any more. An error is want of memory.
 fn count_done(
     alloc: Global,
     ward: &Ward,
@@ -120,7 +119,7 @@ fn add_stages(
     if ward.done == 0 {
         return Ok(());
     }
-    // its clauses tell the proof that each list stands once, so that the book's bundles are these
+    // by its clauses the proof knows that each list stands once, so that the book's bundles are these
     let _ = bundles.len();
     tabulation.add(
         alloc,
@@ -132,9 +131,8 @@ fn add_stages(
     )
 }
 
-/// Adds what there is of the count of a ward to what is tabulated, and tells whether it is right: whether it
-/// has the stages done, each lot was needed, and in a declared ward nothing is due any more. An error is want
-/// of memory.
+/// Adds what there is of the count of a ward to what is tabulated, and answers whether it is right. It is right where it has the
+/// stages done, each lot was needed, and in a declared ward nothing is due any more. An error is want of memory.
 fn add_from_ballots(
     alloc: Global,
     ward: &Ward,
@@ -190,8 +188,8 @@ fn is_uncounted(rows: &Rows, ward: &Ward) -> bool
     (ward.done == 0) & undrawn
 }
 
-/// Adds what there is of a ward's count to what is tabulated, and tells whether what is done of it is right,
-/// and nothing is done where there is no count. An error is want of memory.
+/// Adds what there is of a ward's count to what is tabulated. It answers whether what is done of the count is right, and nothing
+/// is done where there is no count. An error is want of memory.
 fn add_count(
     alloc: Global,
     rows: &Rows,
@@ -240,11 +238,11 @@ fn are_of_wards(rows: &Rows, lots: &[DrawnLot]) -> bool
     lots.iter().all(|lot| has_ward(rows, lot.ward))
 }
 
-/// Whether lots belong to wards that are there; and in each contested ward that has been sealed the count
-/// of its papers by its lots has the stages that are done, each lot was or is needed, for a stage up to the
-/// next one and one of those who were tied, and the count is finished if the ward is declared; and in each
-/// other ward no stage is done and no lot is there. The seventh condition on the rows of an office, whose
-/// tables stand in the order of their keys, no key twice, and meet the first and the fourth.
+/// Whether lots belong to wards that are there, and the counts are as the rows say. In each contested ward that was sealed the
+/// count of its papers by its lots has the stages that are done. Each of its lots was or is needed, for a stage up to the next
+/// one, and names one of those who were tied. The count is finished if the ward is declared. In each other ward no stage is done
+/// and no lot is there. This is the seventh condition on the rows of an office, whose tables stand in the order of their keys, no
+/// key twice, and meet the first and the fourth.
 ///
 /// Where it is met, the answer is what is tabulated of these counts, which `is_tabulated` compares; else there is none.
 /// An error is want of memory.

@@ -163,9 +163,9 @@ fn are_rightly_keyed(rows: &Rows, batches: &[Batch]) -> bool
     batches.iter().all(|batch| is_rightly_keyed(rows, batch))
 }
 
-/// Whether papers are keyed of batches that are there, in rounds and by clerks of theirs, with marks that
-/// are read; and each keying is whole, and those of an earlier round differ. The fourth condition on the
-/// rows of an office, whose tables stand in the order of their keys, no key twice.
+/// Whether papers are keyed of batches that are there, in rounds and by clerks of theirs, with marks that are read. Each keying
+/// is whole then, and those of an earlier round differ. This is the fourth condition on the rows of an office, whose tables stand
+/// in the order of their keys, no key twice.
 pub fn all_keyed(rows: &Rows) -> bool
     requires { MapsRise (state_of rows.now) }
     ensures { result ≡ all_keyed (state_of rows.now) }

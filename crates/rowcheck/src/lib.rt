@@ -3,15 +3,13 @@
 //! When an office is opened, its tables are read into `Rows`, and each call here answers yes exactly
 //! where the rows meet one condition. An office opens only where all of them are met.
 //!
-//! A condition is a definition on the state in `register`'s `specs/Items.antt`, as `all_in_range`; here a
-//! function of the same name, as `all_in_range(&rows)`, answers it for `state_of rows`. `all_counted` counts
-//! again, once, what is done of each count, and answers what is tabulated of the counts, where they are right;
-//! an error is want of memory. With that `is_tabulated` compares the rows of bundles and figures, one by one:
-//! they are the tabulation of the state (`IsTabulationOf`, in `specs/Tabulated.antt`). No list is searched for
-//! each row of another: lists in the order of their keys are walked side by side, or the rows of a key, which
-//! stand side by side, are found by bisection (`runs`, `finding`). The batches alone are gone through for each
-//! ward in count, of which there are 99 at most, and the papers of one batch, 500 at most, for each verdict on
-//! one of them.
+//! A condition is a definition on the state in `register`'s `specs/Items.antt`, as `all_in_range`. Here a function of the same
+//! name, as `all_in_range(&rows)`, answers it for `state_of rows`. `all_counted` counts again, once, what is done of each count.
+//! Where the counts are right, it answers what is tabulated of them; an error is want of memory. With that `is_tabulated` compares
+//! the rows of bundles and figures, one by one: they are the tabulation of the state (`IsTabulationOf`, in `specs/Tabulated.antt`).
+//! No list is searched for each row of another. Lists in the order of their keys are walked side by side. Or the rows of a key,
+//! which stand side by side, are found by bisection (`runs`, `finding`). The batches alone are gone through for each ward in count,
+//! of which there are 99 at most; and the papers of one batch, 500 at most, for each verdict on one of them.
 //!
 //! `are_same` compares the rows of two offices, and `finding` has the rows of a key for whoever goes through an office.
 #![tactic(auto)]

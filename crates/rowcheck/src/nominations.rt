@@ -59,9 +59,9 @@ fn are_nominated(wards: &[Ward], candidates: &[Candidate]) -> bool
     left.is_empty()
 }
 
-/// Whether candidates belong to wards that are there, and each ward has the candidates that its phase asks
-/// for: more than seats in keying, one at least once it is sealed. The second condition on the rows of an
-/// office, whose wards and candidates stand in the order of their keys, no key twice.
+/// Whether candidates belong to wards that are there, and each ward has the candidates that its phase asks for: more than seats
+/// in keying, one at least once it is sealed. This is the second condition on the rows of an office, whose wards and candidates
+/// stand in the order of their keys, no key twice.
 pub fn all_nominated(rows: &Rows) -> bool
     requires { MapsRise (state_of rows.now) }
     ensures { result ≡ all_nominated (state_of rows.now) }

@@ -86,9 +86,8 @@ fn are_agreed(rows: &Rows, wards: &[Ward]) -> bool
     wards.iter().all(|ward| is_agreed(rows, ward))
 }
 
-/// Whether in each contested ward that has been sealed all batches are taken, and all their doubtful
-/// papers have verdicts. The sixth condition on the rows of an office, whose tables stand in the order of
-/// their keys, no key twice.
+/// Whether in each contested ward that was sealed all batches are taken, and all their doubtful papers have verdicts. This is the
+/// sixth condition on the rows of an office, whose tables stand in the order of their keys, no key twice.
 pub fn all_agreed(rows: &Rows) -> bool
     requires { MapsRise (state_of rows.now) }
     ensures { result ≡ all_agreed (state_of rows.now) }

@@ -1,4 +1,4 @@
-//! What receipts are about: a word, which tells the form, and numbers behind it.
+//! What receipts are about: a word, which names the form, and numbers behind it.
 
 ghost use Rattle.std.specs.Prelude.{◌≡◌};
 ghost use Rattle.register.specs.Subjects.{is_office_subject, is_clerk_subject, is_about_ward, is_about_candidate, is_about_lot, is_about_batch, is_about_paper, is_about_keying, is_of_office};

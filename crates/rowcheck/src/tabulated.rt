@@ -7,9 +7,8 @@ ghost use Rattle.rowcheck.specs.States.{state_of, tabulated};
 use crate::rows::Rows;
 use register::Tabulation;
 
-/// Whether the rows of what is tabulated are, one by one and in this order, what was counted. Where this is
-/// the tabulation of the state that the rows stand for, as `all_counted` answers it of the same rows, that is the
-/// eighth condition on the rows of an office.
+/// Whether the rows of what is tabulated are, one by one and in this order, what was counted. That is the eighth condition on the rows of an
+/// office, where what was counted is the tabulation of the state that the rows stand for. `all_counted` answers that tabulation of the same rows.
 pub fn is_tabulated(rows: &Rows, counted: &Tabulation) -> bool
     ensures compares { IsTrue result ↔ (tabulated rows.now ≡ tabulation_entries counted.now) }
     ensures judges { tabulation_entries counted.now ≡ tabulation_of (state_of rows.now) → IsTrue result ↔ IsTabulationOf (tabulated rows.now) (state_of rows.now) }

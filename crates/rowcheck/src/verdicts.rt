@@ -76,8 +76,8 @@ fn are_judged(rows: &Rows, batches: &[Batch]) -> bool
     batches.iter().all(|batch| is_judged(rows, batch))
 }
 
-/// Whether verdicts belong to batches that are there, and are on doubtful papers of taken ones. The fifth
-/// condition on the rows of an office, whose tables stand in the order of their keys, no key twice.
+/// Whether verdicts belong to batches that are there, and are on doubtful papers of taken ones. This is the fifth condition on
+/// the rows of an office, whose tables stand in the order of their keys, no key twice.
 pub fn all_judged(rows: &Rows) -> bool
     requires { MapsRise (state_of rows.now) }
     ensures { result ≡ all_judged (state_of rows.now) }

@@ -1,5 +1,5 @@
--- The ballots of a ward, as a file that counting programs share (BLT): the highest number of a candidate and the seats; the numbers at
--- which no candidate stands, each behind a minus; a line a bundle of equal valid papers; the names; and as comments what such a file has no place for.
+-- The ballots of a ward, as a file that counting programs share (BLT). It has the highest number of a candidate and the seats; the numbers at which no
+-- candidate stands, each behind a minus; a line a bundle of equal valid papers; and the names. What such a file has no place for stands in it as comments.
 use Rattle.std.specs.Prelude.{ℕ, ◌-◌, Bool, true, false, List, [], ◌∷◌, ◌++◌, length, slice_get, codes, decimal, Option, Some, None, is_none}
 use Rattle.std.specs.List.{flat_map, filter, range_with_len}
 use Rattle.count.specs.Bundles.{Bundle}

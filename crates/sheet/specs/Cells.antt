@@ -1,4 +1,4 @@
--- What a table on a page tells of a stage.
+-- What a table on a page shows of a stage.
 use Rattle.std.specs.Prelude.{ℕ, ◌+◌, ◌-◌, ◌==◌, nat_lt, if◌then◌else◌, List, [], ◌∷◌, ◌++◌, length, take, drop, slice_get, codes, decimal, Option, Some, None}
 use Rattle.votes.specs.Text.{votes_text}
 use Rattle.count.specs.Law.Contest.{votes_at}
@@ -65,7 +65,7 @@ votes_cell before now stands =
 abbrev pub sum_cell : ℕ → List ℕ
 sum_cell units = line (codes "<td>" ∷ votes_text units ∷ codes "</td>" ∷ [])
 
--- what a cell tells of a stage after earlier ones
+-- what a cell shows of a stage after earlier ones
 abbrev pub cell_text : Cell → List Stage → Stage → List ℕ
 cell_text (Head ward) earlier stage = head_cell (shown ward.now).candidates earlier stage
 cell_text (Candidate c) earlier stage = votes_cell (votes_before earlier stage c) (votes_at stage c) (standing (fate_at earlier stage c))

@@ -1,4 +1,4 @@
--- What its texts tell of a ward.
+-- What its texts show of a ward.
 use Rattle.std.specs.Prelude.{ℕ, List, map, string_bytes, String, Option}
 use Rattle.std.specs.declared.alloc.Global.{Global}
 use Rattle.sheet.specs.declared.ward.Ward.{Ward}

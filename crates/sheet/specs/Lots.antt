@@ -18,7 +18,7 @@ are_equal_at stages c d = list_all (λ s. votes_at s c == votes_at s d) stages
 abbrev pub is_tied : List Stage → ℕ → ℕ → Bool
 is_tied earlier c d = not (is_excluded_at earlier d) && are_equal_at earlier c d
 
--- one of them has a lower number than another one, and one has a higher number; whatever names stand beside their numbers
+-- some candidate who was tied with `c` has a lower number than `d`; and some such candidate a higher one. Whatever names stand beside their numbers.
 abbrev pub has_tied_below : {N : Type 0} → List (ℕ × N) → List Stage → ℕ → ℕ → Bool
 has_tied_below candidates earlier c d = list_any (λ candidate. nat_lt candidate.0 d && is_tied earlier c candidate.0) candidates
 

@@ -16,7 +16,7 @@ use Rattle.sheet.specs.Stages.{fate_at}
 use Rattle.sheet.specs.declared.stage.Fate.{Fate}
 use Rattle.sheet.specs.declared.stage.Fate.TheVariants.{NewlyElected, Elected, NewlyExcluded, Excluded, Continuing}
 
--- each cell stands in quotes, so that a cell is one whatever a spreadsheet takes for the end of a cell
+-- each cell stands in quotes, so that it stays one cell, whatever a spreadsheet takes for the end of a cell
 abbrev pub writer : WriterBuilder
 writer = record default_writer { style = style.Always }
 

@@ -226,8 +226,8 @@ fn write_papers<W: Sink>(sink: &mut W, ward: &Ward, bundles: &Bundles) -> Result
     write_line(sink, &[Piece::Text("0")])
 }
 
-/// Writes the ballots of a ward, as a file that counting programs share: its bundles of equal valid papers, of
-/// an uncontested ward none, and the lots that were recorded, a stage and a candidate each.
+/// Writes the ballots of a ward, as a file that counting programs share: its bundles of equal valid papers, and the lots that
+/// were recorded, a stage and a candidate each. An uncontested ward has no bundles.
 ///
 /// Takes no memory. `Broken` comes only from the sink, which has then taken a beginning of the file and
 /// counts one failure more.

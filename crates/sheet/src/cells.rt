@@ -1,4 +1,4 @@
-//! What a table on a page tells of a stage.
+//! What a table on a page shows of a stage.
 
 ghost use Rattle.std.specs.Prelude.{◌≡◌, ◌-◌, ◌^◌, ◌<◌, map};
 ghost use Rattle.sheet.specs.Cells.{apart as apart_of, cell_text, column_head, from_place, name_in as name_with, row, sign as sign_of, standing as standing_of, sum_cell, votes_before as before_of, votes_cell};
@@ -13,7 +13,7 @@ use crate::ward::Ward;
 use count::{Action, Stage};
 use votes::{Broken, Sink, Votes};
 
-/// A cell of a row, which tells something of a stage.
+/// A cell of a row, which shows something of a stage.
 #[derive(Clone, Copy)]
 pub enum Cell<'a> {
     /// The head of a column: the stage, and what is done at it, with which candidate of the ward.
@@ -136,7 +136,7 @@ fn write_sum_cell<W: Sink>(sink: &mut W, sum: Votes) -> Result<(), Broken>
     write_line(sink, &pieces)
 }
 
-/// Writes what a cell tells of a stage after earlier ones.
+/// Writes what a cell shows of a stage after earlier ones.
 fn write_cell<W: Sink>(
     sink: &mut W,
     cell: &Cell,

@@ -169,7 +169,7 @@ fn ending_stage(ending: Ending) -> u64
     }
 }
 
-/// A candidate's row, by what it tells: his votes at the first stage, the most that he had, and how his way ends.
+/// What a candidate's row shows: his votes at the first stage, the most that he had, and how his way ends.
 #[derive(Clone, Copy)]
 struct Told {
     scale: Scale,

@@ -23,8 +23,8 @@ pub enum Standing {
     Declared,
 }
 
-/// A ward as the page of all wards tells it: its number and name, its seats, how it stands, and the number and name of each
-/// who is elected, once that is declared.
+/// A ward as the page of all wards shows it: its number and name, its seats, how it
+/// stands, and, once that is declared, the number and name of each who is elected.
 #[derive(Drop)]
 pub struct ListedWard {
     pub number: u32,

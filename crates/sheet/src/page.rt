@@ -249,9 +249,9 @@ fn write_foot<W: Sink>(
     write_text(sink, "</body>\n</html>\n")
 }
 
-/// Writes the page of a ward, one file of HTML: its title, who is elected, its papers, the lots that were drawn (a stage
-/// and a candidate each), its stages as a chart and as tables, and, where it is declared, lines to sign on. An empty title
-/// is left out. Of an uncontested ward no stage and no lot is read.
+/// Writes the page of a ward, one file of HTML. It has its title, who is elected, its papers, the lots that were drawn (a stage
+/// and a candidate each), and its stages as a chart and as tables; and, where the ward is declared, lines to sign on. An empty
+/// title is left out. Of an uncontested ward no stage and no lot is read.
 ///
 /// Takes no memory. `Broken` comes only from the sink, which has then taken a beginning of the page and
 /// counts one failure more.

@@ -29,7 +29,7 @@ fn standing_word(fate: Fate) -> &'static str
     }
 }
 
-/// What a row of the table tells.
+/// What a row of the table shows.
 #[derive(Clone, Copy)]
 enum Line {
     /// The votes of the candidate of a number.
@@ -269,9 +269,8 @@ fn push_candidate_rows(
     Ok(())
 }
 
-/// The stages of a ward as a table for a spreadsheet, in comma-separated values: a row a candidate, each with his
-/// votes at each stage, what he gained and lost at it, and how he then stood; and below them the running sums. Of an
-/// uncontested ward no stage is told.
+/// The stages of a ward as a table for a spreadsheet, in comma-separated values. It has a row a candidate, each with his votes at each
+/// stage, what he gained and lost at it, and how he then stood; and below them the running sums. Of an uncontested ward it shows no stage.
 ///
 /// The only error is want of memory.
 pub fn spreadsheet_text(alloc: Global, ward: &Ward, stages: &[Stage]) -> Result<String, AllocError>

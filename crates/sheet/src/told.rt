@@ -1,4 +1,4 @@
-//! What is told of each candidate of a ward.
+//! What is shown of each candidate of a ward.
 
 ghost use Rattle.std.specs.Prelude.{ℕ, List, ◌-◌, ◌^◌, ◌<◌, string_bytes};
 ghost use Rattle.std.specs.List.{flat_map};
@@ -8,7 +8,7 @@ ghost use Rattle.sheet.specs.Writing.{Writes};
 use crate::ward::Ward;
 use votes::{Broken, Sink};
 
-/// Something that is told of a candidate, in the same way of each.
+/// Something that is shown of a candidate, in the same way of each.
 pub trait OfCandidate {
     // Its text, by the number and the name.
     ghost text: { Self → ℕ → List ℕ → List ℕ };

@@ -1,4 +1,4 @@
-//! A ward as its texts tell it.
+//! A ward as its texts show it.
 
 /// The papers of a contested ward.
 #[derive(Clone, Copy, PartialEq, Eq)]

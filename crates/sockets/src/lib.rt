@@ -1,6 +1,6 @@
-//! The sockets of this machine as lines, and what tells of them.
+//! The sockets of this machine as lines, and what watches them.
 //!
-//! No clause can say what a socket gives and takes, nor what the system tells of it: a [`Socket`](socket) tells none of its
+//! No clause can say what a socket gives and takes, nor what the system says of it: a [`Socket`](socket) says nothing of its
 //! bytes, and [`Watch`](watch) promises nothing. A client who can't go on is tried in vain.
 #![tactic(auto)]
 

@@ -1,4 +1,4 @@
-//! What tells which sockets may go on, and whether somebody waits at a door.
+//! What says which sockets may go on, and whether somebody waits at a door.
 
 ghost use Rattle.std.specs.Prelude.{◌≡◌, ◌+◌, ◌<◌, IfNone, IfOk, IfSome, None};
 ghost use Rattle.gathering.specs.declared.client.Door.{Door};
@@ -16,7 +16,7 @@ use std::net::Net;
 use std::time::Duration;
 use votes::Broken;
 
-/// How many events are told of at once.
+/// How many events the system may name at once.
 const EVENTS: usize = 1024;
 
 /// The tokens of the doors. Those of clients and orders stand behind them.

@@ -33,7 +33,7 @@ holdings_of s = record {
 abbrev pub LeavesNoneOrAll : OfficeState → State → State → Type 0
 LeavesNoneOrAll s old new = (trees : Trees) → new.may_leave trees → old.may_leave trees ⊎ Stores (tables_of s) trees
 
--- why no copy is told: what an opening tells at this database, and why, where that is a fault of its store; or the database holds a state, and
+-- why there is no copy: what an opening reports at this database, and why, where that is a fault of its store; or the database holds a state, and
 -- memory was wanting for the copy, or its store failed
 abbrev pub IsToldInCopying : Database → State → State → CopyFault → Type 0
 IsToldInCopying db old new (Office fault) = IsToldBy db fault × FailsToList db old new fault
@@ -52,8 +52,8 @@ IsUnbegun (Office fault) = ⊤
 IsUnbegun Taken = ⊤
 IsUnbegun (Copy fault) = ⊥
 
--- What comes of a copy of an office that keeps a state: the copy keeps that very state, or a fault is told, and a stop leaves of the copy what it could
--- leave before, or the whole of it.
+-- What comes of a copy of an office that keeps a state. The copy keeps that very state; or a fault
+-- is reported, and a stop leaves of the copy what it could leave before, or the whole of it.
 pub record CopiesAt (s : OfficeState) (blank full : State) (result : Result Holdings CopyFault) : Type 0 where
   pub same : IfOk result (λ h. (h ≡ holdings_of s) × (HasCleanDisk full → IsBlank blank → IsAt s full))
   pub stops : HasCleanDisk full → IsBlank blank → LeavesNoneOrAll s blank full
@@ -76,7 +76,7 @@ module _ {S T : Type 0} (store : Ghosts S) (other : Ghosts T) (conn conn_after :
   full = state other copy_after
 
   -- What comes of a copy of an office that is found by its rows alone (`copied`, `told`), at a state (`same`, `stops`, `cause`), or kept by an office that
-  -- was open (`kept`); what the copy holds whatever it was made of (`made`, `whole`); and where nothing is written.
+  -- was open (`kept`). It says too what the copy holds whatever it was made of (`made`, `whole`), and where nothing is written.
   pub record CopiesTo : Type 0 where
     pub copied : HasCleanDisk new → (db : Database) → IsOurs db.schema → RestsAt db old
         → IfOk result (λ h. (s : OfficeState) × HoldsState db s × (h ≡ holdings_of s) × (HasCleanDisk full → IsBlank blank → IsAt s full))

@@ -62,7 +62,7 @@ election_in s found = election_of s (ward_entry found.ward)
 abbrev pub IsThere : OfficeState → CountedWard → Type 0
 IsThere s found = (ward_at s found.ward.number ≡ Some (ward_entry found.ward)) × (map candidate_entry found.candidates.items ≡ candidates_of s found.ward.number)
 
--- the ward of this number was found with its candidates, if it is there, and none of its count
+-- the ward of this number was found with its candidates, if it is there; and nothing of its count was found
 abbrev pub IsContestAt : OfficeState → ℕ → Option CountedWard → Type 0
 IsContestAt s ward None = ward_at s ward ≡ None
 IsContestAt s ward (Some found) = (ward_at s ward ≡ Some (ward_entry found.ward)) × IsThere s found × (found.count ≡ None)

@@ -25,8 +25,8 @@ use Rattle.store.specs.EntryRows.{row_of_batch, row_of_keyed, row_of_judged}
 use Rattle.store.specs.Offices.{tables_of, tables_with}
 use Rattle.store.specs.Openings.{has_entries}
 
--- A listing of rows, at whatever database of this kind the connection rests: what it tells of that, which fault the rows give, and why it fails.
--- It changes nothing, and the connection is open where it tells something.
+-- A listing of rows, at whatever database of this kind the connection rests: what it finds there, which fault the rows give, and why it fails. It
+-- changes nothing, and the connection is open where it finds something.
 pub record ListsAt {X : Type 0} (old new : State) (result : Result X Fault) (IsKind : Database → Type 0) (IsTold : Database → X → Type 0) (Gives : Database → Fault → Type 0) : Type 0 where
   pub lists : HasCleanDisk new → (db : Database) → IsKind db → RestsAt db old → IfOk result (IsTold db)
   pub told : HasCleanDisk new → (db : Database) → IsKind db → RestsAt db old → IfErr result (Gives db)

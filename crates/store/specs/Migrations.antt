@@ -98,7 +98,7 @@ pub record IsBeyondMigration (db : Database) : Type 0 where
   pub no_state : HoldsNoState db
   pub no_older : HoldsNoOlder db
 
--- the database is one at which a migration tells this fault; want of memory and a failing store come at any
+-- the database is one at which a migration reports this fault; want of memory and a failing store come at any
 abbrev pub IsToldInMigration : Database → Fault → Type 0
 IsToldInMigration db Memory = ⊤
 IsToldInMigration db Store = ⊤
@@ -108,14 +108,14 @@ IsToldInMigration db WrongDatabase = HasNoOffice db
 IsToldInMigration db NewerSchema = IsNewer db
 IsToldInMigration db OlderSchema = ⊥
 
--- why a migration came to nothing, where that is told as a fault of the store: all rows couldn't be listed; or they are the older tables of a
+-- why a migration came to nothing, where that is reported as a fault of the store: all rows couldn't be listed; or they are the older tables of a
 -- state, and of a write that fails no cause is stated
 abbrev pub FailsToMigrate : Database → State → State → Fault → Type 0
 FailsToMigrate db old new f = FailsToList db old new f ⊎ ((form : OlderForm) × (s : OfficeState) × HoldsOlder form db s)
 
 -- ---- the parts of a migration
 
--- what was read is beside maps that have no third clerk; and of a form without counts nothing tabulated
+-- the maps that were read have no third clerk; and in a form without counts nothing was tabulated
 pub record IsBare (form : OlderForm) (s : OfficeState) (t : TabulationEntries) : Type 0 where
   pub no_thirds : s.thirds ≡ []
   pub no_counts : form ≡ WithoutCounts → t ≡ no_tabulation
@@ -157,7 +157,7 @@ module _ {S : Type 0} (store : Ghosts S) (before after : Held S) (result : Resul
   new = state store after
 
   -- What a migration comes to over an older office, over one of this version, and over any database that may hold either; and what the rows of older
-  -- offices tell. It is said of what each office holds whether it is found at a state (`moved`, `stops`, `already`) or by its rows alone.
+  -- offices determine. For what each office holds it says whether the office is found at a state (`moved`, `stops`, `already`) or by its rows alone.
   pub record Migrates : Type 0 where
     pub moved : HasCleanDisk new → (form : OlderForm) (s : OfficeState) → RestsOlder form s old → IfOk result (λ m. (m ≡ Done) × IsAt s new)
     pub stops : HasCleanDisk new → (form : OlderForm) (s : OfficeState) → RestsOlder form s old → LeavesOldOrNew form s old new

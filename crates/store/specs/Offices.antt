@@ -36,7 +36,7 @@ tables_with s t =
     ∷ []
     )
 
--- the rows that stand for a state, which tells what is tabulated of its counts
+-- the rows that stand for a state, from which follows what is tabulated of its counts
 unfoldable pub tables_of : OfficeState → Contents
 tables_of s = tables_with s (tabulation_of s)
 
@@ -76,8 +76,8 @@ pub record Wears (old new : State) : Type 0 where
   pub counts : old.faults ≤ new.faults
   pub closes : HasCleanDisk new → IsTrue old.is_open → IsTrue new.is_open ⊎ MoreFaults old.faults new.faults
 
--- A transaction that writes an office: where its connection is as it takes it, the connection rests at these tables once it is committed, and a stop leaves what it could leave before,
--- or them. It ends the transaction, and fails only where memory is wanting or the store failed.
+-- A transaction that writes an office. Where its connection is as it takes it, the connection rests at these tables once it is committed, and a stop leaves what it could
+-- leave before, or them. It ends the transaction, and fails only where memory is wanting or the store failed.
 pub record Commits {X V : Type 0} (old new : State) (result : Result V Fault) (Takes : X → State → Type 0) (tables : X → Contents) : Type 0 where
   pub done : HasCleanDisk new → (x : X) → Takes x old → OnOk result (Rests (tables x) new)
   pub survives : (x : X) → Takes x old → Survives old new (Stores (tables x))

@@ -46,7 +46,7 @@ pub record IsDamaged (db : Database) : Type 0 where
   pub not_older : ¬ IsOlder db
   pub no_state : HoldsNoState db
 
--- the database is one at which an opening tells this fault; want of memory and a failing store come at any
+-- the database is one at which an opening reports this fault; want of memory and a failing store come at any
 abbrev pub IsToldBy : Database → Fault → Type 0
 IsToldBy db Memory = ⊤
 IsToldBy db Store = ⊤
@@ -72,7 +72,7 @@ pub record IsBlank (st : State) : Type 0 where
 
 -- ---- the parts of an opening
 
--- the fault that a table's rows give: `Damaged` is told only of rows of no state
+-- the fault that a table's rows give: `Damaged` comes only of rows of no state
 abbrev pub TellsNoState : Database → Fault → Type 0
 TellsNoState db Memory = ⊤
 TellsNoState db Store = ⊤

@@ -1,5 +1,4 @@
--- What the office is told of how all stands: its wards, the batches of a ward, their papers as they count, the doubtful ones, where a batch
--- differs, and what was kept.
+-- What the office alone reads of how all stands: its wards, the batches of a ward, their papers as they count, the doubtful ones, where a batch differs, and what was kept.
 use Rattle.std.specs.Prelude.{ℕ, Bool, not, ◌==◌, ◌&&◌, ◌++◌, if◌then◌else◌, List, [], ◌∷◌, map, find, codes, Option, Some, None, option_map}
 use Rattle.std.specs.List.{filter, flat_map, list_any}
 use Rattle.std.specs.Fmt.{decimal}
@@ -71,8 +70,8 @@ candidate_lines columns = flat_map (λ c. in_a_line (decimal c)) columns
 abbrev pub paper_lines : List KeyedEntry → List ℕ
 paper_lines papers = flat_map (λ (k : KeyedEntry). in_a_line k.marks) papers
 
--- The papers of a batch that is taken, as one text: the numbers of the ward's candidates, a line each, an empty line, and the marks of each
--- paper in a line of its own. Neither a number nor marks hold a line end, so texts are alike where the candidates are and each paper is.
+-- The papers of a batch that is taken, as one text: the numbers of the ward's candidates, a line each; an empty line; and the marks of each paper in
+-- a line of its own. Neither a number nor marks hold a line end. So texts are alike where the candidates are and each paper is.
 unfoldable pub pile_text : List ℕ → List KeyedEntry → List ℕ
 pile_text columns papers = candidate_lines columns ++ (codes "\n" ++ paper_lines papers)
 
@@ -200,7 +199,7 @@ is_apart others k = list_any (λ keying. not (has_alike k keying)) others
 abbrev pub apart_among : List (List KeyedEntry) → List KeyedEntry → List ℕ
 apart_among others keying = map (λ (k : KeyedEntry). k.paper) (filter (is_apart others) keying)
 
--- the numbers of the papers on which some keyings of a round differ: those of the first that another one has with other marks
+-- the numbers of the papers on which some keyings of a round differ: those that the first keying has with other marks than another one
 abbrev pub papers_apart : List (List KeyedEntry) → List ℕ
 papers_apart [] = []
 papers_apart (keying ∷ others) = apart_among others keying

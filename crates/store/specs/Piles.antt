@@ -16,11 +16,11 @@ pub record KeyingsAre (s : OfficeState) (b : BatchEntry) (keyings : Keyings) : T
   pub third_is : option_map third_entry keyings.third_clerk ≡ third_at s b.number
   pub they_are : keyings_by keyings ≡ keyings_now s b
 
--- what is told of a batch by its clerks, its keyings and the verdicts on its papers: all but its twin
+-- how a batch stands by its clerks, its keyings and the verdicts on its papers: all but its twin
 abbrev pub view_by : BatchEntry → List (ℕ × Bool) → List (List KeyedEntry) → List JudgedEntry → BatchView
 view_by b clerks keyings verdicts = record { batch = b; clerks = clerks; standing = standing_by keyings; doubtful_open = length (filter (is_open verdicts) (agreed keyings)); twin = None }
 
--- a batch's number, its papers as one text if it is taken, and what is told of it but its twin if it is of the ward that is asked for
+-- a batch's number; its papers as one text, if it is taken; and how it stands but for its twin, if it is of the ward that is asked for
 pub record ReadView : Type 0 where
   pub number : ℕ
   pub pile : Option (List ℕ)
@@ -53,7 +53,7 @@ abbrev pub twin_under : (List ℕ → List ℕ) → ℕ → Option (List ℕ) �
 twin_under numbers number None = None
 twin_under numbers number (Some pile) = find (λ n. not (n == number)) (numbers pile)
 
--- what is told of a batch, with its twin
+-- how a batch stands, with its twin
 abbrev pub paired : (List ℕ → List ℕ) → ReadView → Option BatchView
 paired numbers r = option_map (λ (v : BatchView). record v { twin = twin_under numbers r.number r.pile }) r.overview
 

@@ -28,10 +28,10 @@ pub struct Holdings {
     pub receipts: usize,
 }
 
-/// Why no copy is told.
+/// Why no copy is reported.
 #[derive(Clone, Copy)]
 pub enum CopyFault {
-    /// The office tells this when it is opened, or its store is inside a transaction.
+    /// An opening of the office reports this, or the office's store is inside a transaction.
     Office(Fault),
     /// Where the copy was to be made there is a table with the name of one of ours, or a transaction is under way;
     /// nothing was written.
@@ -77,13 +77,12 @@ fn commit_copy<T: Alter>(alloc: Global, copy: &mut Connection<T>, rows: &Rows) -
     Ok(())
 }
 
-/// Makes a copy of the office that a connection's database holds in that of another, with nothing in it, in one
-/// transaction, and tells how much it has. No office is open afterwards.
+/// Makes a copy of the office that a connection's database holds in that of another, with nothing in it, in one transaction, and
+/// gives how much it has. No office is open afterwards.
 ///
-/// The rows are judged first, as `Store::open_from` does, and what it would tell is told as `Office`; the office
-/// is only read, whatever comes of it. `Taken` where there is a table with the name of one of ours already, or
-/// where the other connection is inside a transaction. The other database is not changed then. After `Copy` it
-/// is found as it was, or the whole copy.
+/// The rows are judged first, as `Store::open_from` does. What that would report comes as `Office`; the office is only read,
+/// whatever comes of it. `Taken` where there is a table with the name of one of ours already, or where the other connection is
+/// inside a transaction. The other database is not changed then. After `Copy` it is found as it was, or the whole copy.
 pub fn copy<S: Alter, T: Alter>(
     alloc: Global,
     conn: &mut Connection<S>,

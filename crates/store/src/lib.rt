@@ -1,14 +1,13 @@
 //! The state of an office, kept in the tables of a store of `sqlite`.
 //!
-//! `Store` holds a connection between two transactions. `create` makes the tables of an empty office,
-//! `open_from` finds the state that the rows of a database stand for, `load_view` reads the part of it
-//! that one request needs, `load_status`, `load_next` and `load_columns` how a ward stands, what comes next in it and
-//! what a batch's papers have as columns, `load_work` what a clerk has to key, `load_sheet` and `load_counted` what
-//! the texts of a ward are written from, `load_book` its count as it was kept, `load_wards`, `load_batches`,
-//! `load_doubtful`, `load_batch_papers`, `load_differences` and `load_receipts` how all stands, and `commit` keeps a
-//! change in one transaction, whole or not at all. `migrate` makes of an office that an earlier program made one that opens, and `copy`
-//! makes the same office in another database. `read_office` reads all of one. `Store::copy_to` and `Store::rows` do so of
-//! an office that is open. `Fault` says why a call gave up.
+//! `Store` holds a connection between two transactions. `create` makes the tables of an empty office, and `open_from` finds the state
+//! that the rows of a database stand for. `commit` keeps a change in one transaction, whole or not at all. `load_view` reads the part
+//! of the state that one request needs. `load_status`, `load_next` and `load_columns` read how a ward stands, what comes next in it,
+//! and what a batch's papers have as columns; `load_work` reads what a clerk has to key. `load_sheet` and `load_counted` read what the
+//! texts of a ward are written from, and `load_book` its count as it was kept. `load_wards`, `load_batches`, `load_doubtful`,
+//! `load_batch_papers`, `load_differences` and `load_receipts` read how all stands. `migrate` makes of an office that an earlier
+//! program made one that opens, and `copy` makes the same office in another database. `read_office` reads all of one. `Store::copy_to`
+//! and `Store::rows` do so of an office that is open. `Fault` says why a call gave up.
 //!
 //! ```text
 //! let mut store = Store::open_from(alloc, conn)?;

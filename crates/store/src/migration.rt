@@ -67,7 +67,7 @@ fn migrate_older<S: Alter>(alloc: Global, conn: &mut Connection<S>) -> Result<Mi
     Ok(Migrated::Done)
 }
 
-/// Opens an office as `open_from` does, and migrates it where that tells that an earlier program made it.
+/// Opens an office as `open_from` does, and migrates it where `open_from` finds that an earlier program made it.
 fn open_or_migrate<S: Alter>(alloc: Global, conn: &mut Connection<S>) -> Result<Migrated, Fault>
     requires { conn.old.in_transaction ≡ false }
     ensures opened { HasCleanDisk (state S.Store conn.new) → (db : Database) → IsOurs db.schema → IsOlderSchema db.schema → RestsAt db (state S.Store conn.old)
@@ -94,24 +94,22 @@ fn open_or_migrate<S: Alter>(alloc: Global, conn: &mut Connection<S>) -> Result<
     }
 }
 
-/// Older rows tell their state: equal older tables of one form are those of equal states, so a database
-/// stands for one of them. What a stop left of an older office is found again.
+/// Older rows determine their state: equal older tables of one form are those of equal states, so a database stands for one of
+/// them. What a stop left of an older office is found again.
 fn older_tables_tell_states()
     ensures equal { (form : OlderForm) (s t : OfficeState) → IsOlderState s → IsOlderState t → SameContents (older_tables form s) (older_tables form t) → s ≡ t }
     ensures alone { (db : Database) (form other : OlderForm) (s t : OfficeState) → HoldsOlder form db s → HoldsOlder other db t → (form ≡ other) × (s ≡ t) }
     ensures again { (form : OlderForm) (s : OfficeState) (db : Database) → IsDatabase db → StoresOlder form s db.trees → HoldsOlder form db s }
 {}
 
-/// Makes of an office that a program before this one made one of this program's: in one transaction the tables
-/// that it lacks, the rows of what is tabulated of its counts, and the version. What was accepted stays, under
-/// the receipts that it has. No office is open afterwards.
+/// Makes of an office that a program before this one made one of this program's. In one transaction it makes the tables that the office lacks, the
+/// rows of what is tabulated of its counts, and the version. What was accepted stays, under the receipts that it has. No office is open afterwards.
 ///
-/// The rows are judged first, as `Store::open_from` does, those of an older office by what held of it. At
-/// this program's version that is all, and nothing is changed. `WrongDatabase` and `NewerSchema` as there;
-/// `Damaged` where the rows are the tables of no state, or where a table is missing that should be there, or
-/// one is there that should not; nothing is changed then. After `Memory` and `Store` the older office is
-/// found as it was, or the whole of the new one, and where none was there nothing is changed. `Store` where
-/// the store failed, where rowids aren't the rows' own, or where the connection is inside a transaction.
+/// The rows are judged first, as `Store::open_from` does, those of an older office by what held of it. At this program's version
+/// that is all, and nothing is changed. `WrongDatabase` and `NewerSchema` are those of `open_from`. `Damaged` where the rows are
+/// the tables of no state, where a table is missing that should be there, or where one is there that should not. Nothing is changed
+/// then. After `Memory` and `Store` the older office is found as it was, or the whole of the new one; where none was there nothing
+/// is changed. `Store` where the store failed, where rowids aren't the rows' own, or where the connection is inside a transaction.
 pub fn migrate<S: Alter>(alloc: Global, conn: &mut Connection<S>) -> Result<Migrated, Fault>
     ensures { Migrates S.Store conn.old conn.new result }
 {

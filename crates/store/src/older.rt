@@ -91,7 +91,7 @@ fn are_about_thirds(receipts: &[Receipt]) -> bool
         .any(|receipt| is_about_third(&receipt.subject))
 }
 
-/// What an office of this form lacks of what was counted, if what it has of it is right.
+/// What an office of this form lacks of what was counted, if what it has is right.
 fn lacking(alloc: Global, form: OlderForm, rows: &Rows, counted: Tabulation) -> Option<Addition>
     requires { IsBare form (state_of rows.now) (tabulated rows.now) }
     ensures some { IfSome result (λ a. IsTabulatedAs (state_of rows.now) (tabulation_entries counted)

@@ -67,8 +67,7 @@ fn check_rows(rows: &[Row]) -> Result<(), Fault>
     Ok(())
 }
 
-/// Sees that the office table has the row of this version; its faults are those of the order in
-/// which an opening tells them.
+/// Sees that the office table has the row of this version; its faults come in the order in which an opening reports them.
 fn check_office<S: Alter>(conn: &mut Connection<S>) -> Result<(), Fault>
     requires { conn.old.in_transaction ≡ false }
     ensures holds { HasCleanDisk (state S.Store conn.new) → (db : Database) → BeginsTo Table.Office db.schema → IsDatabase db → RestsAt db (state S.Store conn.old)
@@ -186,12 +185,10 @@ pub(crate) fn checked_rows<S: Alter>(alloc: Global, conn: &mut Connection<S>) ->
     Ok(rows)
 }
 
-/// Sees that the database is the office of a state, by its rows alone, and changes nothing. Told are,
-/// in this order: `WrongDatabase` where there is no office table or no row in it; `Damaged` where
-/// that table is no office's, `OlderSchema` where its version is 1 and `NewerSchema` where it is above
-/// 2, before another table is looked at; then `Damaged` where a table is missing or the rows are those
-/// of no state.
-/// `Memory` may be told at any point, and `Store` where the store failed or rowids aren't the rows' own.
+/// Sees that the database is the office of a state, by its rows alone, and changes nothing. Its faults come in this order.
+/// `WrongDatabase` where there is no office table or no row in it. `Damaged` where that table is no office's. `OlderSchema` where its
+/// version is 1, and `NewerSchema` where it is above 2, before another table is looked at. Then `Damaged` where a table is missing or
+/// the rows are those of no state. `Memory` may come at any point, and `Store` where the store failed or rowids aren't the rows' own.
 pub fn check<S: Alter>(alloc: Global, conn: &mut Connection<S>) -> Result<(), Fault>
     requires { conn.old.in_transaction ≡ false }
     ensures holds { HasCleanDisk (state S.Store conn.new) → (db : Database) → IsOurs db.schema → RestsAt db (state S.Store conn.old)

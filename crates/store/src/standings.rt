@@ -179,9 +179,9 @@ impl<S: Alter> Store<S> {
         }
     }
 
-    /// What the papers of a ward come to: the preferences of each valid paper of the batches that are
-    /// taken, by batch and paper, and how many are rejected for each of the five reasons. It changes
-    /// nothing, and adds nothing to what a stop may leave. `Memory` or `Store` where a row can't be read.
+    /// What the papers of a ward come to: the preferences of each valid paper of the batches that are taken, by batch and paper;
+    /// and how many papers are rejected for each of the five reasons. It changes nothing, and adds nothing to what a stop may
+    /// leave. `Memory` or `Store` where a row can't be read.
     pub fn load_papers(&mut self, ward: u32) -> Result<Ballots<Vec<Prefs>>, Fault>
         ensures { Loads S.Store self.old self.new result (λ s found. StandFor are_listed found (ballots_in (columns_of (candidates_of s ward)) (piles_of s ward))) }
     {
@@ -189,9 +189,9 @@ impl<S: Alter> Store<S> {
         self.find_ballots(none, ward)
     }
 
-    /// The same with equal papers kept once: each list of preferences with the number of valid papers that
-    /// have it, which stand for those of `load_papers`, up to their order. It changes
-    /// nothing, and adds nothing to what a stop may leave. `Memory` or `Store` where a row can't be read.
+    /// The same with equal papers kept once: each list of preferences, with the number of valid papers that have it. They stand
+    /// for the papers of `load_papers`, up to their order. It changes nothing, and adds nothing to what a stop may leave.
+    /// `Memory` or `Store` where a row can't be read.
     pub fn load_bundles(&mut self, ward: u32) -> Result<Ballots<Bundles>, Fault>
         ensures loads { Loads S.Store self.old self.new result (λ s found. StandFor are_bundled found (ballots_in (columns_of (candidates_of s ward)) (piles_of s ward))) }
         ensures same { HasCleanDisk (state S.Store self.new) → (s : OfficeState) → IsAt s (state S.Store self.old)

@@ -92,7 +92,7 @@ fn commit_new_office<S: Alter>(conn: &mut Connection<S>) -> Result<(), Fault>
     Ok(())
 }
 
-/// Rows tell their state: equal tables are those of equal states, so a database stands for one state.
+/// Rows determine their state: equal tables are those of equal states, so a database stands for one state.
 fn tables_tell_states()
     ensures equal { (s t : OfficeState) → IsState s → IsState t → SameContents (tables_of s) (tables_of t) → s ≡ t }
     ensures alone { (db : Database) → (s t : OfficeState) → HoldsState db s → HoldsState db t → s ≡ t }
@@ -130,10 +130,10 @@ impl<S: Alter> Store<S> {
 
     /// Opens the office that the connection's database holds, and changes nothing.
     ///
-    /// `WrongDatabase` where there is no office table or no row in it, `OlderSchema` where a program before
-    /// this one made it, and `NewerSchema` where a later one did; `Damaged` where the rows are the tables of
-    /// no state. `Store` where the store failed, where rowids aren't the rows' own, or where the connection
-    /// is inside a transaction. The connection is handed back with a fault, its database as it was.
+    /// `WrongDatabase` where there is no office table or no row in it. `OlderSchema` where a program before this one made the
+    /// office, and `NewerSchema` where a later one did. `Damaged` where the rows are the tables of no state. `Store` where the
+    /// store failed, where rowids aren't the rows' own, or where the connection is inside a transaction. The connection is handed
+    /// back with a fault, its database as it was.
     pub fn open_from(alloc: Global, mut conn: Connection<S>) -> Result<Self, (Fault, Connection<S>)>
         ensures opened { IfOk result (λ store. HasCleanDisk (state S.Store store) → (db : Database) → IsOurs db.schema → RestsAt db (state S.Store conn)
             → (s : OfficeState) × HoldsState db s × IsAt s (state S.Store store)) }
@@ -177,8 +177,8 @@ impl<S: Alter> Store<S> {
         commit_change(self.alloc, &mut self.conn, change)
     }
 
-    /// Copies the office into another database, which has nothing in it, in one transaction; and tells how much the copy
-    /// has. The office itself is only read.
+    /// Copies the office into another database, which has nothing in it, in one
+    /// transaction, and gives how much the copy has. The office itself is only read.
     pub fn copy_to<T: Alter>(&mut self, copy: &mut Connection<T>) -> Result<Holdings, CopyFault>
         ensures { CopiesTo S.Store T.Store self.old self.new copy.old copy.new result }
     {

@@ -9,12 +9,12 @@ use sqlite::{Alter, Connection};
 use std::alloc::Global;
 use tables::Fault;
 
-/// All entries of the office that a connection's database holds, each table's in the order of its keys. No office is
-/// open afterwards, and nothing is changed, whatever is told.
+/// All entries of the office that a connection's database holds, each table's in the order of its keys. No office is open
+/// afterwards, and nothing is changed, whatever comes of it.
 ///
-/// The rows are judged first, as `Store::open_from` does, and what it would tell is told: `WrongDatabase`, `Damaged`,
-/// `OlderSchema` or `NewerSchema` by what is in the database, `Memory` at any point, and `Store` where the store failed or
-/// rowids aren't the rows' own. Within a transaction `Store` is told, and nothing is read.
+/// The rows are judged first, as `Store::open_from` does, and its fault is reported. `WrongDatabase`, `Damaged`, `OlderSchema` or
+/// `NewerSchema` come by what is in the database, `Memory` at any point, and `Store` where the store failed or rowids aren't the
+/// rows' own. Within a transaction the fault is `Store`, and nothing is read.
 pub fn read_office<S: Alter>(alloc: Global, conn: &mut Connection<S>) -> Result<Rows, Fault>
     ensures { ReadsOffice (state S.Store conn.old) (state S.Store conn.new) result }
 {

@@ -75,11 +75,10 @@ impl<S: Alter> Store<S> {
         Ok(found)
     }
 
-    /// The work of a clerk (1 to 999): his batches in wards in keying, in the order of their numbers, each
-    /// with the columns of its papers and whether he has keyed its current round. All batches are read at
-    /// once; then of each its third clerk, and of each of his own its ward, the candidates there, and the
-    /// first paper of his keying. It changes nothing, and adds nothing to what a stop may leave. `Memory` or
-    /// `Store` where a row can't be read.
+    /// The work of a clerk (1 to 999): his batches in wards in keying, in the order of their numbers. Each has the columns of its
+    /// papers, and whether he has keyed its current round. All batches are read at once. Then of each its third clerk is read,
+    /// and of each of his own its ward, the candidates there, and the first paper of his keying. It changes nothing, and adds
+    /// nothing to what a stop may leave. `Memory` or `Store` where a row can't be read.
     pub fn load_work(&mut self, clerk: u32) -> Result<Vec<Work>, Fault>
         ensures { Loads S.Store self.old self.new result (λ s found. map work_entry found.items ≡ work_of s clerk) }
     {

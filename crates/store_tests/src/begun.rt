@@ -276,7 +276,7 @@ pub const BEGUN: &[Act] = &[Act::Typed(NOMINATED), Act::Typed(GIVEN_OUT)];
 pub const KEYING: &str =
     "POST /clerks/4/batches/12/keying HTTP/1.1\r\nContent-Length: 43\r\n\r\n{\"id\":\"h1\",\"round\":1,\"papers\":[\"1,2,\",\"D\"]}";
 
-/// What he is told.
+/// What he gets as his answer.
 pub const KEYED: &str =
     "HTTP/1.1 200 OK\r\nContent-Type: application/json\r\nContent-Length: 34\r\nConnection: close\r\n\r\n{\"reply\":\"batch 12 round 1 keyed\"}";
 

@@ -13,9 +13,9 @@ use std::time::{Clock, Duration};
 use std::{fmt, io};
 use votes::Broken;
 
-/// A client, or an order: what he sends, and whether he ends his side behind it; how many bytes come at once before nothing more has
-/// come, and how many he takes of his answer before he takes no more now; after how many that came reading him fails, and
-/// after how many that he took writing to him fails.
+/// A client, or an order: what he sends, and whether he ends his side behind it. Then how many bytes come at once before nothing
+/// more has come, and how many he takes of his answer before he takes no more now. At last after how many that came reading him
+/// fails, and after how many that he took writing to him fails.
 #[derive(Clone, Copy, Debug)]
 pub struct Client<'a> {
     pub is_order: bool,
@@ -71,9 +71,9 @@ impl<'a> Client<'a> {
 /// Clients who come in turn; or one who can't be let in when his turn comes, and isn't there any more later.
 pub type Comers<'a> = &'a [Option<Client<'a>>];
 
-/// An office that serves: who comes, of whom the doors tell behind each wait that they may go on, all who were let in or those of
-/// these numbers, in their order; after how many serving ends, how many seconds later the clock is at each look, after
-/// how many waits the doors fail, and the text of a file of clerks' codes, if they are asked for.
+/// An office that serves: who comes, and of whom the doors say behind each wait that they may go on, all who were let in or those
+/// of these numbers, in their order. Then after how many serving ends, how many seconds later the clock is at each look, and
+/// after how many waits the doors fail. Last the text of a file of clerks' codes, if they are asked for.
 #[derive(Clone, Copy, Debug)]
 pub struct Evening<'a> {
     pub comers: Comers<'a>,
@@ -173,7 +173,7 @@ impl Line for Talk<'_, '_> {
     }
 }
 
-/// The doors to which clients come, and how many they have told of since the last wait.
+/// The doors to which clients come, and how many they have named since the last wait.
 #[derive(Drop)]
 pub struct Coming<'c, 'p> {
     evening: Evening<'c>,

@@ -17,17 +17,17 @@ const OFFICE: [Act; 3] = [
 /// More calls than a copy makes of either file.
 const CALLS: u64 = 2000;
 
-/// What is told of a copy whose files stop.
+/// What is printed of a copy whose files stop.
 const NOT_WRITTEN: (u8, &str, &str) = (3, "", "fault 110: copy not written\n");
 
-/// What is told of files in which there is nothing.
+/// What is printed of files in which there is nothing.
 const NOTHING: Case<'static> = (
     Step::Order(&["DB", "wards"]),
     (3, "", "fault 105: wrong database\n"),
 );
 
 /// Copies an office onto files that may stop, and judges what is found of the copy: the whole, or nothing where it wasn't
-/// answered. Tells whether it was.
+/// answered. Answers whether it was.
 fn copy_once<M: Machine + Drop>(
     rt: &(impl Abort + AllocGlobal),
     office: M,

@@ -23,7 +23,7 @@ impl Model for Disks {
     ghost view = { λ _. tt };
 }
 
-/// Opens the files, or gives them back with what `sqlite` told, if it was asked.
+/// Opens the files, or gives them back with what `sqlite` said, if it was asked.
 fn opened(
     alloc: Global,
     files: Files<Fuse<Memory>>,

@@ -15,7 +15,7 @@ use std::test::Fail;
 /// The work of clerk 4 once he has keyed.
 const FOUR_KEYED: &str = "batch 12 ward 7 [1, 2, 3] size 2 round 1: keyed\n";
 
-/// What is told of clerks whose number is none.
+/// What is printed of clerks whose number is none.
 const NO_CLERK: &str = "refused 3: number out of range\n";
 
 /// The work of clerk 4 and of clerk 9 is asked for, and a sheet that isn't there yet.
@@ -25,7 +25,7 @@ const NINE: &[u8] = b"GET /clerks/9/work HTTP/1.1\r\n\r\n";
 
 const SHEET: &[u8] = b"GET /wards/7/sheet HTTP/1.1\r\n\r\n";
 
-/// What is told of them.
+/// What they get as their work.
 const FOUR_TO_KEY: &str =
     "HTTP/1.1 200 OK\r\nContent-Type: application/json\r\nContent-Length: 93\r\nConnection: close\r\n\r\n{\"clerk\":4,\"work\":[{\"batch\":12,\"columns\":[1,2,3],\"keyed\":false,\"round\":1,\"size\":2,\"ward\":7}]}";
 
@@ -88,8 +88,8 @@ fn serve_all<M: Machine + Drop>(
     )
 }
 
-/// Clients who come at once send their requests in parts of their own. Each has his turn once his request is whole, and
-/// takes the answer to it: a clerk's work is told before his keying is whole, and behind it.
+/// Clients who come at once send their requests in parts of their own. Each has his turn once his request is whole, and takes the
+/// answer to it: one asks for a clerk's work before his keying is whole, and one behind it.
 fn have_their_turns<M: Machine + Drop>(
     rt: &(impl Abort + AllocGlobal),
     machine: M,
@@ -119,8 +119,8 @@ fn have_their_turns<M: Machine + Drop>(
     serve_all(rt, machine, Evening::of(&comers), &texts)
 }
 
-/// Lines break at each byte of the request, of which nothing is kept; and at each byte of the answer, which the first of
-/// those clients is told of his keying, and the others again.
+/// Lines break at each byte of the request, of which nothing is kept. They break at each byte of the answer, which the first of
+/// those clients gets to his keying, and the others again.
 fn break_at_each_byte<M: Machine + Drop>(
     rt: &(impl Abort + AllocGlobal),
     machine: M,
@@ -209,7 +209,7 @@ const CROWD: usize = 600;
 
 const MOST: usize = 512;
 
-/// Of the crowd these ask for a clerk's work, three bytes at a time; the doors tell of them alone.
+/// Of the crowd these ask for a clerk's work, three bytes at a time; the doors name them alone.
 const ASKING: &[usize] = &[0, CROWD - MOST - 1, CROWD - MOST, MOST, CROWD - 1];
 
 /// A crowd of clients of whom the others are silent.

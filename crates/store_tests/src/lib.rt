@@ -6,10 +6,10 @@
 //! proved a second time.
 #![tactic(auto)]
 
-// What is done and told, over any store.
+// What is done and printed, over any store.
 #[cfg(test)]
 mod steps;
-// What is typed and told, as a text.
+// What is typed and printed, as a text.
 #[cfg(test)]
 mod transcripts;
 // What is done with an office on any machine.

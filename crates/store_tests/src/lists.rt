@@ -26,8 +26,8 @@ fn harbour(alloc: Global) -> Result<WardCommand, AllocError> {
     })
 }
 
-/// What the office is told that sends it, sends it again, and under another id; a clerk who does, as only the
-/// office may; and the office that closes a ward in which nobody stands.
+/// The answers to the office that sends it, sends it again, and under another id; to a clerk who does, as only the office may;
+/// and to the office that closes a ward in which nobody stands.
 const ANSWERS: &str = "done: ward 7 added
 kept: ward 7 added
 refused 6: ward exists

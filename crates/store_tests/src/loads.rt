@@ -45,7 +45,7 @@ fn write_book<S: Alter>(text: &mut String, store: &mut Store<S>, ward: u32) -> R
     Ok(())
 }
 
-/// What the calls tell of a ward.
+/// What the calls say of a ward.
 fn told<S: Alter>(alloc: Global, store: &mut Store<S>, ward: u32) -> Result<String, Fail> {
     let mut text = String::new(alloc);
     let ballots = read(store.load_papers(ward))?;
@@ -57,7 +57,7 @@ fn told<S: Alter>(alloc: Global, store: &mut Store<S>, ward: u32) -> Result<Stri
     Ok(text)
 }
 
-/// The store opened, and what it tells of a ward.
+/// The store opened, and what it says of a ward.
 pub fn loads<S: Alter + Drop>(
     alloc: Global,
     conn: Connection<S>,

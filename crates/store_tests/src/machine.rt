@@ -18,7 +18,7 @@ pub enum File {
 /// A part of a play.
 #[derive(Clone, Copy, Debug)]
 pub enum Act {
-    /// What is asked and told, as a transcript.
+    /// What is asked and answered, as a transcript.
     Typed(&'static str),
     /// Both clerks of batch 12 key these papers alike.
     Keyed(&'static str),
@@ -59,7 +59,7 @@ pub fn lasting<M: Machine + Drop>(alloc: Global) -> M {
     M::stopping(alloc, u64::MAX, u64::MAX)
 }
 
-/// Does the steps, each of which must be told so.
+/// Does the steps, each of which must be answered so.
 pub fn hear<M: Machine + Drop>(
     rt: &(impl Abort + AllocGlobal),
     machine: M,
@@ -83,7 +83,7 @@ pub fn rows<M: Machine + Drop>(alloc: Global, machine: M) -> Result<(String, M),
     }
 }
 
-/// Does what is asked in a transcript, which must be told so.
+/// Does what is asked in a transcript, which must be answered so.
 pub fn follow<M: Machine + Drop>(
     rt: &(impl Abort + AllocGlobal),
     machine: M,
@@ -94,7 +94,7 @@ pub fn follow<M: Machine + Drop>(
     hear(rt, machine, &cases)
 }
 
-/// Does the steps, each of which must be told so, and none of which may change a row.
+/// Does the steps, each of which must be answered so, and none of which may change a row.
 pub fn hear_unchanged<M: Machine + Drop>(
     rt: &(impl Abort + AllocGlobal),
     machine: M,

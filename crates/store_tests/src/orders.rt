@@ -42,7 +42,7 @@ const KEYED_FILE: &[(&str, &[u8])] = &[("FILE", PAPERS)];
 
 const SCRIPTED: &[(&str, &[u8])] = &[("SCRIPT", LINES), ("FILE", PAPERS)];
 
-/// What is told of them.
+/// What is printed of them.
 const IMPORTED: &[&str] = &["batch 12 round 1 keyed", "\n"];
 
 /// An order, the file for which it is given, and the program that gives it.
@@ -103,8 +103,7 @@ fn put_string(out: &mut Vec<u8>, bytes: &[u8]) -> Result<(), Fail> {
     Ok(out.extend_from_slice(bytes)?)
 }
 
-/// What an order is told in frames, spelled here byte by byte: each of these, and at the end its status with what goes to the
-/// error output.
+/// What an order prints in frames, spelled here byte by byte: each of these, and at the end its status with what goes to the error output.
 fn frames(alloc: Global, told: &[&str], status: u8, err: &str) -> Result<String, Fail> {
     let mut bytes = Vec::new(alloc);
     for text in told {
@@ -118,7 +117,7 @@ fn frames(alloc: Global, told: &[&str], status: u8, err: &str) -> Result<String,
     Ok(String::from_utf8(bytes)?)
 }
 
-/// A step in which orders come at once, and are told this.
+/// A step in which orders come at once, and get this.
 fn told_of<'a>(orders: &'a [Option<Client<'a>>], told: &'a str) -> Case<'a> {
     let evening = Evening {
         connections: Some(0),
@@ -127,7 +126,7 @@ fn told_of<'a>(orders: &'a [Option<Client<'a>>], told: &'a str) -> Case<'a> {
     (Step::Serve(evening), (0, told, "Ok(())"))
 }
 
-/// Orders come at once, and are told this.
+/// Orders come at once, and get this.
 fn are_told<'a, M: Machine + Drop>(
     rt: &(impl Abort + AllocGlobal),
     machine: M,
@@ -189,8 +188,8 @@ fn are_refused<M: Machine + Drop>(rt: &(impl Abort + AllocGlobal), machine: M) -
     are_told_unchanged(rt, machine, &orders, told.as_str())
 }
 
-/// Messages that are no orders: one that is too long and one that ends too early are let go, and one that spells nothing is
-/// told what a file is told that another program holds.
+/// Messages that are no orders. One that is too long and one that ends too early are
+/// let go; one that spells nothing gets what a file gets that another program holds.
 fn are_none<M: Machine + Drop>(rt: &(impl Abort + AllocGlobal), machine: M) -> Result<M, Fail> {
     let mut told = frames(rt.alloc(), &[], 3, "fault 102: store\n")?;
     told.push_str("\n\n")?;
@@ -224,7 +223,7 @@ fn around_a_keying<'a>(
     ]
 }
 
-/// One client comes, and orders beside him, and they are told this.
+/// One client comes, and orders beside him, and they get this.
 fn with_one_client<'a, M: Machine + Drop>(
     rt: &(impl Abort + AllocGlobal),
     machine: M,
@@ -239,8 +238,8 @@ fn with_one_client<'a, M: Machine + Drop>(
     hear(rt, machine, &[(step, (0, told, "Ok(())"))])
 }
 
-/// Orders have their turns among clients: one before a keying and one behind it tell how the ward stood. They come a few bytes
-/// at a time, and don't count.
+/// Orders have their turns among clients: one before a keying and one behind it
+/// print how the ward stood. They come a few bytes at a time, and don't count.
 fn come_among_clients<M: Machine + Drop>(
     rt: &(impl Abort + AllocGlobal),
     machine: M,
@@ -265,7 +264,7 @@ fn come_among_clients<M: Machine + Drop>(
     with_one_client(rt, machine, &comers, out.as_str())
 }
 
-/// A script has one turn. Its refusal is told behind the number of its line, and what was done before stands.
+/// A script has one turn. Its refusal is printed behind the number of its line, and what was done before stands.
 fn follow_scripts<M: Machine + Drop>(
     rt: &(impl Abort + AllocGlobal),
     machine: M,
@@ -280,7 +279,7 @@ fn follow_scripts<M: Machine + Drop>(
     are_told(rt, machine, &orders, told.as_str())
 }
 
-/// The lines of orders break at each byte that they take. The keying is kept from the first of them on, and told again.
+/// The lines of orders break at each byte that they take. The keying is kept from the first of them on, and gets its reply again.
 fn break_at_each_byte<M: Machine + Drop>(
     rt: &(impl Abort + AllocGlobal),
     machine: M,

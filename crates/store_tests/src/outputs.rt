@@ -1,5 +1,5 @@
-//! Outputs that fail: a beginning is taken, what was answered stands, nothing more is sent, and the same order given
-//! again is told whole. (That it is so at every byte is proved; here it is seen at one of each kind.)
+//! Outputs that fail: a beginning is taken, what was answered stands, nothing more is sent, and the same order given again is
+//! printed whole. (That it is so at every byte is proved; here it is seen at one of each kind.)
 
 use super::disks::Disks;
 use super::machine::{Act, Machine, hear, play_acts};
@@ -7,10 +7,10 @@ use super::steps::{Rooms, Step};
 use std::process::Abort;
 use std::test::Fail;
 
-/// What is told of an output that fails.
+/// What is printed of an output that fails.
 const BROKEN: &str = "fault 107: socket or output\n";
 
-/// Outputs of which the one takes no more than so many bytes of what is told.
+/// Outputs of which the one takes no more than so many bytes of what is printed.
 fn rooms(out: usize, err: usize) -> Rooms {
     Rooms { out, err }
 }
@@ -23,7 +23,7 @@ const IMPORT: &[&str] = &["DB", "import-candidates", "FILE", "--id", "c"];
 
 const NAMES: &[u8] = b"ward,candidate,name\n7,1,Ann\n7,2,Bob\n";
 
-/// What is told of two candidates.
+/// What is printed of two candidates.
 const BOTH: &str = "candidate 1 of ward 7 added\ncandidate 2 of ward 7 added\n";
 
 /// How a ward stands where one of them was added.

@@ -1,4 +1,4 @@
-//! How far a long output has come is told, and the output is as it would be without.
+//! How far a long output has come is printed, and the output is as it would be without.
 
 use super::clients::Taking;
 use desk::Progress;

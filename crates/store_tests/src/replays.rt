@@ -100,9 +100,8 @@ fn beginnings<M: Machine + Drop>(
     Ok(all)
 }
 
-/// Sends a script over disks of which one stops after so many calls, restarts them, and judges what is found: the rows
-/// behind the requests that got replies, or behind one more. Sent again, it is told whole, and ends as without the
-/// stop. Tells whether it met no stop.
+/// Sends a script over disks of which one stops after so many calls, restarts them, and judges what is found: the rows behind the requests
+/// that got replies, or behind one more. Sent again, it is answered whole, and ends as without the stop. Answers whether it met no stop.
 fn stop_script<M: Machine + Drop>(
     rt: &(impl Abort + AllocGlobal),
     machine: M,

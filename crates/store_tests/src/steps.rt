@@ -30,12 +30,12 @@ pub enum Step<'a> {
     BreakingOrder(&'a [&'a str], &'a [u8], Rooms),
     /// A new office, and a list of requests handed to it; their answers stand as the output.
     List(&'a [Request]),
-    /// The office opened, and asked for the work of a clerk; what it tells stands as the output.
+    /// The office opened, and asked for the work of a clerk; what it answers stands as the output.
     Work(u32),
     /// The store opened, and asked for a ward's papers and its count; what it reads stands as the output.
     Loads(u32),
-    /// The office opened, and clients served of whom each may be let in or not, and whose lines may break; what each took
-    /// stands as the output, behind a line feed where somebody came before him, and what came of serving as the error output.
+    /// The office opened, and clients served, of whom each may be let in or not, and whose lines may break. What each took stands
+    /// as the output, behind a line feed where somebody came before him. What came of serving stands as the error output.
     Serve(Evening<'a>),
     /// The office opened, and clients served at a port, while the clock jumps by more than half a minute; how that ended
     /// stands as the output.
@@ -92,13 +92,13 @@ const AMPLE: Rooms = Rooms {
 /// A status, and what was printed to the output and the error output.
 pub type Told<'a> = (u8, &'a str, &'a str);
 
-/// A step, and what must be told of it.
+/// A step, and what must come of it.
 pub type Case<'a> = (Step<'a>, Told<'a>);
 
-/// What an order is told that the store stopped, and never that memory was wanting.
+/// What an order prints where the store stopped, and never that memory was wanting.
 pub const STOPPED: Told<'static> = (3, "", "fault 102: store\n");
 
-/// What a client is told then.
+/// What a client gets then.
 pub const STOPPED_ANSWER: &str =
     "HTTP/1.1 503 Service Unavailable\r\nContent-Type: application/json\r\nContent-Length: 13\r\nConnection: close\r\n\r\n{\"fault\":102}";
 
@@ -124,7 +124,7 @@ impl Said {
         self.status == 0
     }
 
-    /// It was told that the store stopped, by an order or over HTTP.
+    /// An order reported that the store stopped, or an answer over HTTP did.
     pub fn is_stopped(&self) -> bool {
         self.told() == STOPPED || self.out.as_str() == STOPPED_ANSWER
     }
@@ -458,7 +458,7 @@ fn done<S: Alter + Drop>(
     }
 }
 
-/// Does the steps in turn, up to the first that is told of a stop.
+/// Does the steps in turn, up to the first that reports a stop.
 pub fn play<S: Alter + Drop>(
     alloc: Global,
     mut conn: Connection<S>,

@@ -1,6 +1,5 @@
-//! A store that stops at each of its calls in turn, while one order is done: what was there before is found
-//! again, or all that the order makes, and the same order given again ends as if nothing had happened. A client
-//! behind one who met the stop is told that the office is closed.
+//! A store that stops at each of its calls in turn, while one order is done. What was there before is found again, or all that the order makes,
+//! and the same order given again ends as if nothing had happened. A client behind one who met the stop gets the answer that the office is closed.
 
 mod counts;
 
@@ -19,13 +18,13 @@ pub const CALLS: u64 = 2000;
 /// How many papers the largest batch has.
 const PAPERS: u32 = 500;
 
-/// What `init` is told where the office is there already.
+/// What `init` prints where the office is there already.
 const MADE: Told<'static> = (3, "", "fault 105: wrong database\n");
 
-/// What `migrate` is told where the office is at this version.
+/// What `migrate` prints where the office is at this version.
 const MIGRATED: Told<'static> = (0, "office is at version 2\n", "");
 
-/// What an order is told that is given again, where all that it makes was found.
+/// What an order prints that is given again, where all that it makes was found.
 fn told_again<'a>(case: Case<'a>, whole: bool) -> Told<'a> {
     match case {
         (Step::Order(["DB", "init"]), _) if whole => MADE,
@@ -91,7 +90,7 @@ fn stop_under<M: Machine + Drop>(
 
 /// Does an order over disks of which one stops after so many calls, restarts them, and judges what is
 /// found: the rows before it, or those after it if it was answered or may have been. Sent again it ends as without
-/// the stop, and so does the ward's sheet. Tells whether the order was answered.
+/// the stop, and so does the ward's sheet. Answers whether the order was answered.
 fn stop_once<M: Machine + Drop>(
     rt: &(impl Abort + AllocGlobal),
     machine: M,
@@ -296,7 +295,7 @@ fn a_large_keying_stops_whole(rt: HostRuntime) -> Result<(), Fail> {
     Ok(())
 }
 
-/// What a client of a closed office is told, behind another one.
+/// What a client of a closed office gets, behind another one.
 const CLOSED_ANSWER: &str =
     "\nHTTP/1.1 503 Service Unavailable\r\nContent-Type: application/json\r\nContent-Length: 13\r\nConnection: close\r\n\r\n{\"fault\":104}";
 
@@ -307,8 +306,8 @@ enum Stop {
     BehindTheFirst,
 }
 
-/// Two clients key over disks whose log stops after so many calls. Where the first is told of the stop, the
-/// second is told that the office is closed.
+/// Two clients key over disks whose log stops after so many calls. Where the first
+/// gets the fault of the stop, the second gets the answer that the office is closed.
 fn stop_twice<M: Machine + Drop>(
     rt: &(impl Abort + AllocGlobal),
     machine: &M,

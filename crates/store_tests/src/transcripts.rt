@@ -1,4 +1,4 @@
-//! What is typed at the office and what it tells, as a text.
+//! What is typed at the office and what it prints, as a text.
 //!
 //! ```text
 //! $ import-keying 4 12 1 FILE --id k1
@@ -18,7 +18,7 @@ use super::steps::{Case, Step};
 use std::alloc::{AllocError, Global};
 use std::test::Fail;
 
-/// What is asked, with the file that it names, and what must be told of it.
+/// What is asked, with the file that it names, and what must come of it.
 #[derive(Drop)]
 pub struct Typed<'a> {
     is_order: bool,

@@ -46,7 +46,7 @@ replaced t row = changed t (map (λ r. if has_key t row r then row else r))
 unfoldable pub replaced_all : Table → List Row → Contents → Contents
 replaced_all t news c = fold (λ before row. replaced t row before) c news
 
--- a value in one column of the row with a key; the key and the value in turn
+-- the contents with a value in one column of the row with a key; the values are those of the key and the new one, in turn
 unfoldable pub value_put : Setting → Row → Contents → Contents
 value_put g values = changed (table_set g) (map (λ r. if has_key (table_set g) values r then with_value g (value_set g values) r else r))
 

@@ -1,4 +1,4 @@
--- The faults of a store, and which error of `sqlite` each tells.
+-- The faults of a store, and for which error of `sqlite` each stands.
 use Rattle.std.specs.Prelude.{◌≡◌, ℕ, List, codes, Err, IsTrue}
 use Rattle.sqlite.specs.declared.error.Error.{Error}
 use Rattle.sqlite.specs.declared.error.Error.TheVariants.{SqliteFailure}
@@ -8,7 +8,7 @@ use Rattle.sqlite.specs.State.{State, HasCleanDisk, ExecutesInside, FailsToQuery
 use Rattle.tables.specs.declared.fault.Fault.{Fault}
 use Rattle.tables.specs.declared.fault.Fault.TheVariants.{Memory, Store, Damaged, Closed, WrongDatabase, NewerSchema, OlderSchema}
 
--- the number that a fault is told by
+-- the number of a fault
 abbrev pub fault_number : Fault → ℕ
 fault_number Memory = 101
 fault_number Store = 102
@@ -38,10 +38,10 @@ abbrev pub value_fault : Error → Fault
 value_fault (SqliteFailure OutOfMemory) = Memory
 value_fault _ = Damaged
 
--- the fault tells why `sqlite` refused this query
+-- the fault says why `sqlite` refused this query
 abbrev pub TellsQuery : List ℕ → Row → State → State → Fault → Type 0
 TellsQuery sql params old new f = (e : Error) × (f ≡ fault_of e) × (HasCleanDisk new → FailsToQuery sql params old new e)
 
--- the fault tells why `sqlite` refused this statement inside a transaction
+-- the fault says why `sqlite` refused this statement inside a transaction
 abbrev pub TellsStatement : List ℕ → Row → State → State → Fault → Type 0
 TellsStatement sql params old new f = (e : Error) × (f ≡ fault_of e) × (HasCleanDisk new → IsTrue old.in_transaction → ExecutesInside 0 sql params old new (Err e))

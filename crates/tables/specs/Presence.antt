@@ -34,7 +34,7 @@ pub record IsOurs (s : Schema) : Type 0 where
   pub office : has_table Office s ≡ true → BeginsTo Office s
   pub every : has_every_table s ≡ true → IsOfficeSchema s
 
--- The tables of an older office are ours too, and nothing stands beside them: its names tell how many of the first tables are there.
+-- The tables of an older office are ours too, and nothing stands beside them: its names show how many of the first tables are there.
 pub record IsOlderSchema (s : Schema) : Type 0 where
   pub without_third : form_of s ≡ WithoutThird → s ≡ schema_from 10 [] [] []
   pub without_counts : form_of s ≡ WithoutCounts → s ≡ schema_from 8 [] [] []

@@ -1,4 +1,4 @@
--- What a read tells, and what it leaves.
+-- What a read finds, and what it leaves.
 use Rattle.std.specs.Prelude.{◌≡◌, ◌≢◌, ◌⊎◌, ◌<◌, ◌≤◌, ◌+◌, ◌≤ℤ◌, ℕ, ℤ, List, [], ◌∷◌, map, filter, length, slice_index_or, Bool, true, false, None, IsSome, Ok, Err, IsTrue}
 use Rattle.std.specs.declared.cmp.Ordering.TheVariants.{Less}
 use Rattle.std.specs.Ordering.{on}
@@ -55,7 +55,7 @@ pub record OnlyReads (old new : State) : Type 0 where
 abbrev pub HasFailed : State → State → Type 0
 HasFailed old new = MoreFaults old.faults new.faults ⊎ ((old.is_open ≡ false) ⊎ IsSome old.step_limit)
 
--- why a read of rows that are all entries' tells nothing: memory was wanting, or the store failed
+-- why a read of rows that are all entries' finds nothing: memory was wanting, or the store failed
 abbrev pub FailsBy : State → State → Fault → Type 0
 FailsBy old new f = (f ≡ Memory) ⊎ ((f ≡ Store) × HasFailed old new)
 
@@ -63,7 +63,7 @@ FailsBy old new f = (f ≡ Memory) ⊎ ((f ≡ Store) × HasFailed old new)
 abbrev pub SharesRowids : Database → Type 0
 SharesRowids db = (t : Table) × (changes_rows t ≡ true) × (HasWrongRowid (db.trees (tree_of t)) ⊎ RepeatsRowid (db.trees (tree_of t)))
 
--- why all rows of tables can't be listed, where that is told as a fault of the store: it failed, or rowids aren't the rows' own
+-- why all rows of tables can't be listed, where that is reported as a fault of the store: it failed, or rowids aren't the rows' own
 abbrev pub FailsToList : Database → State → State → Fault → Type 0
 FailsToList db old new f = f ≡ Store → HasFailed old new ⊎ SharesRowids db
 

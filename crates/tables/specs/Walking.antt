@@ -13,11 +13,11 @@ use Rattle.tables.specs.Rows.{at, column_places}
 use Rattle.tables.specs.Contents.{Contents}
 use Rattle.tables.specs.Reading.{Finds}
 
--- whatever entries were taken in before, this one was taken in after them
+-- whatever entries came before, this one was taken in after them
 abbrev pub TakesNext : {V X : Type 0} → (V → List X → Type 0) → V → V → X → Type 0
 TakesNext {V} {X} HasTaken old new entry = (before : List X) → HasTaken old before → HasTaken new (before ++ entry ∷ [])
 
--- whatever entries were taken in before, those whose rows pass the test were taken in after them, in the order of the key
+-- whatever entries came before, those whose rows pass the test were taken in after them, in the order of the key
 abbrev pub TakesFound : {V X : Type 0} → (V → List X → Type 0) → (X → Row) → Table → (Row → Bool) → Contents → V → V → Type 0
 TakesFound {V} {X} HasTaken row_of t test c old new = (found : List X) × Finds t test c (map row_of found) × ((before : List X) → HasTaken old before → HasTaken new (before ++ found))
 
@@ -28,7 +28,7 @@ module _ {S V X : Type 0} (g : Ghosts S) (t : Table) (row_of : X → Row) (HasTa
   Visits old new was is false = Advances g old new None × (is ≡ was)
 
 module _ {S : Type 0} (g : Ghosts S) (IsRow : Row → Type 0) (Stops : Fault → Type 0) where
-  -- why one more entry was not taken in: the store told no more rows, memory was wanting, the one that takes them in stopped, or the row is that of no entry
+  -- why one more entry was not taken in: the store gave no more rows; memory was wanting; the one that takes them in stopped; or the row is that of no entry
   abbrev pub FailsToVisit : Held S → Held S → Fault → Type 0
   FailsToVisit old new f =
       ((e : Error) × (f ≡ fault_of e) × FailsToAdvance g old new e)

@@ -6,7 +6,7 @@ ghost use Rattle.tables.specs.Faults.{fault_number, fault_text, fault_of};
 use sqlite::{Error, ErrorCode};
 use std::fmt;
 
-/// The faults of an office, which are told by their numbers, 101 to 106 and 108.
+/// The faults of an office, by their numbers 101 to 106 and 108.
 #[derive(Clone, Copy, Debug, PartialEq, Eq, Drop)]
 pub enum Fault {
     /// Memory was wanting.
@@ -26,7 +26,7 @@ pub enum Fault {
 }
 
 impl Fault {
-    /// The number that the fault is told by, from 101 on, and the fault in words.
+    /// The number of the fault, from 101 on, and the fault in words.
     fn told(&self) -> (u32, &'static str)
         ensures number { result.0 ≡ fault_number self.now }
         ensures text { result.1.now ≡ fault_text self.now }
@@ -42,7 +42,7 @@ impl Fault {
         }
     }
 
-    /// The number that the fault is told by, from 101 on.
+    /// The number of the fault, from 101 on.
     pub fn number(&self) -> u32
         ensures { result ≡ fault_number self.now }
     {

@@ -1,10 +1,10 @@
 //! The tables of an office in a store of `sqlite`, and the statements over any of them.
 //!
-//! `Table` names the tables. A statement is a function of one call, proved once for any table: `insertion`
-//! adds a row, `replacement` and `removal` change the one with a key, `reading` reads all rows, those whose
-//! key begins alike, or those with another value, `runs` those that stand side by side, `making` makes the tables, all or those that an older
-//! office lacks, `presence` looks for them by name. Their clauses say what the tables hold afterwards and
-//! what a stop may leave of them.
+//! `Table` names the tables. A statement is a function of one call, proved once for any table. `insertion` adds a row;
+//! `replacement` and `removal` change the one with a key. `reading` reads all rows, those whose key begins alike, or those with
+//! another value; `runs` reads those that stand side by side. `making` makes the tables, all or those that an older office
+//! lacks, and `presence` looks for them by name. Their clauses say what the tables hold afterwards and what a stop may leave of
+//! them.
 //!
 //! An `impl` of `Entries` says what the rows of a table stand for; `listing`, `finding` and `writing` are
 //! those statements over entries, and `walking` hands entries on without ever holding them all. One more

@@ -38,9 +38,8 @@ pub fn create_tables<S: Alter>(tx: &mut Transaction<'_, S>) -> Result<(), Fault>
     Ok(())
 }
 
-/// What an office with only the first tables is to one with all: each table can be read that is there, a
-/// transaction begins with what its connection rests at, once all tables are made it sees an office, and what
-/// a stop left is found again.
+/// The laws of an office with only the first tables, beside one with all: each table that is there can be read, and what a stop
+/// left is found again. A transaction begins with what its connection rests at, and sees an office once all tables are made.
 pub fn first_tables_lead_to_all<S: Alter>()
     ensures holds { (n : ℕ) → (c : Contents) → (db : Database) → FirstAt n c db ↔ HasFirst n c db }
     ensures reads { (n : ℕ) → (s : Schema) → s ≡ schema_from n [] [] [] → (t : Table) → place_of t < n → BeginsTo t s }

@@ -17,9 +17,8 @@ use crate::texts::{set_text, update_text};
 use sqlite::{Alter, Transaction};
 use sqlite_value::value::ValueRef;
 
-/// In a table whose rows change, puts these values, one for each column and of its kind, in the place
-/// of the row with their key; where there is none, the table stays as it is. A fault leaves the last
-/// commit as it was.
+/// In a table whose rows change, puts these values in the place of the row with their key; they are one for each column and of
+/// its kind. Where there is no such row, the table stays as it is. A fault leaves the last commit as it was.
 pub fn replace<S: Alter>(
     tx: &mut Transaction<'_, S>,
     table: Table,

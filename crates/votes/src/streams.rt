@@ -13,7 +13,7 @@ pub struct Broken;
 
 /// Takes bytes, and counts the calls that failed.
 pub trait Sink {
-    /// The bytes taken so far, as far as they are told.
+    /// The bytes taken so far, as far as they are known.
     ghost taken: { Self → Option (List ℕ) };
 
     /// How many calls failed.
@@ -38,7 +38,7 @@ pub trait Sink {
 
 /// Gives bytes, and counts the calls that failed.
 pub trait Source {
-    /// The bytes still held, as far as they are told.
+    /// The bytes still held, as far as they are known.
     ghost held: { Self → Option (List ℕ) };
 
     /// How many calls failed.

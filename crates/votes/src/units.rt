@@ -115,8 +115,8 @@ pub fn quota(valid: u32, seats: u8) -> Votes
     Votes(whole * ONE_VOTE)
 }
 
-/// The value at which a paper goes on with a surplus ("Transfer values"): the surplus times its value
-/// when received, divided by the votes credited to its holder, cut down to whole units.
+/// The value at which a paper goes on with a surplus ("Transfer values"). It is the surplus times its value when received,
+/// divided by the votes credited to its holder, cut down to whole units.
 ///
 /// `received` is at most one vote, `credited` at most one vote for each of `MAX_PAPERS` papers, and
 /// `surplus` a part of `credited` that is neither nothing nor all of it.

@@ -35,7 +35,7 @@ length_in text =
     if not (are_digits text) then Err BadRequest else (
     if nat_le (digits_value 10 text) most_body_bytes then Ok (digits_value 10 text) else Err TooLarge)
 
--- the length that the values of Content-Length tell: none tells 0, and two tell nothing
+-- the length that the values of Content-Length give: without a value it is 0, and two values give none
 abbrev pub told_length : List (List ℕ) → Result ℕ Denial
 told_length [] = Ok 0
 told_length (text ∷ []) = length_in text

@@ -9,8 +9,8 @@ use Rattle.wire.specs.declared.denial.Verb.{Verb}
 use Rattle.wire.specs.declared.response.Content.{Content}
 use Rattle.wire.specs.declared.response.Content.TheVariants.{Html, Json, Text}
 
--- what an answer tells beside: nothing; the verb that is served; that a clerk's code is asked for; that he is to wait a minute; what a browser may do with
--- a page, by its policy; or that it is to forget a code
+-- what a line of an answer says beside its body: nothing; the verb that is served; that a clerk's code is asked for; that he is to wait a minute; what a browser
+-- may do with a page, by its policy; or that it is to forget a code
 pub data More : Type 0 where
   nothing : More
   allows : Verb → More
@@ -19,7 +19,7 @@ pub data More : Type 0 where
   guards : List ℕ → More
   forgets : More
 
--- an answer: its status; what it tells beside; and its body, with what kind of text that is
+-- an answer: its status; what it says beside; and its body, with what kind of text that is
 pub record ResponseEntry : Type 0 where
   pub status : ℕ
   pub more : More
@@ -57,7 +57,7 @@ guard_lines policy =
     ++ (codes "Cross-Origin-Resource-Policy: same-origin" ++ (line_end
     ++ (codes "Cache-Control: no-store" ++ line_end)))))))))))))
 
--- the lines of what is told beside
+-- the lines of what is said beside
 abbrev pub more_lines : More → List ℕ
 more_lines nothing = []
 more_lines (allows verb) = codes "Allow: " ++ (verb_text verb ++ line_end)

@@ -37,7 +37,7 @@ use Rattle.wire.specs.declared.target.Reading.TheVariants.{Candidates, Declarati
 abbrev pub refused_for : Reason → ResponseEntry
 refused_for why = refusal_response (reason_number why) (reason_text why)
 
--- what the office told of a keying, as an answer
+-- the answer for what the office said to a keying
 abbrev pub told_response : Told → ResponseEntry
 told_response (done reply) = reply_response reply
 told_response (again reply) = reply_response reply
@@ -56,7 +56,7 @@ work_response clerk work = json_response 200 (work_body clerk work)
 abbrev pub paper_response : ℕ → BallotPaperEntry → ResponseEntry
 paper_response batch paper = json_response 200 (paper_body batch paper)
 
--- what is told to a reading at a state
+-- the answer to a reading at a state
 abbrev pub reading_response : OfficeState → Reading → ResponseEntry
 reading_response s (Work clerk) = read_response (work_response clerk) (work_told s clerk)
 reading_response s (Candidates clerk batch) = read_response (paper_response batch) (paper_told s clerk batch)
@@ -73,7 +73,7 @@ pub record IsHandedOn (clerk batch : ℕ) (entry : KeyingEntry) (request : Reque
   pub round : handed.round ≡ entry.round
   pub papers : map string_bytes handed.papers.items ≡ entry.papers
 
--- the outcome of a clerk's keying at a state: that of each request which it can be handed on as
+-- the outcome of a clerk's keying at a state: that of each request as which the keying may be handed on
 pub record IsOutcome (s : OfficeState) (clerk batch : ℕ) (entry : KeyingEntry) (outcome : Outcome) : Type 0 where
   pub request : Request
   pub is : IsHandedOn clerk batch entry request
@@ -113,7 +113,7 @@ Leaves s asked answer closed st =
 abbrev pub Readies : OfficeState → AskedEntry → Response → Bool → State → Type 0
 Readies s asked response closed st = (answer : ResponseEntry) × IsTold answer response × Leaves s asked answer closed st
 
--- an answer that is ready tells what a read gave, by a view of it
+-- an answer that is ready has what a read gave, by a view of it
 abbrev pub IsReadTold : {X Y : Type 0} → (X → ResponseEntry) → (Y → X) → Result Y Stop → Response → Type 0
 IsReadTold entry view (Ok y) response = IsTold (entry (view y)) response
 IsReadTold entry view (Err (Refused why)) response = IsTold (refused_for why) response
@@ -121,7 +121,7 @@ IsReadTold entry view (Err (Failed f)) response = IsTold (fault_response (fault_
 
 -- ---- what is told, and what is handed on for it
 
--- the requests that are handed on for what is asked at a state, and what is told: a clerk's keying is handed on, and what the office says to it is told
+-- the requests that are handed on for what is asked at a state, and the answer: a clerk's keying is handed on, and the answer is what the office says to it
 abbrev pub TellsAsked : OfficeState → AskedEntry → Response → List Request → Type 0
 TellsAsked s (denied why) response sent = IsTold (denied_response why) response × (sent ≡ [])
 TellsAsked s (shown clerk show) response sent = IsTold (shown_response show) response × (sent ≡ [])
@@ -129,11 +129,11 @@ TellsAsked s (reading what) response sent = IsTold (reading_response s what) res
 TellsAsked s (keying clerk batch entry) response sent =
     (request : Request) × IsHandedOn clerk batch entry request × IsTold (told_response (told_of (step_of s request))) response × (sent ≡ request ∷ [])
 
--- a fault is told (503)
+-- the answer is a fault (503)
 abbrev pub TellsFault : Response → Type 0
 TellsFault response = (fault : Fault) × IsTold (fault_response (fault_number fault)) response
 
--- what is asked is told; or a fault is, and nothing was handed on, or what was is as if it had never come
+-- the answer is the one to what is asked; or it is a fault, and nothing was handed on, or what was is as if it had never come
 abbrev pub TellsFor : GivenEntry → Option (List ℕ) → OfficeState → List Request → Response → Type 0
 TellsFor given bytes s sent response = ((asked : AskedEntry) × IfSome bytes (λ xs. Asks given xs asked) × TellsAsked s asked response sent) ⊎ (TellsFault response × (sent ≡ []))
 
@@ -197,11 +197,11 @@ EndsWith IsReady Unread old new (Answered status) = IsServed IsReady old new (An
 EndsWith IsReady Unread old new ReadFailed = Unread
 EndsWith IsReady Unread old new WriteFailed = IsServed IsReady old new WriteFailed
 
--- what each end of a connection tells and leaves: where the reader failed, nothing was handed on
+-- what each end of a connection gives and leaves: where the reader failed, nothing was handed on
 abbrev pub Serves : GivenEntry → Option (List ℕ) → Option (List ℕ) → Option (List ℕ) → OfficeState → Served → Bool → State → Type 0
 Serves given bytes old new s served closed st = EndsWith (λ response. ReadiesFor given bytes s response closed st) (IsOpenAt s closed st) old new served
 
--- what each end of a connection tells where the office is closed: where the reader failed, nothing was written
+-- what each end of a connection gives where the office is closed: where the reader failed, nothing was written
 abbrev pub ServesClosed : GivenEntry → Option (List ℕ) → Option (List ℕ) → Option (List ℕ) → Served → Type 0
 ServesClosed given bytes old new served = EndsWith (ReadiesClosed given bytes) (new ≡ old) old new served
 

@@ -1,4 +1,4 @@
--- What an answer that is ready to be written tells.
+-- What an answer that is ready to be written says.
 use Rattle.std.specs.Prelude.{◌≡◌, ◌⊎◌, List, string_bytes, ℕ}
 use Rattle.wire.specs.Responses.{ResponseEntry, fault_response, response_bytes}
 use Rattle.wire.specs.declared.response.Bytes.{Bytes}
@@ -15,6 +15,6 @@ pub record IsWritten (entry : ResponseEntry) (response : Response) : Type 0 wher
   pub status : response.status ≡ entry.status
   pub bytes : told_bytes response.bytes ≡ response_bytes entry
 
--- it is this answer, or the one that tells that memory is wanting
+-- it is this answer, or the one that memory is wanting
 abbrev pub IsTold : ResponseEntry → Response → Type 0
 IsTold entry response = IsWritten entry response ⊎ IsWritten (fault_response 101) response

@@ -26,7 +26,7 @@ use sqlite::Alter;
 use std::alloc::{AllocError, Global};
 use store::Fault;
 
-/// The answer that tells a reply.
+/// The answer with a reply.
 fn replied(alloc: Global, text: &str) -> Response
     ensures { IsTold (reply_response text.now) result }
 {
@@ -38,7 +38,7 @@ fn replied(alloc: Global, text: &str) -> Response
     )
 }
 
-/// The answer that tells a refusal.
+/// The answer with a refusal.
 fn refused(alloc: Global, why: &Refusal) -> Response
     ensures { IsTold (refused_for why.now) result }
 {
@@ -46,7 +46,7 @@ fn refused(alloc: Global, why: &Refusal) -> Response
     Response::made(alloc, StatusCode::CONFLICT, Content::Json, body)
 }
 
-/// The answer that tells a fault.
+/// The answer with a fault.
 fn faulted(alloc: Global, fault: Fault) -> Response
     ensures { IsTold (fault_response (fault_number fault)) result }
 {
@@ -54,7 +54,7 @@ fn faulted(alloc: Global, fault: Fault) -> Response
     Response::made(alloc, StatusCode::SERVICE_UNAVAILABLE, Content::Json, body)
 }
 
-/// The answer that tells what the office answered to a keying.
+/// The answer with what the office answered to a keying.
 fn answered(alloc: Global, answer: &Answer) -> Response
     ensures { IsTold (told_response (told answer.now)) result }
 {
@@ -91,7 +91,7 @@ fn answer_keying<S: Alter>(alloc: Global, office: &mut Office<S>, keying: Keying
     }
 }
 
-/// The answer that tells a text of a ward, or why there is none.
+/// The answer with a text of a ward, or why there is none.
 fn answer_text(alloc: Global, told: Result<String, Stop>) -> Response
     ensures { IsReadTold text_response string_bytes told result }
 {
@@ -102,7 +102,7 @@ fn answer_text(alloc: Global, told: Result<String, Stop>) -> Response
     }
 }
 
-/// The answer that tells the work of a clerk, or why there is none.
+/// The answer with the work of a clerk, or why there is none.
 fn answer_work(alloc: Global, clerk: u32, told: Result<Vec<Work>, Stop>) -> Response
     ensures { IsReadTold (work_response clerk) (λ work. map work_entry work.items) told result }
 {

@@ -266,15 +266,14 @@ fn read_request<'a, R: Source>(
 ///
 /// A request with a header which shows that a page from elsewhere sent it, or that it came by a foreign name, is
 /// `Forbidden`, whatever else it asks. At a gate a request whose target begins with a clerk's number, as `/clerks/4/`, is let
-/// in with that clerk's code alone: else it is `Unauthorized`, or of the `WrongCode`, whatever else it asks. So what is asked
+/// in with that clerk's code alone. Else it is `Unauthorized`, or of the `WrongCode`, whatever else it asks. So what is asked
 /// under a clerk's number is asked by the holder of his code. Every other request asks what it asks without such a check. What
 /// is denied is answered the same at every state of the office, and so is what is `Shown`.
 ///
-/// `Broken` comes only from the source, which then counts one failure more, and only while what was read doesn't
-/// say yet what is asked: once it does, nothing more is read, for the client may wait for its answer. Of the
-/// bytes behind the request some may have been read.
+/// `Broken` comes only from the source, which then counts one failure more. It comes only while what was read doesn't say yet what is asked.
+/// Once it does, nothing more is read, for the client may wait for its answer. Of the bytes behind the request some may have been read.
 ///
-/// What is asked for hangs on the target alone, which names just what it is the path of: one of the seven of this crate,
+/// What is asked for hangs on the target alone, which names just what it is the path of. It is one of the seven of this crate,
 /// with numbers of 1 to 5 digits in it, the first not 0. Any other target names nothing.
 pub fn read_asked<'a, R: Source>(
     alloc: Global,

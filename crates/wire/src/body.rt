@@ -87,7 +87,7 @@ fn text_in(value: Value) -> Option<String>
     }
 }
 
-/// The round that a value tells.
+/// The round that a value gives.
 fn round_in(value: &Value) -> Option<u32>
     ensures { result ≡ round_in (view value.now) }
 {
@@ -109,7 +109,7 @@ fn texts_in(alloc: Global, values: Vec<Value>) -> Result<Option<Vec<String>>, Al
     Ok(Some(texts))
 }
 
-/// The papers that a value tells.
+/// The papers that a value gives.
 fn papers_in(alloc: Global, value: Value) -> Result<Option<Vec<String>>, AllocError>
     ensures { IfOk result (λ found. option_map (λ texts. map string_bytes texts.items) found ≡ papers_in (view value)) }
 {

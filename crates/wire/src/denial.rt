@@ -10,7 +10,7 @@ pub enum Verb {
 /// Why a request is denied before the office is asked.
 #[derive(Clone, Copy, Debug, PartialEq, Eq)]
 pub enum Denial {
-    /// It has no head that can be read, its body's length can't be told, or the body is no keying.
+    /// It has no head that can be read, its body's length can't be known, or the body is no keying.
     BadRequest,
     /// A page from elsewhere sent it, or it came by a foreign name.
     Forbidden,

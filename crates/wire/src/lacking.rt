@@ -16,8 +16,7 @@ use httparse::Status;
 use httparse::spans::{EMPTY_HEADER_SPAN, HeaderSpan, RequestSpans, parse_request};
 use std::alloc::{AllocError, Global};
 
-/// How long the body is that a request asks for whose head was read, if fewer bytes than that stand behind the head. Only a
-/// keying asks for one.
+/// How long the body is that a request asks for, by its head, if fewer bytes than that stand behind the head. Only a keying asks for a body.
 fn body_lacking(
     alloc: Global,
     given: Given<'_>,
@@ -51,8 +50,8 @@ fn body_lacking(
 
 /// What a request lacks of which these bytes came, of an office that was given this. The only error is want of memory.
 ///
-/// What bytes ask that lack nothing, they ask whatever follows them. So a client who was heard so far is answered: he may
-/// wait for it, and send no more.
+/// Bytes that lack nothing ask what they ask, whatever follows them. So a client
+/// who was heard so far is answered: he may wait for it, and send no more.
 pub fn lacks(alloc: Global, given: Given<'_>, got: &[u8]) -> Result<Lacks, AllocError>
     ensures { IfOk result (IsLackOf (given_entry given.entry) got.now) }
 {

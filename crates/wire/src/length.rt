@@ -57,8 +57,8 @@ pub(crate) fn value_of<'b>(
     Ok(found)
 }
 
-/// The length of a body, from the header fields, whose names and values stand in a buffer. No transfer
-/// coding may wrap it, and it may be told once; where it isn't told, there is none.
+/// The length of a body, from the header fields, whose names and values stand in a buffer. No transfer coding may wrap it, and it
+/// may be given once; where it isn't given, there is none.
 pub(crate) fn body_length(buffer: &[u8], headers: &[HeaderSpan]) -> Result<usize, Denial>
     requires { All (IsHeaderWithin (length buffer.now)) headers.now }
     ensures is { result ≡ body_length (map (header_bytes buffer.now) headers.now) }

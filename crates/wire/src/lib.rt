@@ -11,10 +11,10 @@
 //! At a [`Gate`] whatever stands under a clerk's number is asked for with his code. [`knock_of`] says whose number that is,
 //! and whether a wrong code came; who must wait for wrong codes is told so by [`tell_to_wait`].
 //!
-//! `specs/Asking.antt` says what the bytes of a client ask, `specs/Lacking.antt` when they are whole,
-//! `specs/Gates.antt` who is let in under a clerk's number, `specs/Origins.antt` what shows that a page from elsewhere
-//! sent them, `specs/Targets.antt` which targets name what, `specs/Responses.antt` which bytes an answer has, and
-//! `specs/Serving.antt` what is answered at a state of the office, and what each end of a connection leaves.
+//! `specs/Asking.antt` says what the bytes of a client ask, and `specs/Lacking.antt` when they are whole. `specs/Gates.antt`
+//! says who is let in under a clerk's number, and `specs/Origins.antt` what shows that a page from elsewhere sent the bytes.
+//! `specs/Targets.antt` says which targets name what, and `specs/Responses.antt` which bytes an answer has.
+//! `specs/Serving.antt` says what is answered at a state of the office, and what each end of a connection leaves.
 //!
 //! ```text
 //! match serve_one(alloc, given, &mut reader, &mut writer, &mut office) {

@@ -320,7 +320,7 @@ impl Response {
         }
     }
 
-    /// An answer with a status and a body, or the one that tells that memory is wanting.
+    /// An answer with a status and a body, or the one that memory is wanting.
     pub(crate) fn made(
         alloc: Global,
         status: StatusCode,

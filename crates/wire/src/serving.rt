@@ -84,19 +84,18 @@ pub fn tell_to_wait<W: Sink>(writer: &mut W) -> Served
 
 /// Serves one connection: reads a request, hands it on to the office, and writes the answer.
 ///
-/// `Answered`: the answer to what the reader's bytes ask was written whole, the office is at the state
-/// after it, and neither the reader nor the writer failed. After a fault of the office it tells that fault
-/// (503): the office is as it was, or closed, and then a stop leaves the state before the request or, of an
-/// accepted one, the state after it. 101 (503) is told where memory was wanting: for the request, which then
-/// wasn't handed on; for the answer, and then the office is at the state after the request; or in the
-/// office, as any fault.
+/// `Answered`: the answer to what the reader's bytes ask was written whole, the office is at the state after it, and neither the
+/// reader nor the writer failed. After a fault of the office the answer is that fault (503). The office is then as it was; or it
+/// is closed, and a stop leaves the state before the request or, of an accepted one, the state after it. The answer is 101 (503)
+/// where memory was wanting: for the request, which then wasn't handed on; for the answer, and then the office is at the state
+/// after the request; or in the office, as any fault.
 ///
-/// `ReadFailed` comes only from the reader, which counts one failure more, and only while what was read
-/// doesn't say yet what is asked: a failed read isn't answered, nothing was written, and the office is as it
-/// was. `WriteFailed` comes only from the writer, which counts one failure more, where the reader counts
-/// none: a beginning of the answer was written, the write isn't tried again, and what the office answered
-/// stands. A closed office tells that it is closed, 104 (503), where it is asked anything, and stays as it
-/// is. A request that is denied, as one of a page from elsewhere, is answered the same at every state, and so is a page that is shown.
+/// `ReadFailed` comes only from the reader, which counts one failure more, and only while what was read doesn't say yet what is
+/// asked. A failed read isn't answered: nothing was written, and the office is as it was. `WriteFailed` comes only from the
+/// writer, which counts one failure more, where the reader counts none. A beginning of the answer was written, the write isn't
+/// tried again, and what the office answered stands. A closed office answers that it is closed, 104 (503), where it is asked
+/// anything, and stays as it is. A request that is denied, as one of a page from elsewhere, is answered the same at every state, and so is a
+/// page that is shown.
 pub fn serve_one<R: Source, W: Sink, S: Alter>(
     alloc: Global,
     given: Given<'_>,

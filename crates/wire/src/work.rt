@@ -51,7 +51,7 @@ fn work_value(alloc: Global, clerk: u32, work: &[Work]) -> Result<Value, AllocEr
     json!(in alloc; {"clerk": clerk, "work": batches})
 }
 
-/// The body that tells the work of a clerk.
+/// The body with the work of a clerk.
 pub(crate) fn work_body(alloc: Global, clerk: u32, work: &[Work]) -> Result<String, AllocError>
     ensures { IfOk result (λ body. string_bytes body ≡ work_body clerk (map work_entry work.now)) }
 {

@@ -36,7 +36,7 @@ abbrev pub AreNumbered : ℕ → List Holding → Type 0
 AreNumbered n [] = ⊤
 AreNumbered n (holding ∷ holdings) = (holding.holder ≡ n) × AreNumbered (n + 1) holdings
 
--- the preferences to which a paper with these is passed on: from the next one after the first on that continues
+-- the preferences with which a paper that has these is passed on: those from the next continuing candidate after the first on
 abbrev pub passed_to : (ℕ → Bool) → List ℕ → List ℕ
 passed_to continues rest = from_first continues (drop 1 rest)
 

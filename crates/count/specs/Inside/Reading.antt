@@ -1,4 +1,4 @@
--- What figures tell, candidate by candidate: a function gives the figure of each.
+-- What figures say, candidate by candidate: a function gives the figure of each.
 use Rattle.std.specs.Prelude.{ℕ, ◌==◌, ◌||◌, Bool, nat_eq, if◌then◌else◌, List, [], ◌∷◌, map, Option, Some, None}
 use Rattle.std.specs.List.{filter, list_any}
 use Rattle.count.specs.Law.Contest.{numbers}
@@ -23,7 +23,7 @@ units_shown f candidates n = if list_any (nat_eq n) candidates then (f n).units 
 abbrev pub votes_shown : (ℕ → Figure) → List ℕ → List ℕ
 votes_shown f candidates = map (units_shown f candidates) numbers
 
--- the action on a candidate that his mark tells, where it tells one
+-- the action on a candidate that his mark shows, where it shows one
 abbrev pub action_by : ℕ → ℕ → Option Action
 action_by mark c =
     if mark == surplus_now then Some (Surplus c) else if mark == excluded_now then Some (Exclude c) else if mark == excluded_last then Some (ExcludeLast c) else None
@@ -33,7 +33,7 @@ abbrev pub action_or : Action → Option Action → Action
 action_or other None = other
 action_or other (Some action) = action
 
--- the action that is told by the first mark to tell one; where none does, the first stage's
+-- the action that the first mark to show one shows; where none does, the first stage's
 abbrev pub action_shown : (ℕ → Figure) → List ℕ → Action
 action_shown f [] = First
 action_shown f (c ∷ candidates) = action_or (action_shown f candidates) (action_by (f c).mark c)

@@ -26,8 +26,8 @@ In c candidates = list_any (nat_eq c) candidates ≡ true
 abbrev pub AreForCandidates : List ℕ → List (List ℕ) → Type 0
 AreForCandidates candidates papers = AllByRecursion (λ paper. AllByRecursion (λ c. In c candidates) paper) papers
 
--- A contest that the rules speak of: more candidates than seats, no more seats and papers than the most there are,
--- preferences for candidates alone, and the quota of just these papers and seats.
+-- A contest that the rules speak of: it has more candidates than seats, and no more seats and papers than there can be. Its preferences are for
+-- candidates alone, and its quota is that of just these papers and seats.
 pub record IsContest (contest : Contest) : Type 0 where
   pub candidate_set : IsColumnSet contest.candidates
   pub some_seats : 1 ≤ contest.seats

@@ -18,8 +18,8 @@ begun action votes = record { action = action; votes = votes; elected = []; non_
 abbrev pub votes_by : Contest → History → Action → List ℕ
 votes_by contest before action = map (votes_after contest (begun action [] ∷ before)) numbers
 
--- the stage of an action that comes after some stages, with all that it records: it is made of the action and those stages;
--- its own votes may be empty where figures are asked, since `place` reads the action and the votes of the stages before alone
+-- the stage of an action that comes after some stages, with all that it records; it is made of the action and those stages. Its own votes may be
+-- empty where figures are asked, since `place` reads the action and the votes of the stages before alone.
 abbrev pub stage_of : Contest → History → Action → Stage
 stage_of contest before action =
     record {

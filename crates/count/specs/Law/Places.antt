@@ -34,11 +34,11 @@ abbrev pub passed_on : Contest → History → ℕ → List ℕ → Place → �
 passed_on contest before c paper at new_value =
     if at.holder == c then record { holder = next_available contest before c paper; value = new_value } else at
 
--- where an action that comes after some stages brings a paper:
--- to its first preference, as one vote;
--- Transfer of ballot papers, Transfer values: on a surplus all papers of c go on, each at its value cut by the share of the surplus;
--- Exclusion of candidates: on an exclusion all papers of c go on, each at the value at which it was received;
--- Filling of last vacancies: an exclusion that fills the last vacancies moves nothing
+-- Where an action that comes after some stages brings a paper.
+-- At the first stage: to its first preference, as one vote.
+-- Transfer of ballot papers, Transfer values: on a surplus all papers of c go on, each at its value cut by the share of the surplus.
+-- Exclusion of candidates: on an exclusion all papers of c go on, each at the value at which it was received.
+-- Filling of last vacancies: an exclusion that fills the last vacancies moves nothing.
 abbrev pub moved : Contest → History → Action → List ℕ → Place → Place
 moved contest before First paper at = record { holder = first_of paper; value = one_vote }
 moved contest before (Surplus c) paper at =

@@ -11,7 +11,7 @@ use register::{DrawnLot, Receipt, Ward};
 use rowcheck::finding::{candidates_of, lots_of};
 use std::alloc::{AllocError, Global};
 
-/// Puts an order below what it was replied, since its words say nothing of that; nothing where there is no receipt.
+/// Puts an order below the reply that it got, since its words say nothing of that; nothing where there is no receipt.
 fn put_told(text: &mut String, words: &str, receipt: Option<&Receipt>) -> Result<(), AllocError> {
     let Some(receipt) = receipt else {
         return Ok(());

@@ -9,8 +9,8 @@ use register::{Batch, JudgedPaper, KeyedPaper, ThirdClerk};
 use rowcheck::finding::{keying_of, third_at, verdicts_of, ward_at};
 use std::alloc::{AllocError, Global};
 
-/// The round in which a journal has a third clerk, whenever he was given the batch: no table says in which round that
-/// was. It is accepted there, since a batch that has one was keyed unequally by its two clerks, first in this round.
+/// The round in which a journal has a third clerk, whenever he was given the batch: no table says in which round that was. He is
+/// accepted there, since a batch that has a third clerk was keyed unequally by its two clerks, first in this round.
 const FIRST_ROUND: u32 = 1;
 
 /// Puts the order that gave out a batch.

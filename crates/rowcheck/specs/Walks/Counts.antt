@@ -1,4 +1,4 @@
--- What is done of the count of a ward, told by what is due before each of its stages, and what is tabulated of it.
+-- What is done of the count of a ward, by what is due before each of its stages, and what is tabulated of it.
 use Rattle.std.specs.Prelude.{◌≡◌, ℕ, ◌-◌, Bool, true, List, ◌++◌, slice_get}
 use Rattle.count.specs.Books.{BundledBook}
 use Rattle.count.specs.Bundles.{Bundle, papers_of, bundled}

@@ -8,6 +8,6 @@ use Rattle.register.specs.Polls.{Pile, pile_of, is_settled}
 abbrev pub is_settled_for : OfficeState → ℕ → BatchEntry → Bool
 is_settled_for s ward b = not (b.ward == ward) || is_settled (pile_of s b)
 
--- what is keyed of the batches of the ward, of those in a list, and judged of it
+-- what is keyed and judged of those batches in a list that are of the ward
 abbrev pub piles_in : OfficeState → ℕ → List BatchEntry → List Pile
 piles_in s ward batches = map (pile_of s) (filter (λ (b : BatchEntry). b.ward == ward) batches)

@@ -6,8 +6,7 @@ abbrev pub skip_while : {X : Type 0} → (X → Bool) → List X → List X
 skip_while p [] = []
 skip_while p (x ∷ xs) = if p x then skip_while p xs else x ∷ xs
 
--- Whether each owner and the run of its rows pass a test, and no row is left: the next owner takes the rows of its number
--- from the front of those that are left.
+-- Whether each owner and the run of its rows pass a test, and no row is left. The next owner takes the rows of its number from the front of those that are left.
 abbrev pub pass_by_run : {W X : Type 0} → (W → ℕ) → (X → ℕ) → (W → List X → Bool) → List W → List X → Bool
 pass_by_run own key test [] xs = length xs == 0
 pass_by_run own key test (w ∷ ws) xs = test w (take_while (λ x. key x == own w) xs) && pass_by_run own key test ws (skip_while (λ x. key x == own w) xs)

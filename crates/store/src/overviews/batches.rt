@@ -30,9 +30,9 @@ pub enum Standing {
     Waiting,
 }
 
-/// A batch; its two or three clerks, in the order of their numbers; how it stands; how many doubtful papers it
-/// has without a verdict, once it is taken; and the number of the first other batch that is taken with the very
-/// same papers, of a ward with the same candidates' numbers.
+/// A batch, and its two or three clerks in the order of their numbers. It says how the batch stands, and how many doubtful papers
+/// it has without a verdict, once it is taken. It has the number of the first other batch that is taken with the very same
+/// papers, of a ward with the same candidates' numbers.
 #[derive(Drop)]
 pub struct BatchOverview {
     pub batch: Batch,
@@ -55,7 +55,7 @@ fn standing_by(keyings: &Keyings) -> Standing
     }
 }
 
-/// What is told of a batch by its clerks, its keyings and the verdicts on its papers: all but its twin.
+/// How a batch stands by its clerks, its keyings and the verdicts on its papers: all but its twin.
 fn overview_by(
     batch: Batch,
     clerks: Vec<ClerkOverview>,
@@ -175,11 +175,10 @@ impl<S: Alter> Store<S> {
         Ok(found)
     }
 
-    /// How the batches of the ward of this number stand, in the order of their numbers; none at all where there
-    /// is no such ward. Those of all wards are read once, one after the other, each with its keyings of the
-    /// current round, since a batch's twin may be of another ward; the papers of those that are taken are kept
-    /// as texts, by which twins are found. It changes nothing, and adds nothing to what a stop may leave.
-    /// `Memory` or `Store` where a row can't be read.
+    /// How the batches of the ward of this number stand, in the order of their numbers; none at all where there is no such ward.
+    /// The batches of all wards are read once, one after the other, each with its keyings of the current round, since a batch's
+    /// twin may be of another ward. The papers of those that are taken are kept as texts, by which twins are found. It changes
+    /// nothing, and adds nothing to what a stop may leave. `Memory` or `Store` where a row can't be read.
     pub fn load_batches(&mut self, ward: u32) -> Result<Option<Vec<BatchOverview>>, Fault>
         ensures { Loads S.Store self.old self.new result (λ s found. option_map (λ batches. map batch_view batches.items) found ≡ batch_views_at s ward) }
     {

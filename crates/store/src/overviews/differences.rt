@@ -44,7 +44,7 @@ fn is_apart(keyed: &KeyedPaper, second: &[KeyedPaper], third: &[KeyedPaper]) -> 
     (is_keyed(second) & !has_alike(keyed, second)) | (is_keyed(third) & !has_alike(keyed, third))
 }
 
-/// The numbers of the papers of a keying that one of two others that is there has with other marks.
+/// The numbers of the papers that one keying has with other marks than one of two others that is there.
 fn apart_among(
     alloc: Global,
     keying: &[KeyedPaper],
@@ -63,8 +63,7 @@ fn apart_among(
 }
 
 #[tactic(auto, using(crate::proofs::OverviewLemmas::apart_three))]
-/// The numbers of the papers on which these keyings differ: those of the first one that is there which
-/// another one has with other marks.
+/// The numbers of the papers on which these keyings differ: those that the first keying that is there has with other marks than another one.
 fn papers_apart(alloc: Global, keyings: &Keyings) -> Result<Vec<u32>, AllocError>
     ensures { IfOk result (λ papers. papers.items ≡ papers_apart (keyings_by keyings.now)) }
 {
@@ -106,10 +105,9 @@ impl<S: Alter> Store<S> {
         Ok(found)
     }
 
-    /// The batch with this number, if there is one, whether it differs, and the numbers of the papers on which
-    /// keyings of its current round differ, in the order of the papers; those are told too where two keyings
-    /// of three are equal. It changes nothing, and adds nothing to what a stop may leave. `Memory` or `Store`
-    /// where a row can't be read.
+    /// The batch with this number, if there is one; whether it differs; and the numbers of the papers on which keyings of its
+    /// current round differ, in the order of the papers. These are given too where two keyings of three are equal. It changes
+    /// nothing, and adds nothing to what a stop may leave. `Memory` or `Store` where a row can't be read.
     pub fn load_differences(&mut self, batch: u32) -> Result<Option<Differences>, Fault>
         ensures { Loads S.Store self.old self.new result (λ s found. option_map differences_view found ≡ differences_at s batch) }
     {

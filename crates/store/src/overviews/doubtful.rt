@@ -145,11 +145,10 @@ impl<S: Alter> Store<S> {
         Ok(DoubtfulPapers { candidates, papers })
     }
 
-    /// The doubtful papers of the taken batches of the ward of this number, by batch and paper, each as it counts,
-    /// with the verdict on it, if there is one, and the ward's candidates; none at all where there is no such ward.
-    /// Its batches are read one after the other, each with its keyings of the current round and the verdicts on
-    /// its papers. It changes nothing, and adds nothing to what a stop may leave. `Memory` or `Store` where a row
-    /// can't be read.
+    /// The doubtful papers of the taken batches of the ward of this number, by batch and paper, and the ward's candidates; none
+    /// at all where there is no such ward. Each paper comes as it counts, with the verdict on it, if there is one. The ward's
+    /// batches are read one after the other, each with its keyings of the current round and the verdicts on its papers. It
+    /// changes nothing, and adds nothing to what a stop may leave. `Memory` or `Store` where a row can't be read.
     pub fn load_doubtful(&mut self, ward: u32) -> Result<Option<DoubtfulPapers>, Fault>
         ensures { Loads S.Store self.old self.new result (λ s found. option_map doubtful_papers_view found ≡ doubtful_at s ward) }
     {

@@ -39,8 +39,8 @@ pub struct CountedPapers {
     pub papers: Vec<CountedPaper>,
 }
 
-/// The law of papers that are told as they count, for their readers: told of a ward's batches, one after the other, they
-/// have the judgements on which the ward's count rests.
+/// The law of papers that are shown as they count: those of a ward's batches, one after the other, have the judgements on which
+/// the ward's count rests. It is for their readers.
 pub fn papers_told_are_counted()
     ensures { (s : OfficeState) (ward : ℕ) → flat_map (judgements_told s) (batches_of s ward) ≡ judgements (columns_of (candidates_of s ward)) (piles_of s ward) }
 {}
@@ -98,10 +98,10 @@ impl<S: Alter> Store<S> {
         Ok(found)
     }
 
-    /// The papers of the batch with this number, if there is one, as they count: each by the judgement by which it
-    /// is counted, where the batch is taken, and none where it isn't; with the candidates of its ward. Its
-    /// candidates, its keyings of the current round and the verdicts on its papers are read. It changes nothing,
-    /// and adds nothing to what a stop may leave. `Memory` or `Store` where a row can't be read.
+    /// The papers of the batch with this number, if there is one, as they count, with the candidates of its ward. Where the batch
+    /// is taken, each paper has the judgement by which it is counted; where it isn't, there are none. The candidates, the keyings
+    /// of the current round and the verdicts on the papers are read. It changes nothing, and adds nothing to what a stop may
+    /// leave. `Memory` or `Store` where a row can't be read.
     pub fn load_batch_papers(&mut self, batch: u32) -> Result<Option<CountedPapers>, Fault>
         ensures { Loads S.Store self.old self.new result (λ s found. option_map papers_view found ≡ papers_at s batch) }
     {

@@ -14,8 +14,8 @@ use register::KeyedPaper;
 use std::alloc::{AllocError, Global};
 use std::collections::HashMap;
 
-/// What was read of a batch: its number; its papers as one text, where it is taken; and what is told of it but
-/// its twin, where it is of the ward that is asked for.
+/// What was read of a batch: its number; its papers as one text, where it is taken;
+/// and how it stands but for its twin, where it is of the ward that is asked for.
 #[derive(Drop)]
 pub(crate) struct ReadBatch {
     pub(crate) number: u32,
@@ -140,7 +140,7 @@ fn twin_under(
     first_other(group, number)
 }
 
-/// What is told of a batch that was read, with its twin among those whose numbers these are.
+/// How a batch that was read stands, with its twin among those whose numbers these are.
 fn paired(numbers: &HashMap<String, Vec<u32>>, batch: ReadBatch) -> Option<BatchOverview>
     ensures { option_map batch_view result ≡ paired (numbers_under numbers.now) (read_view batch) }
 {

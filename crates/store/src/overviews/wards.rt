@@ -89,9 +89,8 @@ impl<S: Alter> Store<S> {
         Ok(found)
     }
 
-    /// How all wards stand, in the order of their numbers: each with its status, and, once it is declared, with who is
-    /// elected, by its count as it was kept, and with its candidates. It changes nothing, and adds nothing to what a stop may
-    /// leave. `Memory` or `Store` where a row can't be read.
+    /// How all wards stand, in the order of their numbers, each with its status and its candidates. Once a ward is declared, it has who is elected,
+    /// by its count as it was kept. It changes nothing, and adds nothing to what a stop may leave. `Memory` or `Store` where a row can't be read.
     pub fn load_wards(&mut self) -> Result<Vec<WardOverview>, Fault>
         ensures { Loads S.Store self.old self.new result (λ s found. map ward_view found.items ≡ ward_views s) }
     {

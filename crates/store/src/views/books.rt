@@ -35,8 +35,7 @@ impl<S: Alter> Store<S> {
         entries_beginning::<StageFigures, S>(self.alloc, &mut self.conn, &[number(ward)])
     }
 
-    /// What is kept of the count of a ward that has a stage, of which this was found; none where what is tabulated
-    /// is that of no count, as in no office.
+    /// What is kept of the count of a ward that has a stage, by what was found of it. None where what is tabulated is of no count, as in no office.
     fn read_book(&mut self, contest: &CountedWard) -> Result<Option<KeptCount>, Fault>
         ensures { Loads S.Store self.old self.new result
             (λ s found. IsThere s contest.now → has_stages (election_in s contest.now) ≡ true → IsKept (election_in s contest.now) found) }
@@ -56,7 +55,7 @@ impl<S: Alter> Store<S> {
         }
     }
 
-    /// The count of a ward that has a stage, of which this was found, by what is tabulated and by its lots.
+    /// The count of a ward that has a stage, by what was found of it, what is tabulated, and its lots.
     pub(crate) fn kept_count(&mut self, contest: &CountedWard) -> Result<Option<Count>, Fault>
         ensures { Loads S.Store self.old self.new result
             (λ s found. IsThere s contest.now → has_stages (election_in s contest.now) ≡ true → IsCount (election_in s contest.now) found) }
@@ -69,10 +68,9 @@ impl<S: Alter> Store<S> {
         }
     }
 
-    /// The count of the ward of this number as it was kept, by what is tabulated of it and by its lots, and
-    /// no paper is read: where the ward is there and contested, once a stage is done, and else none. It
-    /// changes nothing, and adds nothing to what a stop may leave. `Memory` or `Store` where a row can't be
-    /// read.
+    /// The count of the ward of this number as it was kept, by what is tabulated of it and by its lots; no paper is read. There
+    /// is one where the ward is there and contested, once a stage is done; else there is none. It changes nothing, and adds
+    /// nothing to what a stop may leave. `Memory` or `Store` where a row can't be read.
     pub fn load_book(&mut self, ward: u32) -> Result<Option<Count>, Fault>
         ensures { Loads S.Store self.old self.new result (λ s found. IsBookFor (option_map (election_of s) (ward_at s ward)) found) }
     {

@@ -20,8 +20,8 @@ use sqlite::Alter;
 use std::alloc::Global;
 use tables::Fault;
 
-/// The part of a command that needs the poll of an election, if it is there. It fails only where the ward
-/// has no seats, or more than it can have, as none of an office has.
+/// The part of a command that needs the poll of an election, if it is there. It fails only where the ward has no seats, or more
+/// than it can have; no ward of an office is such a one.
 fn polled(alloc: Global, found: Option<Election>) -> Result<Part, Fault>
     ensures part { IfOk result (λ part. (entry : Option ElectionEntry) → IsFoundFor found entry → part_entries part ≡ polled_part entry) }
     ensures cause { IfErr result (λ f. f ≡ Fault.Store) }
@@ -85,8 +85,8 @@ impl<S: Alter> Store<S> {
         Ok(part)
     }
 
-    /// The count of a contested ward with no stage done, of which this was found: begun on its papers; and how many
-    /// of them are rejected. None where it has more seats than a ward can have, as none of an office has.
+    /// The count of a contested ward with no stage done, begun on its papers, by what was found of it; and how many of the papers
+    /// are rejected. None where it has more seats than a ward can have; no ward of an office has.
     pub(crate) fn begun_sheet(&mut self, contest: CountedWard) -> Result<Option<WardSheet>, Fault>
         ensures { Loads S.Store self.old self.new result
             (λ s found. IsThere s contest → has_count (election_in s contest) ≡ true → contest.ward.done ≡ 0 → IsBegun (election_in s contest) found) }
@@ -99,8 +99,8 @@ impl<S: Alter> Store<S> {
         }
     }
 
-    /// The count of a contested ward that has a stage, of which this was found: as it was kept, by what is
-    /// tabulated alone. None where that is of no count, as in no office.
+    /// The count of a contested ward that has a stage, as it was kept, by what is
+    /// tabulated alone. None where what is tabulated is of no count, as in no office.
     pub(crate) fn resumed_count(
         &mut self,
         contest: CountedWard,
@@ -118,8 +118,7 @@ impl<S: Alter> Store<S> {
         }
     }
 
-    /// The count of a contested ward, of which this was found: begun on its papers where no stage is done, and
-    /// else by what is tabulated alone.
+    /// The count of a contested ward, by what was found of it: begun on its papers where no stage is done, and else by what is tabulated alone.
     pub(crate) fn contested_count(
         &mut self,
         contest: CountedWard,

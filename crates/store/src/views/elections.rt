@@ -74,7 +74,7 @@ impl<S: Alter> Store<S> {
         }
     }
 
-    /// What the papers of batches come to, read one batch after the other, and kept in what holds none yet.
+    /// What the papers of batches come to. They are read one batch after the other, and kept in what holds none yet.
     fn ballots_of<P: KeepsPapers + Drop>(
         &mut self,
         kept: P,
@@ -93,8 +93,8 @@ impl<S: Alter> Store<S> {
         Ok(ballots)
     }
 
-    /// What the papers of a ward come to, whose columns these are. Where it is in count they are taken in as each
-    /// batch is settled with them; else the keyings of all clerks are read, one batch after the other.
+    /// What the papers of a ward come to, by its columns. Where the ward is in count, they are taken in as those of settled
+    /// batches are; else the keyings of all clerks are read, one batch after the other.
     pub(crate) fn ward_ballots<P: KeepsPapers + Drop>(
         &mut self,
         kept: P,

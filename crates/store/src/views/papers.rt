@@ -23,8 +23,8 @@ use tables::finding::{entries_beginning, find_entry};
 /// The number of the first paper of a batch.
 pub(crate) const FIRST_PAPER: u32 = 1;
 
-/// The keyings of the current round of a batch by its two or three clerks, in the order of the clerks' numbers,
-/// each in the order of its papers and empty where it isn't there; and the third clerk, where one is set.
+/// The keyings of the current round of a batch by its two or three clerks, in the order of the clerks' numbers; and the third
+/// clerk, where one is set. Each keying is in the order of its papers, and empty where it isn't there.
 #[derive(Drop)]
 pub(crate) struct Keyings {
     pub(crate) third_clerk: Option<ThirdClerk>,
@@ -57,8 +57,7 @@ impl Keyings {
 }
 
 impl<S: Alter> Store<S> {
-    /// Whether a clerk has keyed a batch in a round. Of a keying that is there no paper is missing, so that its
-    /// first one tells.
+    /// Whether a clerk has keyed a batch in a round. Of a keying that is there no paper is missing, so its first paper shows it.
     pub(crate) fn has_keyed(&mut self, batch: u32, round: u32, clerk: u32) -> Result<bool, Fault>
         ensures { Loads S.Store self.old self.new result (λ s found. found ≡ is_keyed (keying_of s batch round clerk)) }
     {

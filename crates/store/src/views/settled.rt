@@ -91,8 +91,8 @@ fn add_each<P: KeepsPapers>(
 }
 
 impl<S: Alter> Store<S> {
-    /// Adds the papers of a batch that of its two clerks the one with the lower number keyed in its current round,
-    /// row by row, where the walk begins.
+    /// Adds the papers of a batch as the one of its two clerks with the lower
+    /// number keyed them in its current round, row by row, where the walk begins.
     fn walk_papers<P: KeepsPapers + Drop, B: Start>(
         &mut self,
         ballots: Ballots<P>,
@@ -124,8 +124,7 @@ impl<S: Alter> Store<S> {
         Ok(counted.ballots)
     }
 
-    /// Adds the papers of a batch that a third clerk keys too, whose verdicts these are: those of the first of its
-    /// keyings that another one equals.
+    /// Adds the papers of a batch that a third clerk keys too, with these verdicts: those of the first of its keyings that another one equals.
     fn add_agreed<P: KeepsPapers + Drop>(
         &mut self,
         ballots: Ballots<P>,

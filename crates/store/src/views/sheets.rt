@@ -46,8 +46,8 @@ impl<S: Alter> Store<S> {
         Ok(ballots.rejected)
     }
 
-    /// The count of a ward in count that has a stage, of which this was found, by what is tabulated alone; and how
-    /// many of its papers are rejected. None where what is tabulated is of no count, as in no office.
+    /// The count of a ward in count that has a stage, by what is tabulated alone; and how many of its papers are rejected. None
+    /// where what is tabulated is of no count, as in no office.
     fn resumed_sheet(&mut self, contest: CountedWard) -> Result<Option<WardSheet>, Fault>
         ensures { Loads S.Store self.old self.new result
             (λ s found. IsThere s contest → is_in_count_of (election_in s contest) ≡ true → (contest.ward.done ≡ 0 → ⊥) → IsSheet (election_in s contest) found) }
@@ -74,9 +74,9 @@ impl<S: Alter> Store<S> {
         }
     }
 
-    /// What the stage sheet of the ward of this number is written from, if it is there: what `load_counted`
-    /// tells, and how many of its papers are rejected, which is counted from the papers. It changes nothing,
-    /// and adds nothing to what a stop may leave. `Memory` or `Store` where a row can't be read.
+    /// What the stage sheet of the ward of this number is written from, if the ward is there. It is what `load_counted` gives,
+    /// and how many of its papers are rejected, which is counted from the papers. It changes nothing, and adds nothing to what a
+    /// stop may leave. `Memory` or `Store` where a row can't be read.
     pub fn load_sheet(&mut self, ward: u32) -> Result<Option<WardSheet>, Fault>
         ensures { Loads S.Store self.old self.new result (λ s found. IsSheetFor (option_map (election_of s) (ward_at s ward)) found) }
     {
