@@ -10,7 +10,7 @@ use thiserror::Error;
 /// What is wrong with a line.
 #[derive(Clone, Copy, Debug, PartialEq, Eq, Drop)]
 pub enum Flaw {
-    /// It doesn't begin with a clerk's number, 1 to 999, and a blank.
+    /// What stands before its first blank is no clerk's number, 1 to 999.
     NoEntry,
     /// What stands behind the blank is no code: 8 to 64 letters, digits and signs.
     BadCode,

@@ -50,7 +50,7 @@ impl Credentials {
     }
 
     /// A text is these credentials. Two digests are compared, and only where they are equal the texts: how long that
-    /// takes tells nothing of how much of the text is right.
+    /// takes shows nothing of how much of the text is right.
     fn are(&self, text: &[u8], digest: &[u8; 32]) -> bool
         requires { digest.now ≡ sha256 text.now }
         ensures { result ≡ bytes_eq text.now (string_bytes self.now.text) }
@@ -87,7 +87,7 @@ pub(crate) fn credentials_by(
 }
 
 impl Codes {
-    /// A text is the credentials of this clerk, and of nobody else. How long the answer takes tells nothing of how much of the
+    /// A text is the credentials of this clerk, and of nobody else. How long the answer takes shows nothing of how much of the
     /// text is right: it is hashed whole, and digests are compared first.
     pub fn admits(&self, clerk: u32, text: &[u8]) -> bool
         ensures { result ≡ is_of (holders_of self.now) clerk text.now }

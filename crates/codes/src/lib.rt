@@ -1,8 +1,8 @@
 //! The codes of clerks: read from a file, compared with what a browser sends (`Authorization: Basic`), and made.
 //!
 //! [`Codes::read`](Codes) reads a file's text, a line a clerk. [`Codes::admits`](Codes) compares a text with a clerk's
-//! credentials: by their digests first, so that the time tells nothing of how much of it is right. [`Tries`] says who waits
-//! for wrong codes, by the moments of a clock that it is told. [`make`] makes the text of a new file.
+//! credentials: by their digests first, so that the time shows nothing of how much of it is right. [`Tries`] says who waits
+//! for wrong codes, by the moments of a clock that it is given. [`make`] makes the text of a new file.
 //!
 //! `specs/Codes.antt` says what the credentials of a clerk are, and whose a text is; `specs/Files.antt` what a file of codes
 //! says, `specs/Tries.antt` who waits, and `specs/Making.antt` what is made. Nothing is said of how likely a code is.

@@ -1,7 +1,7 @@
 //! What an order needs beside the office that is served, from this machine: the file of a copy, and memory for the trial of a
 //! journal.
 
-ghost use Rattle.std.specs.Prelude.{◌-◌, ◌^◌, ◌<◌};
+ghost use Rattle.std.specs.Prelude.{◌-◌, ◌<◌};
 
 use crate::copy_served;
 use desk::{Failure, journal_open, tell_failure};

@@ -54,7 +54,7 @@ pub fn read_codes(rt: &HostRuntime, path: &str) -> Result<Codes, ReadError> {
     }
 }
 
-/// Tells why codes aren't taken, or not made, and gives the status.
+/// Prints why codes aren't taken, or not made, and gives the status.
 pub fn tell_untaken<E: Sink>(why: ReadError, err: &mut E) -> u8
     requires { E.failed err.old < 2 ^ 64 - 1 }
 {

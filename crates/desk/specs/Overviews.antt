@@ -128,7 +128,7 @@ differences_line v = codes "batch " ++ (decimal v.batch.number ++ (codes " round
 unfoldable pub receipt_line : ReceiptEntry → Text
 receipt_line r = codes "actor " ++ (decimal r.actor ++ (codes " id " ++ (r.id ++ (codes ", " ++ (r.subject ++ (codes ": " ++ r.reply))))))
 
--- ---- what is told
+-- ---- what is printed
 
 -- each in a line of its own
 abbrev pub lines_of : {X : Type 0} → (X → Text) → List X → Text

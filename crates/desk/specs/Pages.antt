@@ -246,7 +246,7 @@ IsErrorTold taken failed old new text wanted status =
     (Appends (taken old) (taken new) text × (failed new ≡ failed old) × (status ≡ wanted))
     ⊎ (AppendsBeginning (taken old) (taken new) text × (failed new ≡ failed old + 1) × (status ≡ 3))
 
--- ---- what was told of a page
+-- ---- what was printed of a page
 
 -- the two outputs: the bytes that each took, as far as it says which, and how many of its calls failed
 pub record Outputs : Type 0 where

@@ -58,11 +58,11 @@ pub enum Errand<'a> {
         ward: u32,
         id: &'a str,
     },
-    /// Tell how a ward stands.
+    /// Print how a ward stands.
     TellStatus {
         ward: u32,
     },
-    /// Tell what comes next in a ward.
+    /// Print what comes next in a ward.
     TellNext {
         ward: u32,
     },
@@ -75,7 +75,7 @@ pub enum Errand<'a> {
     PrintIndex {
         title: &'a str,
     },
-    /// Tell this of how all stands.
+    /// Print this of how all stands.
     Ask(Question),
 }
 

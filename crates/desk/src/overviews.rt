@@ -233,7 +233,7 @@ impl Lined for Receipt {
     }
 }
 
-// ---- what is told
+// ---- what is printed
 
 /// Puts something behind what stands there, in a line of its own.
 fn put_line<T: Lined>(alloc: Global, text: &mut String, told: &T) -> Result<(), AllocError>

@@ -95,7 +95,7 @@ brought_at (p ∷ ps) path = if bytes_eq p.name path then option_map Some p.byte
 abbrev pub folder_of : List PieceEntry → Folder
 folder_of files path = Some (brought_at files path)
 
--- ---- what is told of it
+-- ---- what is printed of it
 
 -- two outputs that took nothing yet
 abbrev pub untold : Outputs
@@ -156,7 +156,7 @@ pub record FollowsOrder {S : Type 0} (file : FileNumbers) (state_of : Held S →
   pub is : AsksOrder file got files asked
   pub tells : TellsAsked state_of old files asked frames new
 
--- ---- what is told at a state
+-- ---- what is printed at a state
 
 -- of requests that were sent, the first so many were answered, and the next one, if there is one, was the last that was sent
 abbrev pub AreAnswered : List Request → ℕ → List Request → List Request → Type 0

@@ -22,8 +22,8 @@ use Rattle.hall.specs.Handings.{FollowsOrder, IsTurnedAway, TellsOrder}
 use Rattle.hall.specs.Reads.{AreReadAt, Desk, must_wait, tries_behind}
 use Rattle.hall.specs.Terms.{Given}
 
--- Who had a turn, a client or an order that was handed over: the door at which he came in, his number in the order of coming, the moment of his turn
--- (by a clock, in milliseconds), what was gathered of him, and the answer that was put for him.
+-- Who had a turn, a client or an order that was handed over. He has the door at which he came in, his number in the order of coming, and the moment of his
+-- turn, by a clock in milliseconds. He has what was gathered of him, and the answer that was put for him.
 pub record Visit : Type 0 where
   pub door : Door
   pub number : ℕ
@@ -62,11 +62,11 @@ pub record ServesClient {S : Type 0} (given : GivenEntry) (state_of : Held S →
   pub turned_away : old.office.closed ≡ true → EndsSo visit (IsServed (ReadiesClosed given (Some visit.got))) × (new.office ≡ old.office)
   pub clean : HasCleanDisk (state_of new.office.held) → HasCleanDisk (state_of old.office.held)
 
--- a client is told that he must wait
+-- a client gets the answer that he must wait
 abbrev pub IsToldToWait : Visit → Type 0
 IsToldToWait visit = EndsSo visit (IsServed (IsWritten waits_response))
 
--- a client knocks under the number of a clerk who must wait: he is told so, and all stays as it is
+-- a client knocks under the number of a clerk who must wait: the answer says so, and all stays as it is
 pub record IsKeptWaiting {S : Type 0} (given : GivenEntry) (old : Desk S) (visit : Visit) (new : Desk S) : Type 0 where
   pub knock : Option KnockEntry
   pub is : IsKnock given visit.got knock

@@ -10,7 +10,7 @@ use codes::Tries;
 use std::alloc::Global;
 use wire::Knock;
 
-/// The answers to reads that were told since anything may have changed; and the wrong codes that came.
+/// The answers to reads since anything may have changed; and the wrong codes that came.
 #[derive(Drop)]
 pub struct Remembered {
     pub reads: Kept,

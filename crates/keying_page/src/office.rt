@@ -43,7 +43,7 @@ const LATER = 'Ask again in a moment. What you keyed is kept here.';
 
 const isRefusal = (answer) => answer?.status === 409 && Number.isInteger(answer.says?.refusal);
 const isFault = (answer) => answer?.status === 503 && Number.isInteger(answer.says?.fault);
-// Nobody can tell from it whether the office kept what was sent.
+// Nobody can see from it whether the office kept what was sent.
 const isUnknown = (answer) => !answer || answer.status < 400 || answer.status >= 500;
 const isReply = (answer, {batch, round}) => answer?.status === 200 && answer.says?.reply === `batch ${batch} round ${round} keyed`;
 

@@ -68,7 +68,7 @@ const onPaperKey = (event) => {
   else take(key);
 };
 
-// Keyboards on a screen tell what they write, and no key.
+// A keyboard on a screen reports what it writes, and no key.
 const onPaperInput = (event) => {
   event.preventDefault();
   if (event.inputType === 'deleteContentBackward') take('Backspace');

@@ -18,7 +18,7 @@ const FOUR: &str = "Basic NDprZjdtLTJ3eHQ=";
 
 const NINE: &str = "Basic OTp3M2hkLTRwc24=";
 
-/// Texts that are no files of codes, and what is told of each.
+/// Texts that are no files of codes, and the fault of each.
 const FAULTS: [(&str, &str); 16] = [
     ("4", "2 at 1"),
     ("kf7m-2wxt\n", "1 at 1"),
@@ -123,7 +123,7 @@ const KNOCKS: [(&str, u32, u64, bool); 8] = [
     (NINE, 0, 260_001, false),
 ];
 
-/// What is told of a text that is a file of codes, or isn't.
+/// What is reported of a text that is a file of codes, or isn't.
 fn fault_in(alloc: Global, text: &str) -> Result<String, AllocError> {
     match Codes::read(alloc, text.as_bytes()) {
         Ok(_) => String::from_str(alloc, "none"),
@@ -187,7 +187,7 @@ fn gate_of(codes: &Codes) -> Given<'_> {
     }
 }
 
-/// What texts are told that are no files of codes.
+/// What is reported of texts that are no files of codes.
 fn faults_are_told(rt: &(impl Abort + AllocGlobal)) -> Result<(), Fail> {
     for (text, told) in &FAULTS {
         is_text(rt, fault_in(rt.alloc(), *text)?.as_str(), *told);
@@ -218,7 +218,7 @@ fn asks_all(rt: &(impl Abort + AllocGlobal), given: Given<'_>) -> Result<(), Fai
     Ok(())
 }
 
-/// A code is wanted once, and of nobody but a clerk; and a page from elsewhere is told so first.
+/// A code is wanted once, and of nobody but a clerk; and a page from elsewhere is refused first.
 fn asks_beside(rt: &(impl Abort + AllocGlobal), given: Given<'_>) -> Result<(), Fail> {
     for (line, headers, asked) in &BESIDE {
         asks_at(rt, given, *line, *headers, *asked)?;

@@ -38,7 +38,7 @@ columns_told s batch = if is_batch_number batch then found_or NoSuchBatch (colum
 abbrev pub work_told : OfficeState → ℕ → Result (List WorkEntry) Reason
 work_told s clerk = if is_clerk clerk then Ok (work_of s clerk) else Err NumberOutOfRange
 
--- what is told of the papers of a batch to one of its clerks; a batch that isn't there is nobody's
+-- what is read of the papers of a batch for one of its clerks; a batch that isn't there is nobody's
 abbrev pub paper_told : OfficeState → ℕ → ℕ → Result BallotPaperEntry Reason
 paper_told s clerk batch = if is_clerk clerk && is_batch_number batch then found_or NotItsClerk (paper_at s clerk batch) else Err NumberOutOfRange
 

@@ -156,7 +156,7 @@ impl<S: Alter> Office<S> {
     ///
     /// It rests on what the clerk sees of the state alone. Refused where a number is out of its range, or he is no clerk
     /// of such a batch. Nothing is changed. `Memory` leaves the office open; any other fault closes it. A closed office
-    /// tells `Closed`.
+    /// answers `Closed`.
     pub fn paper(&mut self, clerk: u32, batch: u32) -> Result<BallotPaper, Stop>
         ensures reads { ReadWhenOpen (state S.Store) self.old self.new paper_entry (λ s. paper_told s clerk batch) result }
         ensures blind { WhenOpenAt (state S.Store) self.old self.new (λ s. IfOk result (λ paper. Some (paper_entry paper) ≡ paper_at (seen_by clerk s) clerk batch)) }

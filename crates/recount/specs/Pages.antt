@@ -116,7 +116,7 @@ hindered_text problem.Memory = error_line (problem_text problem.Memory)
 -- what comes of the program's words, in words
 abbrev pub text_of : Outcome → Text
 text_of outcome.Help = HELP.now
-text_of outcome.NotAsked = codes "error: give the path of the ballots, and that of the sheet; --help tells more\n"
+text_of outcome.NotAsked = codes "error: give the path of the ballots, and that of the sheet; --help says more\n"
 text_of outcome.NotUtf8 = codes "error: a word is not UTF-8\n"
 text_of (outcome.Unread path why) = joined (codes "error: " ∷ shown (string_bytes path) ∷ codes " can't be read: " ∷ string_bytes why ∷ codes "\n" ∷ [])
 text_of (outcome.Checked checked hint) = checked_text checked hint

@@ -139,7 +139,7 @@ pub(crate) fn text_of(alloc: Global, outcome: &Outcome) -> Result<String, AllocE
         Outcome::Help => String::from_str(alloc, HELP),
         Outcome::NotAsked => String::from_str(
             alloc,
-            "error: give the path of the ballots, and that of the sheet; --help tells more\n",
+            "error: give the path of the ballots, and that of the sheet; --help says more\n",
         ),
         Outcome::NotUtf8 => String::from_str(alloc, "error: a word is not UTF-8\n"),
         Outcome::Unread { path, why } => {

@@ -86,7 +86,7 @@ impl Flaw {
             Flaw::Astray => {
                 "a comment that begins with Ward, Rejected or Lot, but is not written as ours are"
             }
-            Flaw::Twice => "told a second time",
+            Flaw::Twice => "given a second time",
             Flaw::NoSize => "the file ends before the candidates and seats",
             Flaw::NoEnd => "the file ends before the line 0 behind the papers",
             Flaw::NamesWanting => "the file ends before the ward's name",

@@ -210,7 +210,7 @@ pub fn work_is_seen()
     ensures { (s : OfficeState) (clerk : ℕ) → work_of (seen_by clerk s) clerk ≡ work_of s clerk }
 {}
 
-/// What stands on the papers of a batch is told by what its clerk sees alone: wards, candidates and batches.
+/// What stands on the papers of a batch hangs on what its clerk sees alone: wards, candidates and batches.
 pub fn paper_is_seen()
     ensures { (s : OfficeState) (clerk batch : ℕ) → paper_at (seen_by clerk s) clerk batch ≡ paper_at s clerk batch }
 {}

@@ -84,7 +84,7 @@ LeavesOldOrNew form s old new = (trees : Trees) → new.may_leave trees → (old
 abbrev pub HoldsNoOlder : Database → Type 0
 HoldsNoOlder db = (form : OlderForm) (s : OfficeState) → ¬ HoldsOlder form db s
 
--- ---- what a migration tells
+-- ---- what a migration reports
 
 -- the database held this state: at this version, where nothing was to be done, or as an older office
 abbrev pub WasAt : Database → Migrated → OfficeState → Type 0

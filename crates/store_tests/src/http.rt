@@ -281,14 +281,14 @@ const BY_HIS_CODE: &[u8] =
 const BY_A_WRONG_ONE: &[u8] =
     b"GET /clerks/4/work HTTP/1.1\r\nAuthorization: Basic OTp3M2hkLTRwc24=\r\n\r\n";
 
-/// What is told of the last two, and of whoever knocks behind ten wrong ones.
+/// The answers to the last two, and to whoever knocks behind ten wrong ones.
 const UNAUTHORIZED: &str =
     "HTTP/1.1 401 Unauthorized\r\nContent-Type: application/json\r\nContent-Length: 24\r\nWWW-Authenticate: Basic realm=\"clerk 4\", charset=\"UTF-8\"\r\nConnection: close\r\n\r\n{\"error\":\"unauthorized\"}";
 
 const MUST_WAIT: &str =
     "HTTP/1.1 429 Too Many Requests\r\nContent-Type: application/json\r\nContent-Length: 32\r\nRetry-After: 60\r\nConnection: close\r\n\r\n{\"error\":\"too many wrong codes\"}";
 
-/// What comes, and what is told: clerk 4's work by his code alone, also where it was kept; behind ten wrong codes nobody is told
+/// What comes, and each answer: clerk 4's work by his code alone, also where it was kept. Behind ten wrong codes nobody gets
 /// it. A sheet is everyone's.
 const AT_THE_GATE: [(&[u8], &str); 18] = [
     (BY_HIS_CODE, FOUR_TO_KEY),
@@ -320,7 +320,7 @@ fn knocking<'a>(alloc: Global) -> Result<Vec<Option<Client<'a>>>, AllocError> {
     Ok(comers)
 }
 
-/// What they are told.
+/// The answers that they get.
 fn told_at_the_gate(alloc: Global) -> Result<Vec<&'static str>, AllocError> {
     let mut texts = Vec::new(alloc);
     for (_, told) in &AT_THE_GATE {
@@ -329,7 +329,7 @@ fn told_at_the_gate(alloc: Global) -> Result<Vec<&'static str>, AllocError> {
     Ok(texts)
 }
 
-/// An evening with codes: each is told by his own alone.
+/// An evening with codes: each is answered by his own alone.
 fn come_with_codes<M: Machine + Drop>(
     rt: &(impl Abort + AllocGlobal),
     machine: M,

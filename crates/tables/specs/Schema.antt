@@ -26,7 +26,7 @@ use Rattle.tables.specs.declared.table.Table.TheVariants.{Office, Ward, Candidat
 abbrev pub Definition : Type 0
 Definition = sqlite_table.Table
 
--- ---- what tells the tables apart
+-- ---- by what the tables differ
 
 -- a column as the text of its table has it: whole numbers, texts or bytes, and the range that they are held to
 pub record Field : Type 0 where

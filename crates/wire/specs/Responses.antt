@@ -9,8 +9,8 @@ use Rattle.wire.specs.declared.denial.Verb.{Verb}
 use Rattle.wire.specs.declared.response.Content.{Content}
 use Rattle.wire.specs.declared.response.Content.TheVariants.{Html, Json, Text}
 
--- what a line of an answer says beside its body: nothing; the verb that is served; that a clerk's code is asked for; that he is to wait a minute; what a browser
--- may do with a page, by its policy; or that it is to forget a code
+-- What a line of an answer says beside its body: nothing; the verb that is served; that a clerk's code is asked for; or that he is to wait a minute. Or it says
+-- what a browser may do with a page, by its policy; or that it is to forget a code.
 pub data More : Type 0 where
   nothing : More
   allows : Verb → More

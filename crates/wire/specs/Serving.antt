@@ -119,7 +119,7 @@ IsReadTold entry view (Ok y) response = IsTold (entry (view y)) response
 IsReadTold entry view (Err (Refused why)) response = IsTold (refused_for why) response
 IsReadTold entry view (Err (Failed f)) response = IsTold (fault_response (fault_number f)) response
 
--- ---- what is told, and what is handed on for it
+-- ---- what is answered, and what is handed on for it
 
 -- the requests that are handed on for what is asked at a state, and the answer: a clerk's keying is handed on, and the answer is what the office says to it
 abbrev pub TellsAsked : OfficeState → AskedEntry → Response → List Request → Type 0

@@ -116,7 +116,7 @@ fn answer_work(alloc: Global, clerk: u32, told: Result<Vec<Work>, Stop>) -> Resp
     }
 }
 
-/// The answer that tells the candidates of a batch, or why there is none.
+/// The answer that names the candidates of a batch, or why there is none.
 fn answer_paper(alloc: Global, batch: u32, told: Result<BallotPaper, Stop>) -> Response
     ensures { IsReadTold (paper_response batch) paper_entry told result }
 {

@@ -38,7 +38,7 @@ fn paper_value(alloc: Global, batch: u32, paper: &BallotPaper) -> Result<Value, 
     })
 }
 
-/// The body that tells what stands on the papers of a batch.
+/// The body that says what stands on the papers of a batch.
 pub(crate) fn paper_body(
     alloc: Global,
     batch: u32,

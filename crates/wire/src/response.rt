@@ -72,7 +72,7 @@ const WAITS: &str =
 const LEFT: &str =
     "HTTP/1.1 200 OK\r\nContent-Type: application/json\r\nContent-Length: 13\r\nClear-Site-Data: \"cookies\"\r\nCache-Control: no-store\r\nConnection: close\r\n\r\n{\"left\":true}";
 
-/// What is told to who comes without a code, or with a wrong one.
+/// The answer to who comes without a code, or with a wrong one.
 const NO_CODE: &str = "{\"error\":\"unauthorized\"}";
 
 /// The answer where memory is wanting, and none is left to write another.
@@ -152,7 +152,7 @@ fn phrase(status: StatusCode) -> &'static str
 }
 
 #[tactic(auto, unfolding(crate::specs::Responses::lines_and_body))]
-/// The lines of an answer, with those of what it tells beside, an empty line, and the body.
+/// The lines of an answer, with those of what it says beside, an empty line, and the body.
 fn lines_and_body(
     alloc: Global,
     code: u16,
@@ -253,7 +253,7 @@ fn page_response_text(alloc: Global, page: Page<'_>) -> Result<String, AllocErro
 }
 
 impl Response {
-    /// An answer of a status by its text, or the one that tells that memory is wanting.
+    /// An answer of a status by its text, or the one that says that memory is wanting.
     fn of_text(status: u16, text: Result<String, AllocError>) -> Response
         ensures told { IfOk text (λ made. (result.status ≡ status) × (told_bytes result.bytes ≡ string_bytes made)) }
         ensures memory { OnErr text (IsWritten (fault_response 101) result) }
@@ -267,7 +267,7 @@ impl Response {
         }
     }
 
-    /// The answer to a request that is denied; or the one that tells that memory is wanting, where a clerk's code is asked for.
+    /// The answer to a request that is denied; or the one that says that memory is wanting, where a clerk's code is asked for.
     pub(crate) fn denied(alloc: Global, why: Denial) -> Response
         ensures { IsTold (denied_response why) result }
     {
@@ -290,7 +290,7 @@ impl Response {
         }
     }
 
-    /// What is shown to a clerk whatever the state is; or the answer that tells that memory is wanting.
+    /// What is shown to a clerk whatever the state is; or the answer that says that memory is wanting.
     pub(crate) fn shown(alloc: Global, show: Show<'_>) -> Response
         ensures { IsTold (shown_response (show_entry show.entry)) result }
     {

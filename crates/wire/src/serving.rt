@@ -70,7 +70,7 @@ fn put<W: Sink>(writer: &mut W, response: &Response) -> Served
     }
 }
 
-/// Tells who must wait that he must: wrong codes came under the number for which he asks.
+/// Answers who must wait that he must: wrong codes came under the number for which he asks.
 ///
 /// `WriteFailed` comes only from the writer, which counts one failure more: a beginning of the answer was written.
 pub fn tell_to_wait<W: Sink>(writer: &mut W) -> Served

@@ -64,7 +64,7 @@ impl<S: Alter> Store<S> {
     }
 
     /// Where the first paper of a keying stands, if it is there. The state doesn't say where, so neither does a
-    /// clause: what is read there tells whether it is the keying.
+    /// clause: what is read there shows whether it is the keying.
     fn find_first(&mut self, batch: u32, round: u32, clerk: u32) -> Result<Option<i64>, Fault>
         ensures { Loads S.Store self.old self.new result (λ s found. ⊤) }
     {

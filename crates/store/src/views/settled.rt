@@ -2,7 +2,7 @@
 
 ghost use Rattle.std.specs.Prelude.{◌≡◌, [], map, Some, IfOk, IfErr};
 ghost use Rattle.tables.specs.declared.fault.Fault.{Fault};
-ghost use Rattle.register.specs.Offices.{batch_entry, third_entry, keyed_entry, judged_entry, third_at, keying_of, verdicts_of};
+ghost use Rattle.register.specs.Offices.{batch_entry, third_entry, keyed_entry, judged_entry, third_at, keying_of};
 ghost use Rattle.register.specs.Papers.{taken_papers};
 ghost use Rattle.register.specs.Polls.{lower_clerk, settled_papers, settled_judgements, ballots_by, StandFor};
 ghost use Rattle.store.specs.Loads.{Loads, IsOpen};
