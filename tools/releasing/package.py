@@ -63,11 +63,12 @@ def same_time(folder, time):
 
 
 def package(files, version, architecture, time):
-    """The package's bytes: {path: (mode, bytes)} below /usr, at one time."""
+    """The package's bytes: {path: (mode, bytes)} below /usr, at one time; and the folder of its offices' settings."""
     with tempfile.TemporaryDirectory() as room:
         root = os.path.join(room, 'root')
         for path, (mode, text) in files.items():
             write(os.path.join(root, 'usr', path), text, mode, time)
+        os.makedirs(os.path.join(root, 'etc', 'count-office'))
         size = sum(len(text) for _, text in files.values()) // 1024 + 1
         control = CONTROL.format(version=version, architecture=architecture, size=size).encode()
         write(os.path.join(root, 'DEBIAN', 'control'), control, 0o644, time)
