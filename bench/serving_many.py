@@ -240,10 +240,17 @@ def handed_over(town, words, runs):
     return min(times)
 
 
-def order_line(town, name, words, runs):
-    alone, _ = best(town, [PROGRAM, *words])
-    served = handed_over(town, words, runs)
+def both(town, words, runs):
+    """How long an order takes alone, and handed over."""
+    return best(town, [PROGRAM, *words])[0], handed_over(town, words, runs)
+
+
+def line_of(name, alone, served):
     return f"| {name} | {1000 * alone:.0f} ms | {1000 * served:.0f} ms | {served / alone:.3f} |"
+
+
+def order_line(town, name, words, runs):
+    return line_of(name, *both(town, words, runs))
 
 
 def orders_in_keying(folder, count, runs):
@@ -265,15 +272,35 @@ def orders_in_keying(folder, count, runs):
     ]]
 
 
+def count_of_stages(town):
+    """How many stages a sealed ward has."""
+    copy = town + ".counted"
+    shutil.copyfile(town, copy)
+    stages = counting.advance(copy, None)
+    os.remove(copy)
+    return stages
+
+
+def all_stages(town, runs):
+    """Counts a ward, and times each stage's advance before it is done; and the sheet behind three."""
+    times = []
+    for stage in range(count_of_stages(town)):
+        if stage == 3:
+            sheet = both(town, ["sheet", "7"], runs)
+        times.append(both(town, ["advance", "7", "--id", "x"], runs))
+        counting.advance(town, 1, stage)
+    return times, sheet
+
+
 def orders_in_count(folder, count, runs):
     town = counting.make_ward(folder, count)
     lines = [order_line(town, "`seal`", ["seal", "7", "--id", "x"], runs)]
     play(folder, town, "seal", "7", "--id", "seal")
-    lines.append(order_line(town, "`advance`, the first stage", ["advance", "7", "--id", "x"], runs))
-    counting.advance(town, 3)
-    for name, words in (("`advance`", ["advance", "7", "--id", "x"]), ("`sheet`, 3 stages", ["sheet", "7"])):
-        lines.append(order_line(town, name, words, runs))
-    counting.advance(town, None, 3)
+    stages, sheet = all_stages(town, runs)
+    lines.append(line_of("`advance`, the first stage", *stages[0]))
+    lines.append(line_of("`advance`, the fourth stage", *stages[3]))
+    lines.append(line_of(f"`advance`, {len(stages)} stages, one after the other", *map(sum, zip(*stages))))
+    lines.append(line_of("`sheet`, 3 stages", *sheet))
     lines.append(order_line(town, "`declare`", ["declare", "7", "--id", "x"], runs))
     play(folder, town, "declare", "7", "--id", "declare")
     lines.append(order_line(town, "`result`", ["result", "7"], runs))
