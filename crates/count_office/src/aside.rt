@@ -3,7 +3,7 @@
 
 ghost use Rattle.std.specs.Prelude.{◌-◌, ◌<◌};
 
-use crate::copy_served;
+use crate::copies::copy_served;
 use desk::{Failure, journal_open, tell_failure};
 use hall::Aside;
 use office::Office;

@@ -9,7 +9,7 @@
 //! ```
 #![tactic(auto)]
 
-ghost use Rattle.std.specs.Prelude.{◌≡◌, ◌+◌, ◌-◌, ◌^◌, ◌<◌, IfSome, IsSomeAnd, None, Some};
+ghost use Rattle.std.specs.Prelude.{◌≡◌, ◌+◌, ◌-◌, ◌^◌, ◌<◌, IfSome, None, Some};
 ghost use Rattle.sqlite.specs.Effect.{Database};
 ghost use Rattle.sqlite.specs.Held.{state};
 ghost use Rattle.sqlite.specs.State.{HasCleanDisk};
@@ -17,16 +17,15 @@ ghost use Rattle.register.specs.Offices.{OfficeState};
 ghost use Rattle.tables.specs.Contents.{RestsAt};
 ghost use Rattle.tables.specs.Reading.{OnlyReads};
 ghost use Rattle.store.specs.Openings.{IsLeftAt};
-ghost use Rattle.office.specs.Answers.{IsReadAt, WhenOpenAt};
 ghost use Rattle.desk.specs.Journals.{IsJournalTold, IsToldElsewhere};
 ghost use Rattle.desk.specs.Pages.{Tells, outputs_of};
-ghost use Rattle.hall.specs.Handings.{IsCopyTold};
-ghost use Rattle.count_office.specs.Done.{EndsCopy, IsDone};
+ghost use Rattle.count_office.specs.Done.{IsDone};
 ghost use Rattle.sqlite_wal.specs.Reads.{AreClean};
 ghost use Rattle.sqlite.specs.Closing.{IsCopied};
 
 mod aside;
 mod beside;
+mod copies;
 mod fresh;
 mod handing;
 mod held;
@@ -34,15 +33,14 @@ mod serving;
 mod slips;
 mod traces;
 
+use copies::copy;
 use desk::perform::perform;
 use desk::{
-    CopyState, Failure, Folder, Order, Progress, Task, WordsFault, copy_office, copy_open,
-    journal_office, order, tell_failure, tell_words,
+    Failure, Folder, Order, Progress, Task, WordsFault, journal_office, order, tell_failure,
+    tell_words,
 };
-use fresh::Fresh;
 use handing::hand_over;
 use held::Held;
-use office::Office;
 use serving::{Serving, serve};
 use slips::make_codes;
 use sqlite::{Alter, Connection, ErrorCode, FileStore, Files, Wary};
@@ -162,38 +160,6 @@ fn perform_on<S: Alter, O: Sink, E: Sink>(
     }
 }
 
-/// Makes a copy of the office at a path where there is nothing yet. The office is only read.
-fn copy<S: Alter, O: Sink, E: Sink>(
-    rt: &HostRuntime,
-    mut conn: Connection<S>,
-    office: &str,
-    path: &str,
-    out: &mut O,
-    err: &mut E,
-) -> (u8, Connection<S>)
-    requires out { O.failed out.old < 2 ^ 64 - 1 }
-    requires err { E.failed err.old < 2 ^ 64 - 1 }
-    ensures { OnlyReads (state S.Store conn) (state S.Store result.1) }
-{
-    let fresh = match Fresh::make(rt, office, path) {
-        Ok(fresh) => fresh,
-        Err(failure) => return (tell_failure(failure, err), conn),
-    };
-    match Connection::open_from(rt, path, false, Wary) {
-        Ok(made) => {
-            let status = fill(rt, &fresh, &mut conn, made, out, err);
-            (status, conn)
-        }
-        Err((error, left)) => {
-            if !is_busy(&error) {
-                fresh.clear(rt);
-            }
-            drop(left);
-            (tell_failure(failure_of(error), err), conn)
-        }
-    }
-}
-
 /// Prints the journal of the office, once it was played over an empty one that is kept in memory alone. The office is only read.
 /// Nothing is asked of that memory: what is printed with status 0 makes the very office.
 fn journal<S: Alter, O: Sink, E: Sink>(
@@ -224,143 +190,6 @@ fn journal<S: Alter, O: Sink, E: Sink>(
 /// Another program of SQLite holds the file.
 fn is_busy(error: &sqlite::Error) -> bool {
     matches!(error, sqlite::Error::SqliteFailure(ErrorCode::DatabaseBusy))
-}
-
-/// Why a copy can't be made; want of memory is reported as ever.
-fn failure_of(error: sqlite::Error) -> Failure {
-    match fault_of(error) {
-        Fault::Memory => Failure::Office(Fault::Memory),
-        _ => Failure::CopyFailed,
-    }
-}
-
-/// Why no copy is begun in files that were made for it, if none is: another program
-/// has made an office in them before, which is left; or they can't be looked at.
-fn why_not_begun(rt: &HostRuntime, fresh: &Fresh) -> Option<Failure> {
-    match fresh.hold_none(rt) {
-        Ok(true) => None,
-        Ok(false) => Some(Failure::CopyTaken),
-        Err(_) => {
-            fresh.clear(rt);
-            Some(Failure::CopyFailed)
-        }
-    }
-}
-
-/// Closes the files that were made for a copy, by what is known of it. Where no copy is reported it removes them while it holds
-/// them. With status 0 the database file alone is the copy.
-fn finish<D: Disk + Drop, E: Sink>(
-    rt: &HostRuntime,
-    fresh: &Fresh,
-    made: Connection<FileStore<D>>,
-    status: u8,
-    state: CopyState,
-    err: &mut E,
-) -> u8
-    requires { status ≡ 0 → E.failed err.old < 2 ^ 64 - 1 }
-    ensures other { ¬ (status ≡ 0) → (result ≡ status) × (err.new ≡ err.old) }
-    ensures whole { status ≡ 0 → EndsCopy E.taken E.failed err.old err.new result }
-{
-    match state {
-        CopyState::Whole => {}
-        CopyState::Untouched | CopyState::Unknown => fresh.remove(rt),
-    }
-    if status != 0 {
-        let _ = close(made);
-        return status;
-    }
-    closed_copy(made, err).0
-}
-
-/// Copies the office over an opened connection to files that were made for the copy, and closes them.
-fn fill<S: Alter, D: Disk + Drop, O: Sink, E: Sink>(
-    rt: &HostRuntime,
-    fresh: &Fresh,
-    conn: &mut Connection<S>,
-    mut made: Connection<FileStore<D>>,
-    out: &mut O,
-    err: &mut E,
-) -> u8
-    requires out { O.failed out.old < 2 ^ 64 - 1 }
-    requires err { E.failed err.old < 2 ^ 64 - 1 }
-    ensures { OnlyReads (state S.Store conn.old) (state S.Store conn.new) }
-{
-    if let Some(failure) = why_not_begun(rt, fresh) {
-        return tell_failure(failure, err);
-    }
-    let (status, state) = copy_office(rt.alloc(), conn, &mut made, out, err);
-    finish(rt, fresh, made, status, state, err)
-}
-
-/// Copies an open office, which goes on, to files that were made for the copy, and closes them.
-fn fill_open<S: Alter, D: Disk + Drop, O: Sink, E: Sink>(
-    rt: &HostRuntime,
-    fresh: &Fresh,
-    office: &mut Office<S>,
-    mut made: Connection<FileStore<D>>,
-    out: &mut O,
-    err: &mut E,
-) -> u8
-    requires out { O.failed out.old < 2 ^ 64 - 1 }
-    requires err { E.failed err.old < 2 ^ 64 - 1 }
-    ensures told { let outputs = outputs_of O.taken O.failed E.taken E.failed in Tells (outputs out.old err.old) (outputs out.new err.new) result
-        (λ _ page. WhenOpenAt (state S.Store) office.old office.new (λ s. IsCopyTold s page)) }
-    ensures stays { WhenOpenAt (state S.Store) office.old office.new (λ s. IsReadAt s office.new.closed (state S.Store office.new.held)) }
-    ensures clean { HasCleanDisk (state S.Store office.new.held) → HasCleanDisk (state S.Store office.old.held) }
-{
-    if let Some(failure) = why_not_begun(rt, fresh) {
-        return tell_failure(failure, err);
-    }
-    let (status, state) = copy_open(rt.alloc(), office, &mut made, out, err);
-    finish(rt, fresh, made, status, state, err)
-}
-
-/// Makes a copy of the open office whose database is at a path; the copy comes to
-/// another path, where there is nothing yet. The office goes on, and is only read.
-fn copy_served<S: Alter, O: Sink, E: Sink>(
-    rt: &HostRuntime,
-    office: &mut Office<S>,
-    database: &str,
-    path: &str,
-    out: &mut O,
-    err: &mut E,
-) -> u8
-    requires out { O.failed out.old < 2 ^ 64 - 1 }
-    requires err { E.failed err.old < 2 ^ 64 - 1 }
-    ensures told { let outputs = outputs_of O.taken O.failed E.taken E.failed in Tells (outputs out.old err.old) (outputs out.new err.new) result
-        (λ _ page. WhenOpenAt (state S.Store) office.old office.new (λ s. IsCopyTold s page)) }
-    ensures stays { WhenOpenAt (state S.Store) office.old office.new (λ s. IsReadAt s office.new.closed (state S.Store office.new.held)) }
-    ensures clean { HasCleanDisk (state S.Store office.new.held) → HasCleanDisk (state S.Store office.old.held) }
-{
-    let fresh = match Fresh::make(rt, database, path) {
-        Ok(fresh) => fresh,
-        Err(failure) => return tell_failure(failure, err),
-    };
-    match Connection::open_from(rt, path, false, Wary) {
-        Ok(made) => fill_open(rt, &fresh, office, made, out, err),
-        Err((error, left)) => {
-            if !is_busy(&error) {
-                fresh.clear(rt);
-            }
-            drop(left);
-            tell_failure(failure_of(error), err)
-        }
-    }
-}
-
-/// Closes a copy, so that it stands alone, and gives the status: 0, or 3 where its log can't be copied into it, which it reports.
-fn closed_copy<D: Disk + Drop, E: Sink>(
-    made: Connection<FileStore<D>>,
-    err: &mut E,
-) -> (u8, Option<Files<D>>)
-    requires { E.failed err.old < 2 ^ 64 - 1 }
-    ensures ends { EndsCopy E.taken E.failed err.old err.new result.0 }
-    ensures alone { result.0 ≡ 0 → IsSomeAnd result.1 (λ files. AreClean D.Disk files.log files.db → IsCopied made files) }
-{
-    match close(made) {
-        Some(files) => (0, Some(files)),
-        None => (tell_failure(Failure::CopyFailed, err), None),
-    }
 }
 
 /// Copies the log into the database file, so that DB alone is the office, also after a stop, and gives both files

@@ -92,7 +92,7 @@ const send = async () => {
   if (isRefusal(answer) && answer.says.refusal === 2) sent.id = newId(sent.batch, sent.round);
   save(sent);
   const why = answer ? explained(answer) : [NOBODY];
-  return {why, isOpen, waits: isUnknown(answer), refusal: isRefusal(answer) ? answer.says.refusal : 0};
+  return {why, isOpen, waits: isUnknown(answer), mustWait: answer?.status === 429, refusal: isRefusal(answer) ? answer.says.refusal : 0};
 };
 
 "#;

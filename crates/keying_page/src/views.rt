@@ -90,6 +90,7 @@ const onLostKey = (event) => {
 };
 
 const backToPapers = (text) => {
+  clearTimeout(timer);
   show('papers', at('which'));
   showPapers();
   say(text);
@@ -130,10 +131,11 @@ const sendNow = async () => {
   clearTimeout(timer);
   const sent = draft;
   showEnd('It is being sent.', {sends: false, goesBack: false});
-  const {kept, why, isOpen, waits, refusal} = await send();
+  const {kept, why, isOpen, waits, mustWait, refusal} = await send();
   if (draft !== sent) return undefined;
   if (kept) return showKept(kept);
   if (waits) return waitToSend(told(why));
+  if (mustWait) return waitAMinute(isOpen);
   if (refusal === 18) return backToPapers(told(why));
   return showEnd(told(why), {sends: true, goesBack: !isOpen});
 };
@@ -150,6 +152,12 @@ const waitToSend = (why) => {
   tries += 1;
   timer = setTimeout(sendNow, 1000 * seconds);
   showEnd(`${why} Nothing is lost. It may have been kept, so it can\u2019t be changed now. It is sent again as it is every ${seconds} seconds, and kept once.`, {sends: true, goesBack: false});
+};
+
+// Somebody sent wrong codes under this clerk's number. The office takes none for a minute, and kept nothing of what came now.
+const waitAMinute = (isOpen) => {
+  timer = setTimeout(sendNow, 60000);
+  showEnd('Too many wrong codes came for your number. The office takes none for a minute. Nothing is lost: the batch is sent again by itself then.', {sends: true, goesBack: !isOpen});
 };
 
 // ---- the batches

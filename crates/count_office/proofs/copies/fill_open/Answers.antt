@@ -3,7 +3,7 @@ use Rattle.std.proofs.Common.{◌≡◌, arith, inl}
 use Rattle.sqlite.specs.Held.{state}
 use Rattle.desk.specs.Pages.{outputs_of}
 use Rattle.count_office.proofs.CopyLemmas.{closed_told, failure_told, whole_at_zero}
-use Rattle.count_office.proofs.fill_open.Goals as goal
+use Rattle.count_office.proofs.copies.fill_open.Goals as goal
 
 pub finish-requires : goal.finish-requires
 finish-requires g c = λ zero.

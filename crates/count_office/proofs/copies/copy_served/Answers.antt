@@ -2,7 +2,7 @@
 use Rattle.std.proofs.Common.{inl}
 use Rattle.sqlite.specs.Held.{state}
 use Rattle.count_office.proofs.CopyLemmas.{failure_told}
-use Rattle.count_office.proofs.copy_served.Goals as goal
+use Rattle.count_office.proofs.copies.copy_served.Goals as goal
 
 pub returns-in-Err-clause-told : goal.returns-in-Err-clause-told
 returns-in-Err-clause-told g c =

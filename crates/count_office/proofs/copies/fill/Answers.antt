@@ -2,7 +2,7 @@
 use Rattle.std.proofs.Common.{◌≡◌, arith}
 use Rattle.desk.specs.Pages.{outputs_of}
 use Rattle.count_office.proofs.CopyLemmas.{whole_at_zero}
-use Rattle.count_office.proofs.fill.Goals as goal
+use Rattle.count_office.proofs.copies.fill.Goals as goal
 
 pub finish-requires : goal.finish-requires
 finish-requires g c = λ zero.
