@@ -91,7 +91,7 @@ def changed(place, _):
 def without_archive(place, _):
     release(place)
     os.remove(path_in(place, f"{NAME}.tar.xz"))
-    return place.call().must_be(4, out="")
+    return place.call().must_be(4, "the archive of release/ is missing; get it again, or set COUNT_OFFICE_BUILD=1, and the program is built", "")
 
 
 @case("a release to be unpacked, and no `{}`", *UNPACKING)

@@ -50,16 +50,17 @@ const beginNumber = (what) => {
   pending = {what, digits: ''};
 };
 
-const jump = (digits) => {
-  const number = Number(digits);
-  if (digits.length < 2 && number * 10 <= draft.columns.at(-1)) {
-    pending.digits = digits;
-    return undefined;
-  }
+const goToCandidate = (number) => {
   settle();
   const column = draft.columns.indexOf(number);
   if (column < 0) return `No candidate has the number ${number}.`;
   row().column = column;
+};
+
+// A digit of a candidate's number. Where another one may follow, Enter ends it.
+const jump = (digits) => {
+  if (digits.length === 2 || Number(digits) * 10 > draft.columns.at(-1)) return goToCandidate(Number(digits));
+  pending.digits = digits;
 };
 
 // A digit of a number of two digits.
@@ -127,8 +128,12 @@ const firstOpen = () => {
 
 const goOn = () => (isWhole(draft) ? askToSend() : goTo(firstOpen()));
 
+// To the paper that comes next. One that is begun is ended first.
+const toNext = () => (row().state === BEGUN && firstOpen() === draft.at ? `Paper ${paper()} isn\u2019t ended. Enter ends it.` : goOn());
+
 // Ends a paper. The next one comes; behind the last the first that was left out.
 const finish = () => {
+  if (pending?.what === 'candidate' && pending.digits) return goToCandidate(Number(pending.digits));
   if (pending) return 'Two digits are wanted. Backspace takes the key back.';
   if (extra) return refuseBehind();
   if (row().state === NEW) return `Nothing is keyed for paper ${paper()}. Has it no number at all? Then press 0, and Enter.`;
@@ -156,7 +161,7 @@ const STEPS = {
   Enter: finish, Backspace: back, Delete: empty, Insert: putIn, Escape: settle,
   ArrowLeft: () => moveTo(row().column - 1), ArrowRight: () => moveTo(row().column + 1), Home: () => moveTo(0),
   ArrowUp: () => goTo(draft.at - 1), PageUp: () => goTo(draft.at - 1),
-  ArrowDown: () => goTo(draft.at + 1), PageDown: () => goTo(draft.at + 1), End: goOn,
+  ArrowDown: () => goTo(draft.at + 1), PageDown: () => goTo(draft.at + 1), End: toNext,
   ' ': () => mark(''), '0': () => mark(''), '.': () => beginNumber('mark'), ',': () => beginNumber('mark'),
   '/': () => beginNumber('candidate'), d: doubt, D: doubt, '*': doubt,
 };

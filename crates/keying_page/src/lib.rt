@@ -27,7 +27,7 @@ use views::VIEWS;
 /// What a browser lets the page do: run this script and this style, by their SHA-256, and ask the office that it came
 /// from. `tools/check-page` compares both with the texts, and writes them anew with `--write`.
 pub const POLICY: &str = "default-src 'none'; \
-script-src 'sha256-nvKPIwdGie4eDDed4z73j260NCRSKbsPhbt5Gm/4SZ0='; \
+script-src 'sha256-IW+TkzCuEhdFBalID91FNvsCyWLUaMa7lkmBy6i1PMc='; \
 style-src 'sha256-2WVjPSyyHV4FbTtmNjbKPMdMBAPpZScWSqsFoclxuis='; \
 connect-src 'self'; base-uri 'none'; form-action 'none'; frame-ancestors 'none'; \
 require-trusted-types-for 'script'; trusted-types 'none'";

@@ -55,7 +55,7 @@ pub(crate) const BODY: &str = r#"</style>
 <dt><kbd>1</kbd> to <kbd>9</kbd></dt><dd>the number beside the candidate; the cursor goes on</dd>
 <dt><kbd>0</kbd> or the space bar</dt><dd>nothing beside the candidate; the cursor goes on</dd>
 <dt><kbd>.</kbd> or <kbd>,</kbd> and two digits</dt><dd>a number from 10 to 99</dd>
-<dt><kbd>/</kbd> and a candidate&rsquo;s number</dt><dd>the cursor goes to him</dd>
+<dt><kbd>/</kbd> and a candidate&rsquo;s number</dt><dd>the cursor goes to him; where another digit may follow, <kbd>Enter</kbd> ends the number</dd>
 <dt><kbd>D</kbd> or <kbd>*</kbd></dt><dd>the paper is doubtful: no official mark, a number that can&rsquo;t be read or is over 99, a name, a signature, a drawing</dd>
 <dt><kbd>Enter</kbd></dt><dd>the paper is keyed; the next one comes</dd>
 <dt><kbd>0</kbd> and <kbd>Enter</kbd></dt><dd>a paper without any number</dd>

@@ -12,7 +12,7 @@ Arguments:
   <SHEET>    The path of the text, as the orders sheet and result print it
 
 The status is 0 where the text is the very one that these ballots, rejected papers and lots
-give, and 1 where it differs: the first line that does is told, and what it should be. It is 2
-where the words or the ballots are not understood, or a lot is wanting, and 3 where a file
-can't be read, memory is wanting, or an output fails.
+give. It is 1 where the text differs: the program prints the first line that differs, and what
+it should be. It is 2 where the words or the ballots are not understood, or a lot is wanting.
+It is 3 where a file can't be read, memory is wanting, or an output fails.
 ";
