@@ -1,6 +1,8 @@
 //! The office is served: on a port of this machine, and by the socket beside its database.
 
-ghost use Rattle.std.specs.Prelude.{◌-◌, ◌^◌, ◌<◌};
+ghost use Rattle.std.specs.Prelude.{◌≡◌, ◌-◌, ◌^◌, ◌<◌, IfOk, IfSome, IsSomeAnd, None, string_bytes};
+ghost use Rattle.keying_page.specs.Page.{page_text};
+ghost use Rattle.keying_page.specs.declared.TheConstants.{POLICY};
 
 use crate::Place;
 use crate::aside::Machine;
@@ -40,7 +42,10 @@ struct Porter {
 }
 
 /// Reads what stands at the gate; none, where no file of codes is given.
-fn porter_of(rt: &HostRuntime, path: Option<&str>) -> Result<Option<Porter>, ReadError> {
+fn porter_of(rt: &HostRuntime, path: Option<&str>) -> Result<Option<Porter>, ReadError>
+    ensures none { path ≡ None → IfOk result (λ porter. porter ≡ None) }
+    ensures some { IfSome path (λ _. IfOk result (λ porter. IsSomeAnd porter (λ p. string_bytes p.page ≡ page_text))) }
+{
     let Some(path) = path else {
         return Ok(None);
     };
@@ -49,8 +54,12 @@ fn porter_of(rt: &HostRuntime, path: Option<&str>) -> Result<Option<Porter>, Rea
     Ok(Some(Porter { codes, page }))
 }
 
-/// The gate, if there is one.
-fn gate_of(porter: &Option<Porter>) -> Option<Gate<'_>> {
+/// The gate, if there is one: with the porter's codes and page.
+fn gate_of(porter: &Option<Porter>) -> Option<Gate<'_>>
+    ensures none { porter.now ≡ None → result ≡ None }
+    ensures some { IfSome porter.now
+        (λ p. IsSomeAnd result (λ gate. (gate.codes.now ≡ p.codes) × (gate.page.text.now ≡ string_bytes p.page) × (gate.page.policy.now ≡ POLICY.now))) }
+{
     match porter {
         Some(porter) => Some(Gate {
             codes: &porter.codes,

@@ -11,7 +11,8 @@ use Rattle.gathering.specs.Rooms.{IsFresh, IsWanted, LetsIn, MayCome}
 use Rattle.gathering.specs.declared.client.Comer.{Comer}
 use Rattle.gathering.specs.declared.client.Door.{Door}
 use Rattle.gathering.specs.declared.client.Door.TheVariants.{Clients, Orders}
-use Rattle.sockets.specs.Watches.{IsAtDoor}
+use Rattle.sockets.specs.Watches.{ComesByDoor, FitsDoor, IsAtDoor}
+use Rattle.sockets.specs.declared.socket.Socket.{Socket}
 
 -- what was read is within the room
 pub gives_untold : {E : Type 0} (read : Result ℕ E) (room : List ℕ) (r : Result Came Broken) → IfOk read (λ n. n ≤ length room) → ((n : ℕ) → r ≡ Ok (Bytes n) → (0 < n) × (read ≡ Ok n))
@@ -36,16 +37,22 @@ fresh_untold Nobody = tt
 fresh_untold NotNow = tt
 
 -- orders may always come
-pub order_wanted : {L : Type 0} (clients_too : Bool) (a : Admitted L) → IsAtDoor Orders a → IsWanted clients_too a
-order_wanted clients_too (One comer) at = subst (MayCome clients_too) (sym at) tt
+pub order_wanted : (clients_too : Bool) (a : Admitted Socket) → IsAtDoor Orders a → IsWanted clients_too a
+order_wanted clients_too (One comer) at = subst (MayCome clients_too) (sym at.0) tt
 order_wanted clients_too Nobody at = tt
 order_wanted clients_too NotNow at = tt
 
 -- and clients, where they are wanted
-pub client_wanted : {L : Type 0} (clients_too : Bool) (a : Admitted L) → IsAtDoor Clients a → clients_too ≡ true → IsWanted clients_too a
-client_wanted clients_too (One comer) at wanted = subst (MayCome clients_too) (sym at) wanted
+pub client_wanted : (clients_too : Bool) (a : Admitted Socket) → IsAtDoor Clients a → clients_too ≡ true → IsWanted clients_too a
+client_wanted clients_too (One comer) at wanted = subst (MayCome clients_too) (sym at.0) wanted
 client_wanted clients_too Nobody at wanted = tt
 client_wanted clients_too NotNow at wanted = tt
+
+-- whoever came at a door came over a socket of its kind
+pub comes_by_door : (door : Door) (a : Admitted Socket) → IsAtDoor door a → ComesByDoor a
+comes_by_door door (One comer) at = subst (λ d. FitsDoor d comer.line) (sym at.0) at.1
+comes_by_door door Nobody at = tt
+comes_by_door door NotNow at = tt
 
 -- where nothing is told of those who came in, it goes on so
 pub lets_in_untold : {L : Type 0} (a : Admitted L) → LetsIn None None a

@@ -3,8 +3,11 @@ use Rattle.std.specs.Prelude.{◌≡◌, ⊤, Option}
 use Rattle.mio.specs.declared.net.listener.TcpListener.{TcpListener}
 use Rattle.mio.specs.declared.net.uds.listener.UnixListener.{UnixListener}
 use Rattle.gathering.specs.declared.client.Door.{Door}
+use Rattle.gathering.specs.declared.client.Door.TheVariants as doors
 use Rattle.gathering.specs.declared.doors.Admitted.{Admitted}
 use Rattle.gathering.specs.declared.doors.Admitted.TheVariants.{One, Nobody, NotNow}
+use Rattle.sockets.specs.declared.socket.Socket.{Socket}
+use Rattle.sockets.specs.declared.socket.Socket.TheVariants as lines
 use Rattle.sockets.specs.declared.watch.Watch.{Watch}
 
 -- the listener at which clients come in
@@ -15,8 +18,21 @@ clients_of watch = watch.clients
 abbrev pub orders_of : Watch → Option UnixListener
 orders_of watch = watch.orders
 
--- whoever was let in came at this door
-abbrev pub IsAtDoor : {L : Type 0} → Door → Admitted L → Type 0
-IsAtDoor door (One comer) = comer.door ≡ door
+-- the socket is of the kind that comes in at a door: a client's by the port, an order's by the file beside the office
+abbrev pub FitsDoor : Door → Socket → Type 0
+FitsDoor doors.Clients (lines.Client stream) = ⊤
+FitsDoor doors.Clients (lines.Order stream) = ⊥
+FitsDoor doors.Orders (lines.Client stream) = ⊥
+FitsDoor doors.Orders (lines.Order stream) = ⊤
+
+-- whoever was let in came at this door, over a socket of its kind
+abbrev pub IsAtDoor : Door → Admitted Socket → Type 0
+IsAtDoor door (One comer) = (comer.door ≡ door) × FitsDoor door comer.line
 IsAtDoor door Nobody = ⊤
 IsAtDoor door NotNow = ⊤
+
+-- whoever was let in came over a socket of the kind of his door: so nobody gives an order through the port
+abbrev pub ComesByDoor : Admitted Socket → Type 0
+ComesByDoor (One comer) = FitsDoor comer.door comer.line
+ComesByDoor Nobody = ⊤
+ComesByDoor NotNow = ⊤

@@ -2,7 +2,8 @@
 
 ghost use Rattle.std.specs.Prelude.{◌≡◌, ◌+◌, ◌<◌, IfNone, IfOk, IfSome, None};
 ghost use Rattle.gathering.specs.declared.client.Door.{Door};
-ghost use Rattle.sockets.specs.Watches.{IsAtDoor, clients_of, orders_of};
+ghost use Rattle.gathering.specs.Rooms.{IsWanted};
+ghost use Rattle.sockets.specs.Watches.{ComesByDoor, IsAtDoor, clients_of, orders_of};
 
 use crate::socket::Socket;
 use gathering::{Admitted, Comer, Door, Doors};
@@ -135,6 +136,21 @@ impl Watch {
             Err(error) => nobody(&error),
         }
     }
+
+    /// What the doors gave: the next order; and where none waits the next client, if clients are wanted.
+    fn next_at(&mut self, number: u64, clients_too: bool) -> Admitted<Socket>
+        ensures wanted { IsWanted clients_too result }
+        ensures by_door { ComesByDoor result }
+    {
+        match self.order_at(number) {
+            Admitted::Nobody if clients_too => {
+                let admitted = self.client_at(number);
+                self.is_waited_at = !matches!(admitted, Admitted::Nobody);
+                admitted
+            }
+            admitted => admitted,
+        }
+    }
 }
 
 /// Why nobody was let in.
@@ -175,14 +191,7 @@ impl Doors for Watch {
 
     /// Where too many files are open, who waits waits on.
     fn admit(&mut self, number: u64, clients_too: bool) -> Admitted<Socket> {
-        match self.order_at(number) {
-            Admitted::Nobody if clients_too => {
-                let admitted = self.client_at(number);
-                self.is_waited_at = !matches!(admitted, Admitted::Nobody);
-                admitted
-            }
-            admitted => admitted,
-        }
+        self.next_at(number, clients_too)
     }
 
     fn is_waited_at(&self) -> bool {
