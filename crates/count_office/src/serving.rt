@@ -43,8 +43,8 @@ struct Porter {
 
 /// Reads what stands at the gate; none, where no file of codes is given.
 fn porter_of(rt: &HostRuntime, path: Option<&str>) -> Result<Option<Porter>, ReadError>
-    ensures none { path ≡ None → IfOk result (λ porter. porter ≡ None) }
-    ensures some { IfSome path (λ _. IfOk result (λ porter. IsSomeAnd porter (λ p. string_bytes p.page ≡ page_text))) }
+    ensures none { path.entry ≡ None → IfOk result (λ porter. porter ≡ None) }
+    ensures some { IfSome path.entry (λ _. IfOk result (λ porter. IsSomeAnd porter (λ p. string_bytes p.page ≡ page_text))) }
 {
     let Some(path) = path else {
         return Ok(None);
