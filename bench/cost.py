@@ -55,7 +55,7 @@ def label(name):
     """What the page says of an order."""
     name = re.sub(r"all [0-9]+ stages", "all stages", name).replace("ward 8 2 Quay", "ward of another ward")
     name = re.sub(r"its [0-9]+ rows", "its rows", name)
-    return re.sub(r"^([a-z]+(-[a-z]+)?(?= |,|$))(?! keying of| sheet of| rows (read|added))", r"`\1`", name)
+    return re.sub(r"^([a-z]+(-[a-z]+)?(?= |,|$))(?! keying of| sheet of| same asked| rows (read|added))", r"`\1`", name)
 
 
 def cell(seconds, peak):
