@@ -1,13 +1,18 @@
 -- What a line gives and takes, one call after the other.
-use Rattle.std.proofs.Common.{◌≡◌, ◌∙◌, ◌≤◌, ◌++◌, ◌+◌, ℕ, List, [], None, Option, Some, ap, append_assoc, arith, drop, length, option_map, refl, subst, sym, take}
+use Rattle.std.proofs.Common.{◌≡◌, ◌∙◌, ◌≤◌, ◌++◌, ◌+◌, ℕ, List, [], None, Option, Some, Ok, zero, suc, ap, append_assoc, arith, drop, length, option_map, refl, subst, sym, take}
 use Rattle.std.proofs.Math.Seq.{take-add}
 use Rattle.std.proofs.lemmas.List.{append-nil, length-drop}
 use Rattle.std.proofs.KnownBytes.{Consumes-kept, Consumes-nil, Consumes-trans, Keeps-trans}
 use Rattle.std.specs.Io.KnownBytes.{Consumes, Keeps}
-use Rattle.gathering.specs.Lines.{Delivers, Gathers, Grows, HasTaken, Line}
+use Rattle.gathering.specs.Lines.{Delivers, Gathers, Grows, HasTaken, Line, idle_after_write}
 use Rattle.gathering.specs.Clients.{IsHeard, IsTold}
 
 -- ---- what a line took
+
+-- a write that took some bytes isn't in vain
+pub not_idle : (n : ℕ) (idle : Option ℕ) → (n ≡ 0 → ⊥) → idle_after_write (Ok n) idle ≡ idle
+not_idle zero idle ne = absurd (ne refl)
+not_idle (suc n) idle ne = refl
 
 grows_none : (old new : Option (List ℕ)) → new ≡ old → Grows old new []
 grows_none None new e = e

@@ -1,13 +1,48 @@
 -- A client from the moment when he was let in: what was gathered of him, and what went to him.
-use Rattle.std.specs.Prelude.{◌≡◌, ◌≤◌, ℕ, List, [], IsSomeAnd, Option, Some, None, length, slice_get, take}
+use Rattle.std.specs.Prelude.{◌≡◌, ◌≤◌, ℕ, Bool, true, false, List, [], IsSomeAnd, Option, Some, None, Result, Ok, Err, length, slice_get, take}
 use Rattle.std.specs.Io.KnownBytes.{Consumes}
 use Rattle.std.specs.List.{All}
-use Rattle.gathering.specs.Lines.{HasTaken, Line}
+use Rattle.votes.specs.declared.streams.Broken.{Broken}
+use Rattle.gathering.specs.Lines.{HasTaken, Line as LineEntry, one_more}
 use Rattle.gathering.specs.declared.client.Answer.{Answer}
 use Rattle.gathering.specs.declared.client.Client.{Client}
 use Rattle.gathering.specs.declared.client.Comer.{Comer}
+use Rattle.gathering.specs.declared.client.Heard.{Heard}
+use Rattle.gathering.specs.declared.client.Heard.TheVariants.{Enough, Waits, Ended}
+use Rattle.gathering.specs.declared.client.Lost.{Lost}
+use Rattle.gathering.specs.declared.client.Lost.TheVariants as lost
+use Rattle.gathering.specs.declared.line.Came.{Came}
+use Rattle.gathering.specs.declared.line.Came.TheVariants.{Bytes, Nothing, End}
 use Rattle.gathering.specs.declared.gathered.Gathered.{Gathered}
 use Rattle.gathering.specs.declared.writing.Writing.{Writing}
+
+-- how many bytes are read at once
+abbrev pub chunk : ℕ
+chunk = 16384
+
+-- A call that lost a client has a cause: a call of its line failed, or there was no room for more bytes of it, and none to be had. Else no call failed.
+abbrev pub IsCaused : {A : Type 0} → Result A Lost → Option ℕ → Option ℕ → Type 0 → Type 0
+IsCaused (Ok value) old new full = new ≡ old
+IsCaused (Err lost.Line) old new full = new ≡ one_more old
+IsCaused (Err lost.Memory) old new full = (new ≡ old) × full
+
+-- the number of calls in vain after one read, after some, and after some writes: just one more where nothing more has arrived, or is accepted
+abbrev pub idle_after_once : Result Came Lost → Option ℕ → Option ℕ
+idle_after_once (Ok Nothing) idle = one_more idle
+idle_after_once (Ok (Bytes n)) idle = idle
+idle_after_once (Ok End) idle = idle
+idle_after_once (Err why) idle = idle
+
+abbrev pub idle_after_wait : Result Heard Lost → Option ℕ → Option ℕ
+idle_after_wait (Ok Waits) idle = one_more idle
+idle_after_wait (Ok Enough) idle = idle
+idle_after_wait (Ok Ended) idle = idle
+idle_after_wait (Err why) idle = idle
+
+abbrev pub idle_after_put : Result Bool Broken → Option ℕ → Option ℕ
+idle_after_put (Ok false) idle = one_more idle
+idle_after_put (Ok true) idle = idle
+idle_after_put (Err broken) idle = idle
 
 -- the bytes that are given again from here on
 abbrev pub left_of : Gathered → List ℕ
@@ -22,17 +57,17 @@ abbrev pub failed_writes : Writing → ℕ
 failed_writes w = w.failed
 
 -- The bytes that were gathered are those that his line gave since he came, and it took nothing yet.
-pub record IsHeard {L : Type 0} (line : Line L) (start now : L) (got : List ℕ) : Type 0 where
+pub record IsHeard {L : Type 0} (line : LineEntry L) (start now : L) (got : List ℕ) : Type 0 where
   pub gave : Consumes (line.held start) (line.held now) got
   pub untold : HasTaken (line.taken now) []
 
 -- Of his answer his line took the first bytes, so many, and nothing else.
-pub record IsTold {L : Type 0} (line : Line L) (now : L) (answer : List ℕ) (sent : ℕ) : Type 0 where
+pub record IsTold {L : Type 0} (line : LineEntry L) (now : L) (answer : List ℕ) (sent : ℕ) : Type 0 where
   pub within : sent ≤ length answer
   pub took : HasTaken (line.taken now) (take sent answer)
 
 -- how it stands with the answer of a client, of whom these bytes were gathered: he has none yet, or is getting it
-abbrev pub IsServedSo : {L : Type 0} → Line L → L → L → List ℕ → Option Answer → Type 0
+abbrev pub IsServedSo : {L : Type 0} → LineEntry L → L → L → List ℕ → Option Answer → Type 0
 IsServedSo line start now got None = IsHeard line start now got
 IsServedSo line start now got (Some answer) = IsTold line now answer.bytes.items answer.sent
 
@@ -44,11 +79,16 @@ pub record IsNew {L : Type 0} (comer : Comer L) (number now : ℕ) (client : Cli
   pub since : client.since ≡ now
   pub unheard : client.got.items ≡ []
   pub unanswered : client.answer ≡ None
+  pub all_read : client.unread ≡ 0
+
+-- a client is who it was, whatever was read of its line
+abbrev pub IsSameButHeard : {L : Type 0} → Client L → Client L → Type 0
+IsSameButHeard old new = (new.door ≡ old.door) × (new.number ≡ old.number) × (new.since ≡ old.since)
 
 -- a client whose line was this one as he came in
-abbrev pub IsOf : {L : Type 0} → Line L → L → Client L → Type 0
+abbrev pub IsOf : {L : Type 0} → LineEntry L → L → Client L → Type 0
 IsOf line start client = IsServedSo line start client.line client.got.items client.answer
 
 -- each of these clients is of the line that came in under his number
-abbrev pub AllOf : {L : Type 0} → Line L → List L → List (Client L) → Type 0
+abbrev pub AllOf : {L : Type 0} → LineEntry L → List L → List (Client L) → Type 0
 AllOf line came clients = All (λ client. IsSomeAnd (slice_get came client.number) (λ start. IsOf line start client)) clients

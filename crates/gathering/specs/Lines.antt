@@ -1,5 +1,5 @@
 -- What a client's line gives and takes, and what is gathered of it.
-use Rattle.std.specs.Prelude.{◌≡◌, ◌<◌, ◌≤◌, ◌++◌, ⊤, ℕ, List, Option, None, Some, Result, Ok, Err, length, take}
+use Rattle.std.specs.Prelude.{◌≡◌, ◌<◌, ◌≤◌, ◌++◌, ◌+◌, ⊤, ℕ, zero, suc, List, Option, None, Some, Result, Ok, Err, length, option_map, take}
 use Rattle.std.specs.Io.KnownBytes.{Consumes, IsAtEnd, Keeps, append_known}
 use Rattle.votes.specs.declared.streams.Broken.{Broken}
 use Rattle.gathering.specs.declared.line.Came.{Came}
@@ -26,13 +26,41 @@ abbrev pub HasTaken : Option (List ℕ) → List ℕ → Type 0
 HasTaken None bytes = ⊤
 HasTaken (Some taken) bytes = taken ≡ bytes
 
--- what is known of a line at a moment: the bytes that are still to come of it, and those that it took
+-- a count that is known is one greater
+abbrev pub one_more : Option ℕ → Option ℕ
+one_more count = option_map (λ n. n + 1) count
+
+-- the number of failed calls after one more call
+abbrev pub failed_after : {A : Type 0} → Result A Broken → Option ℕ → Option ℕ
+failed_after (Ok value) failed = failed
+failed_after (Err broken) failed = one_more failed
+
+-- the number of calls in vain after one more read
+abbrev pub idle_after_read : Result Came Broken → Option ℕ → Option ℕ
+idle_after_read (Ok (Bytes n)) idle = idle
+idle_after_read (Ok Nothing) idle = one_more idle
+idle_after_read (Ok End) idle = idle
+idle_after_read (Err broken) idle = idle
+
+-- and after one more write
+abbrev pub idle_after_write : Result ℕ Broken → Option ℕ → Option ℕ
+idle_after_write (Ok zero) idle = one_more idle
+idle_after_write (Ok (suc n)) idle = idle
+idle_after_write (Err broken) idle = idle
+
+-- a count of failed calls, if it is known, isn't 0
+abbrev pub HasFailed : Option ℕ → Type 0
+HasFailed None = ⊤
+HasFailed (Some failed) = 0 < failed
+
+-- what is known of a line: the bytes that are still to come of it, those that it took, and how many calls failed
 pub record Line (L : Type 0) : Type 0 where
   pub held : L → Option (List ℕ)
   pub taken : L → Option (List ℕ)
+  pub failed : L → Option ℕ
 
-abbrev pub line_of : {L : Type 0} → (L → Option (List ℕ)) → (L → Option (List ℕ)) → Line L
-line_of held taken = record { held = held; taken = taken }
+abbrev pub line_of : {L : Type 0} → (L → Option (List ℕ)) → (L → Option (List ℕ)) → (L → Option ℕ) → Line L
+line_of held taken failed = record { held = held; taken = taken; failed = failed }
 
 -- Bytes were gathered of a line behind those from before: just those that it gave, and it was put nothing.
 pub record Gathers {L : Type 0} (line : Line L) (old new : L) (before after : List ℕ) : Type 0 where

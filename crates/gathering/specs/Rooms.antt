@@ -1,14 +1,17 @@
 -- The clients who are in a room at one time.
-use Rattle.std.specs.Prelude.{◌≡◌, ◌≤◌, ◌+◌, ◌∷◌, ◌++◌, ◌==◌, ⊤, ℕ, Bool, true, List, [], Option, Some, None, length, option_map, position, sum_by}
+use Rattle.std.specs.Prelude.{◌≡◌, ◌≤◌, ◌+◌, ◌∷◌, ◌++◌, ◌==◌, ⊤, ℕ, Bool, true, false, List, [], Option, Some, None, Result, Ok, Err, if◌then◌else◌, length, nat_le, option_map, position, sum_by}
 use Rattle.std.specs.List.{All}
-use Rattle.gathering.specs.Lines.{HasTaken}
+use Rattle.votes.specs.declared.streams.Broken.{Broken}
+use Rattle.gathering.specs.Lines.{HasTaken, one_more}
 use Rattle.gathering.specs.declared.client.Answer.{Answer}
 use Rattle.gathering.specs.declared.client.Client.{Client}
 use Rattle.gathering.specs.declared.client.Comer.{Comer}
 use Rattle.gathering.specs.declared.client.Door.{Door}
 use Rattle.gathering.specs.declared.client.Door.TheVariants.{Clients, Orders}
+use Rattle.gathering.specs.declared.leaver.Leaver.{Leaver}
+use Rattle.gathering.specs.declared.leaver.Leaving.{Leaving}
 use Rattle.gathering.specs.declared.doors.Admitted.{Admitted}
-use Rattle.gathering.specs.declared.doors.Admitted.TheVariants.{One, Nobody, NotNow}
+use Rattle.gathering.specs.declared.doors.Admitted.TheVariants.{One, Nobody, NotNow, Full}
 
 -- the bytes of an answer, if there is one
 abbrev pub answer_bytes : Option Answer → ℕ
@@ -23,9 +26,37 @@ bytes_of client = length client.got.items + answer_bytes client.answer
 abbrev pub bytes_held : {L : Type 0} → List (Client L) → ℕ
 bytes_held clients = sum_by bytes_of clients
 
--- nobody has waited longer than this client: his half minute began first
-abbrev pub IsLongest : {L : Type 0} → List (Client L) → Client L → Type 0
-IsLongest clients client = All (λ other. client.since ≤ other.since) clients
+-- whether one that came in at a door is looked at: a client always, an order only where orders are looked at too
+abbrev pub is_among : Bool → Door → Bool
+is_among orders_too Clients = true
+is_among orders_too Orders = orders_too
+
+-- among those that are looked at nobody has waited longer: its half minute began first
+pub record IsLongest {L : Type 0} (orders_too : Bool) (clients : List (Client L)) (client : Client L) : Type 0 where
+  pub among : is_among orders_too client.door ≡ true
+  pub first : All (λ other. is_among orders_too other.door ≡ true → client.since ≤ other.since) clients
+
+-- the earlier of two, each with its place and the moment when its half minute began; the first if the second isn't looked at
+abbrev pub earlier : Option (ℕ × ℕ) → Bool → ℕ → ℕ → Option (ℕ × ℕ)
+earlier found false place since = found
+earlier None true place since = Some (place, since)
+earlier (Some one) true place since = if nat_le one.1 since then Some one else Some (place, since)
+
+-- none of them is looked at
+abbrev pub AreUnseen : {L : Type 0} → Bool → List (Client L) → Type 0
+AreUnseen orders_too clients = All (λ client. is_among orders_too client.door ≡ false) clients
+
+-- a client as it leaves, for a reason
+abbrev pub leaver_of : {L : Type 0} → Client L → Leaving → Leaver L
+leaver_of client why = record { number = client.number; line = client.line; why = why }
+
+-- the most clients that are in a room at once
+abbrev pub most_clients : ℕ
+most_clients = 512
+
+-- the most bytes that are held of all of them: 64 MiB
+abbrev pub most_bytes : ℕ
+most_bytes = 67108864
 
 -- where the client with a number stands, if he is there
 abbrev pub place_in : {L : Type 0} → List (Client L) → ℕ → Option ℕ
@@ -45,6 +76,7 @@ abbrev pub IsFresh : {L : Type 0} → (L → Option (List ℕ)) → Admitted L �
 IsFresh taken (One comer) = HasTaken (taken comer.line) []
 IsFresh taken Nobody = ⊤
 IsFresh taken NotNow = ⊤
+IsFresh taken Full = ⊤
 
 -- whoever comes at a door may come there: an order always, and a client where he is wanted
 abbrev pub MayCome : Bool → Door → Type 0
@@ -56,9 +88,32 @@ abbrev pub IsWanted : {L : Type 0} → Bool → Admitted L → Type 0
 IsWanted clients_too (One comer) = MayCome clients_too comer.door
 IsWanted clients_too Nobody = ⊤
 IsWanted clients_too NotNow = ⊤
+IsWanted clients_too Full = ⊤
 
--- those who came in grow by whoever is let in
-abbrev pub LetsIn : {L : Type 0} → Option (List (Comer L)) → Option (List (Comer L)) → Admitted L → Type 0
-LetsIn old new (One comer) = new ≡ option_map (λ comers. comers ++ comer ∷ []) old
-LetsIn old new Nobody = new ≡ old
-LetsIn old new NotNow = new ≡ old
+-- What is known of doors: those that were let in so far, as they came in, and those that were handed back; how many calls failed, and how many waits didn't.
+pub record DoorsEntry (L : Type 0) : Type 0 where
+  pub came : Option (List (Comer L))
+  pub left : Option (List (Leaver L))
+  pub failed : Option ℕ
+  pub waits : Option ℕ
+
+-- those that came in grow by whoever is let in
+abbrev pub after_admit : {L : Type 0} → Admitted L → DoorsEntry L → DoorsEntry L
+after_admit (One comer) doors = record doors { came = option_map (λ comers. comers ++ comer ∷ []) doors.came }
+after_admit Nobody doors = doors
+after_admit NotNow doors = doors
+after_admit Full doors = doors
+
+-- those that left grow by one more
+abbrev pub with_leaver : {L : Type 0} → DoorsEntry L → Leaver L → DoorsEntry L
+with_leaver doors leaver = record doors { left = option_map (λ leavers. leavers ++ leaver ∷ []) doors.left }
+
+-- after one more call, which may have failed
+abbrev pub after_call : {L A : Type 0} → Result A Broken → DoorsEntry L → DoorsEntry L
+after_call (Ok value) doors = doors
+after_call (Err broken) doors = record doors { failed = one_more doors.failed }
+
+-- and after one more wait
+abbrev pub after_wait : {L : Type 0} → Result (Unit {0}) Broken → DoorsEntry L → DoorsEntry L
+after_wait (Ok value) doors = record doors { waits = one_more doors.waits }
+after_wait (Err broken) doors = record doors { failed = one_more doors.failed }

@@ -1,10 +1,10 @@
-//! Where clients and orders come in, and what says which of them may go on.
+//! Where clients and orders come in and leave, and what says which of them may go on.
 
-ghost use Rattle.std.specs.Prelude.{◌≡◌, List, Option};
-ghost use Rattle.gathering.specs.Rooms.{IsFresh, IsWanted, LetsIn};
-ghost use Rattle.gathering.specs.declared.client.Comer.{Comer};
+ghost use Rattle.std.specs.Prelude.{◌≡◌, Bool};
+ghost use Rattle.gathering.specs.Rooms.{DoorsEntry, IsFresh, IsWanted, after_admit, after_call, after_wait, with_leaver};
 
 use crate::client::Comer;
+use crate::leaver::Leaver;
 use crate::line::Line;
 use std::time::Duration;
 use votes::Broken;
@@ -12,36 +12,51 @@ use votes::Broken;
 /// What a door gave.
 #[derive(Drop)]
 pub enum Admitted<L> {
-    /// The next who waited.
+    /// The next that waited.
     One(Comer<L>),
     /// Nobody waits who may come in.
     Nobody,
     /// Somebody may wait, and can't be let in now.
     NotNow,
+    /// Somebody may wait, and can't be let in before one of those that are in leaves.
+    Full,
 }
 
-/// Where clients and orders come in, and what says who may go on. That is no promise: who can't go on is tried in vain.
+/// Where clients and orders come in, and what says which may go on. That is no promise: one that can't go on is tried in vain.
+/// A connection that ends is handed back here, with the reason, and closed. A clock goes with the doors.
 pub trait Doors {
     type Line: Line + Drop;
 
-    /// Those who were let in so far, as they came in, as far as they are known.
-    ghost came: { Self → Option (List (Comer Self.Line)) };
+    /// What is known of them.
+    ghost known: { Self → DoorsEntry Self.Line };
+
+    /// Whether somebody may wait at a door.
+    ghost waited_at: { Self → Bool };
+
+    /// Returns the time of the clock, in milliseconds.
+    fn now(&mut self) -> Result<u64, Broken>
+        ensures { known self.new ≡ after_call result (known self.old) };
 
     /// Waits until somebody may go on or come in, so long at most.
     fn wait(&mut self, most: Duration) -> Result<(), Broken>
-        ensures { came self.new ≡ came self.old };
+        ensures { known self.new ≡ after_wait result (known self.old) };
 
-    /// The number of the next who may go on; none, once all were named.
+    /// Returns the number of the next that may go on; none, once all were named.
     fn next_ready(&mut self) -> Option<u64>
-        ensures { came self.new ≡ came self.old };
+        ensures { known self.new ≡ known self.old };
 
-    /// Lets in the next who waits at a door, and names him by this number from
-    /// then on. Orders come in first, and clients only where they are wanted, too.
+    /// Lets in the next that waits at a door, and names it by this number from then on. Orders come in first, and clients only if
+    /// they are wanted, too.
     fn admit(&mut self, number: u64, clients_too: bool) -> Admitted<Self::Line>
         ensures fresh { IsFresh Self.Line.taken result }
         ensures wanted { IsWanted clients_too result }
-        ensures lets_in { LetsIn (came self.old) (came self.new) result };
+        ensures known { known self.new ≡ after_admit result (known self.old) };
 
-    /// Whether somebody may wait at a door.
-    fn is_waited_at(&self) -> bool;
+    /// Takes back the line of one that leaves, and closes it.
+    fn leave(&mut self, leaver: Leaver<Self::Line>)
+        ensures { known self.new ≡ with_leaver (known self.old) leaver };
+
+    /// Returns whether somebody may wait at a door.
+    fn is_waited_at(&self) -> bool
+        ensures { result ≡ waited_at self.now };
 }

@@ -9,6 +9,7 @@
 pub mod client;
 pub mod doors;
 pub mod gathered;
+pub mod leaver;
 pub mod line;
 pub mod room;
 pub mod writing;
@@ -16,6 +17,7 @@ pub mod writing;
 pub use client::{Answer, Client, Comer, Door, Heard, Lost, deliver};
 pub use doors::{Admitted, Doors};
 pub use gathered::Gathered;
+pub use leaver::{Leaver, Leaving};
 pub use line::{Came, Line};
 pub use room::{MAX_BYTES, MAX_CLIENTS, Room};
 pub use writing::Writing;

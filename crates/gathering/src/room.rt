@@ -1,16 +1,16 @@
 //! The clients of one moment.
 
-ghost use Rattle.std.specs.Prelude.{◌≡◌, ◌⊎◌, ◌<◌, ◌+◌, ◌-◌, ◌^◌, [], ◌∷◌, ◌++◌, IfNone, IfSome, length, min, slice_index_or};
+ghost use Rattle.std.specs.Prelude.{◌≡◌, ◌<◌, ◌≤◌, ◌+◌, ◌-◌, ◌^◌, [], ◌∷◌, ◌++◌, IfNone, IfOk, IfSome, OnErr, insert, length, min, remove, slice_index_or, vec_capacity};
 ghost use Rattle.gathering.specs.Lines.{HasTaken, line_of};
 ghost use Rattle.gathering.specs.Clients.{IsNew, IsOf};
-ghost use Rattle.gathering.specs.Rooms.{IsLongest, answer_bytes, bytes_held, count_at, place_in};
+ghost use Rattle.gathering.specs.Rooms.{AreUnseen, IsLongest, answer_bytes, bytes_held, count_at, earlier, is_among, most_clients, place_in};
 ghost use Rattle.gathering.specs.declared.client.Client.{Client};
 
 use crate::client::{Answer, Client, Comer, Door};
 use crate::line::Line;
-use std::alloc::Global;
+use std::alloc::{AllocError, Global};
 
-/// The most clients who are in a room at once.
+/// The most clients that are in a room at once.
 pub const MAX_CLIENTS: usize = 512;
 
 /// The most bytes that are held of them all.
@@ -38,19 +38,52 @@ pub fn bytes_held<L>(clients: &[Client<L>]) -> usize
     held
 }
 
-/// The place of the client who has waited longest since his half minute began; none where there is nobody.
-pub fn longest<L>(clients: &[Client<L>]) -> Option<usize>
-    ensures some { IfSome result (λ place. (place < length clients.now) × ((client : Client L) → IsLongest clients.now (slice_index_or clients.now place client))) }
-    ensures none { IfNone result (clients.now ≡ []) }
+/// Returns whether one that came in at a door is looked at: a client always, an order only where orders are looked at too.
+fn is_among(orders_too: bool, door: Door) -> bool
+    ensures { result ≡ is_among orders_too door }
+{
+    match door {
+        Door::Clients => true,
+        Door::Orders => orders_too,
+    }
+}
+
+/// Returns the earlier of two, each with its place and the moment when its half minute began; the first if the second isn't
+/// looked at.
+fn earlier(
+    found: Option<(usize, u64)>,
+    is_among: bool,
+    place: usize,
+    since: u64,
+) -> Option<(usize, u64)>
+    ensures { result ≡ earlier found is_among place since }
+{
+    match found {
+        found if !is_among => found,
+        Some((_, first)) if first <= since => found,
+        _ => Some((place, since)),
+    }
+}
+
+/// Returns the place of the one that has waited longest since its half minute began, among the clients, and the orders if they are
+/// looked at too; none where there is no such one.
+pub fn longest<L>(clients: &[Client<L>], orders_too: bool) -> Option<usize>
+    ensures some { IfSome result (λ place. (place < length clients.now) × ((client : Client L) → IsLongest orders_too clients.now (slice_index_or clients.now place client))) }
+    ensures none { IfNone result (AreUnseen orders_too clients.now) }
 {
     let mut found = None;
     for (place, client) in clients.iter().enumerate() {
-        found = match found {
-            Some((_, since)) if since <= client.since => found,
-            _ => Some((place, client.since)),
-        };
+        found = earlier(
+            found,
+            is_among(orders_too, client.door),
+            place,
+            client.since,
+        );
     }
-    found.map(|(place, _)| place)
+    match found {
+        Some((place, _)) => Some(place),
+        None => None,
+    }
 }
 
 /// The place of the client with a number; none where he isn't there.
@@ -71,42 +104,72 @@ fn count_at(door: Door) -> u64
     }
 }
 
-/// Those who are in, in the order of coming; how many came, and how many of them at the door of clients.
+/// Those that are in, in the order of coming; how many came, and how many of them at the door of clients. There are places for
+/// as many as may be in.
 #[derive(Drop)]
 pub struct Room<L> {
     pub clients: Vec<Client<L>>,
     pub came: u64,
     pub counted: u64,
+    pub ghost places: { most_clients ≤ vec_capacity clients },
 }
 
 impl<L: Line> Room<L> {
-    /// A room with nobody in it.
-    pub fn new(alloc: Global) -> Room<L>
-        ensures { (result.clients.items ≡ []) × (result.came ≡ 0) × (result.counted ≡ 0) }
+    /// Returns a room with nobody in it. The only error is that there is no memory for its places.
+    pub fn new(alloc: Global) -> Result<Room<L>, AllocError>
+        ensures { IfOk result (λ room. (room.clients.items ≡ []) × (room.came ≡ 0) × (room.counted ≡ 0)) }
     {
-        Room {
-            clients: Vec::new(alloc),
+        let clients = Vec::with_capacity(alloc, MAX_CLIENTS)?;
+        Ok(Room {
+            clients,
             came: 0,
             counted: 0,
-        }
+        })
     }
 
-    /// Somebody comes in, and has the next number. Where memory is wanting for him, he is let go.
+    /// Somebody comes in, and has the next number.
     pub fn enter(&mut self, alloc: Global, comer: Comer<L>, now: u64)
-    where
-        L: Drop,
         requires came { self.old.came < 2 ^ 64 - 1 }
         requires counted { self.old.counted + count_at comer.door < 2 ^ 64 }
         requires fresh { HasTaken (L.taken comer.line) [] }
+        requires place { length self.old.clients.items < most_clients }
         ensures came { self.new.came ≡ self.old.came + 1 }
         ensures counted { self.new.counted ≡ self.old.counted + count_at comer.door }
-        ensures entered { (self.new.clients.items ≡ self.old.clients.items) ⊎ ((client : Client L) × (self.new.clients.items ≡ self.old.clients.items ++ client ∷ [])
-            × IsNew comer self.old.came now client × IsOf (line_of L.held L.taken) comer.line client) }
+        ensures entered { (client : Client L) × (self.new.clients.items ≡ self.old.clients.items ++ client ∷ []) × IsNew comer self.old.came now client
+            × IsOf (line_of L.held L.taken L.failed) comer.line client }
     {
         let counted = count_at(comer.door);
         let client = Client::new(alloc, comer, self.came, now);
         self.came += 1;
         self.counted += counted;
-        let _ = self.clients.push(client);
+        match self.clients.push(client) {
+            Ok(()) => {}
+            Err(_) => unreachable!(),
+        }
+    }
+
+    /// Takes the one at a place out.
+    pub fn take_out(&mut self, place: usize) -> Client<L>
+        requires { place < length self.old.clients.items }
+        ensures client { result ≡ slice_index_or self.old.clients.items place result }
+        ensures clients { self.new.clients.items ≡ remove self.old.clients.items place }
+        ensures came { self.new.came ≡ self.old.came }
+        ensures counted { self.new.counted ≡ self.old.counted }
+    {
+        self.clients.remove(place)
+    }
+
+    /// Puts one in at a place, which was taken out of the room.
+    pub fn put_back(&mut self, place: usize, client: Client<L>)
+        requires within { place ≤ length self.old.clients.items }
+        requires place { length self.old.clients.items < most_clients }
+        ensures clients { self.new.clients.items ≡ insert self.old.clients.items place client }
+        ensures came { self.new.came ≡ self.old.came }
+        ensures counted { self.new.counted ≡ self.old.counted }
+    {
+        match self.clients.insert(place, client) {
+            Ok(()) => {}
+            Err(_) => unreachable!(),
+        }
     }
 }

@@ -5,4 +5,4 @@ use Rattle.gathering.proofs.room.longest.Given as goal
 
 -- the one who was found among those so far
 abbrev pub invariant-loop-place : goal.invariant-loop-place
-invariant-loop-place g l = IsFound (take l.place l.clients) l.found
+invariant-loop-place g l = IsFound l.orders_too (take l.place l.clients) l.found
