@@ -1,3 +1,4 @@
 pub mod Lines
 pub mod Clients
+pub mod Leavers
 pub mod Rooms

@@ -9,7 +9,6 @@ use Rattle.gathering.specs.declared.client.Comer.{Comer}
 use Rattle.gathering.specs.declared.client.Door.{Door}
 use Rattle.gathering.specs.declared.client.Door.TheVariants.{Clients, Orders}
 use Rattle.gathering.specs.declared.leaver.Leaver.{Leaver}
-use Rattle.gathering.specs.declared.leaver.Leaving.{Leaving}
 use Rattle.gathering.specs.declared.doors.Admitted.{Admitted}
 use Rattle.gathering.specs.declared.doors.Admitted.TheVariants.{One, Nobody, NotNow, Full}
 
@@ -45,10 +44,6 @@ earlier (Some one) true place since = if nat_le one.1 since then Some one else S
 -- none of them is looked at
 abbrev pub AreUnseen : {L : Type 0} → Bool → List (Client L) → Type 0
 AreUnseen orders_too clients = All (λ client. is_among orders_too client.door ≡ false) clients
-
--- a client as it leaves, for a reason
-abbrev pub leaver_of : {L : Type 0} → Client L → Leaving → Leaver L
-leaver_of client why = record { number = client.number; line = client.line; why = why }
 
 -- the most clients that are in a room at once
 abbrev pub most_clients : ℕ

@@ -3,8 +3,10 @@
 ghost use Rattle.std.specs.Prelude.{◌≡◌, ℕ, ◌<◌, ◌≤◌, ◌+◌, ◌⊎◌, [], IsSome, None, Ok, true, false, length, max, vec_capacity, vec_len};
 ghost use Rattle.std.specs.Io.KnownBytes.{IsAtEnd};
 ghost use Rattle.gathering.specs.Lines.{Delivers, Gathers, HasTaken, failed_after, line_of};
+ghost use Rattle.gathering.specs.Leavers.{leaver_of};
 ghost use Rattle.gathering.specs.Clients.{IsCaused, IsNew, IsOf, IsSameButHeard, chunk, idle_after_put, idle_after_wait, idle_after_once};
 
+use crate::leaver::{Leaver, Leaving};
 use crate::line::{Came, Line};
 use std::alloc::{AllocError, Global};
 use votes::Broken;
@@ -188,6 +190,16 @@ impl<L: Line> Client<L> {
             answer: None,
             unread: 0,
         }
+    }
+
+    /// Returns it as one that leaves, for a reason.
+    pub fn into_leaver(self, why: Leaving) -> Leaver<L>
+    where
+        L: Drop,
+        ensures { result ≡ leaver_of self why }
+    {
+        let Client { line, number, .. } = self;
+        Leaver { number, line, why }
     }
 
     /// Gathers more of a client that has no response yet, until there are so many bytes in all, or no more has arrived. There may

@@ -1,5 +1,8 @@
 //! One that leaves.
 
+use crate::client::Lost;
+use std::alloc::AllocError;
+
 /// Why one leaves.
 #[derive(Clone, Copy)]
 pub enum Leaving {
@@ -23,4 +26,29 @@ pub struct Leaver<L> {
     pub number: u64,
     pub line: L,
     pub why: Leaving,
+}
+
+impl From<Lost> for Leaving {
+    ghost use Rattle.gathering.specs.Leavers.{why_of};
+    ghost use Rattle.std.specs.Prelude.{◌≡◌};
+
+    ghost from_gives = { λ lost why. why ≡ why_of lost };
+
+    fn from(lost: Lost) -> Leaving {
+        match lost {
+            Lost::Line => Leaving::Broken,
+            Lost::Memory => Leaving::Unheard,
+        }
+    }
+}
+
+impl From<AllocError> for Leaving {
+    ghost use Rattle.gathering.specs.declared.leaver.Leaving.{Leaving};
+    ghost use Rattle.std.specs.Prelude.{◌≡◌};
+
+    ghost from_gives = { λ _ why. why ≡ Leaving.Unheard };
+
+    fn from(_error: AllocError) -> Leaving {
+        Leaving::Unheard
+    }
 }

@@ -1,18 +1,26 @@
 -- All who came to a room, whoever comes in, goes on or leaves.
-use Rattle.std.proofs.Common.{◌≡◌, ◌<◌, ◌+◌, ◌∙◌, ◌⊎◌, ◌∷◌, ◌++◌, ◌==◌, ℕ, Bool, List, [], None, Option, Some, All, AllPairs, cond}
+use Rattle.std.proofs.Common.{◌≡◌, ◌<◌, ◌≤◌, ◌+◌, ◌-◌, ◌∙◌, ◌⊎◌, ◌∷◌, ◌++◌, ◌==◌, ℕ, Bool, List, [], None, Option, Some, All, AllPairs, IsSomeAnd, cond}
 use Rattle.std.proofs.Common.{ap, append-nil, arith, drop, eq-eqb, get_or, inl, inr, length, length-set, map, ne_eqb, option_map, refl, remove, set, subst, sym, suc, take}
 use Rattle.std.proofs.lemmas.Bool.{cases_eq, cases_order}
 use Rattle.std.proofs.lemmas.List.{get_or-map, get_or-set_other, get_or-set_same, get_or_append_left, get_or_push, get_or_read, length_push, map-set, set-get_or}
-use Rattle.std.proofs.lemmas.List.Elements.{All-append, All-drop, All-head, All-push, All-tail, All-take, All-weaker, filter-append}
+use Rattle.std.proofs.lemmas.List.Elements.{Contains-append_left, Contains-push, All-append, All-drop, All-head, All-push, All-tail, All-take, All-weaker, filter-append}
+use Rattle.std.specs.List.{Contains}
+use Rattle.std.proofs.lemmas.List.{take_all}
+use Rattle.std.proofs.lemmas.List.Edits.{get_or-remove_above, get_or-remove_below, length-remove}
 use Rattle.std.proofs.lemmas.List.Quantifiers.{all_pairs_push, all_pairs_remove}
 use Rattle.gathering.specs.Lines.{HasTaken, Line}
+use Rattle.gathering.specs.Leavers.{leaver_of}
+use Rattle.gathering.specs.declared.leaver.Leaver.{Leaver}
+use Rattle.gathering.specs.declared.leaver.Leaving.{Leaving}
+use Rattle.gathering.specs.declared.leaver.Leaving.TheVariants.{Broken, Closing, Done, ForRoom, Late, Unheard}
 use Rattle.gathering.specs.Clients.{IsOf, IsServedSo, IsTold}
 use Rattle.gathering.specs.declared.client.Answer.{Answer}
 use Rattle.gathering.specs.declared.client.Client.{Client}
 use Rattle.gathering.specs.declared.client.Comer.{Comer}
-use Rattle.hall.specs.Guests.{AreIn, Guest, HadFor, IsGathered, Stands, WentSo, WentSoWithAll, visits_of}
+use Rattle.hall.specs.Guests.{AreIn, Guest, HadFor, HasLeft, IsGathered, IsIn, IsWhy, Stands, WentSo, WentSoWithAll, visits_of}
 use Rattle.hall.specs.Terms.{Given}
-use Rattle.hall.specs.Turns.{answer_of}
+use Rattle.hall.specs.Halls.{IsOut}
+use Rattle.hall.specs.Turns.{MayLeave, answer_of}
 use Rattle.hall.specs.Visits.{Visit}
 
 -- ---- the visits under a number
@@ -137,8 +145,8 @@ module _ {L : Type 0} (given : Given) (line : Line L) where
         let at : k < length clients = omega (arith, lt, length-set clients place new) in
         omega (arith, number_kept k d, known k d at, long)
 
-    abbrev IsIn : Client L → Type 0
-    IsIn c = (guest : Guest L) → Stands line (visits ++ more) (get_or all_now c.number guest) c
+    abbrev StandsIn : Client L → Type 0
+    StandsIn c = (guest : Guest L) → Stands line (visits ++ more) (get_or all_now c.number guest) c
 
     -- how it stands with those who are in, where it stands so with him
     pub stand_still : All (λ (c : Client L). (guest : Guest L) → Stands line visits (get_or guests c.number guest) c) clients
@@ -146,33 +154,60 @@ module _ {L : Type 0} (given : Given) (line : Line L) where
         → All (λ (c : Client L). (guest : Guest L) → Stands line (visits ++ more) (get_or all_now c.number guest) c) (set clients place new)
     stand_still stand his = λ k d lt. by k d lt (cases_eq k place)
       where
-        by : (k : ℕ) (d : Client L) → k < length (set clients place new) → (k ≡ place) ⊎ (k ≡ place → ⊥) → IsIn (get_or (set clients place new) k d)
+        by : (k : ℕ) (d : Client L) → k < length (set clients place new) → (k ≡ place) ⊎ (k ≡ place → ⊥) → StandsIn (get_or (set clients place new) k d)
         by k d lt (inl e) =
-            subst (λ (j : ℕ). IsIn (get_or (set clients place new) j d)) (sym e)
-            (subst IsIn (sym (get_or-set_same clients place new d within))
+            subst (λ (j : ℕ). StandsIn (get_or (set clients place new) j d)) (sym e)
+            (subst StandsIn (sym (get_or-set_same clients place new d within))
             (λ guest. subst (λ (g : Guest L). Stands line (visits ++ more) g new) (sym (ap (λ (n : ℕ). get_or all_now n guest) number ∙ at_his guest)) his))
         by k d lt (inr ne) =
             let at : k < length clients = omega (arith, lt, length-set clients place new) in
             let other = other_number k d at ne in
-            subst IsIn (sym (get_or-set_other clients place k new d ne))
+            subst StandsIn (sym (get_or-set_other clients place k new d ne))
             (λ guest. subst (λ (g : Guest L). Stands line (visits ++ more) g (get_or clients k d)) (sym (at_other (get_or clients k d).number guest other))
             (stands_still visits more (get_or guests (get_or clients k d).number guest) (get_or clients k d) (others (get_or clients k d).number other) (stand k d at guest)))
 
+    -- each of the others is in or has left, as before
+    pub left_still : (gone : List (Leaver L)) → ((k : ℕ) (d : Guest L) → k < length guests → IsIn clients k ⊎ HasLeft line gone visits k (get_or guests k d))
+        → (k : ℕ) (d : Guest L) → k < length all_now → IsIn (set clients place new) k ⊎ HasLeft line gone (visits ++ more) k (get_or all_now k d)
+    left_still gone left k d lt = by (cases_eq k old.number)
+      where
+        in_still : IsIn clients k → IsIn (set clients place new) k
+        in_still is_in = record {
+          place = is_in.place;
+          within = omega (arith, is_in.within, length-set clients place new);
+          his = λ c. number_kept is_in.place c ∙ is_in.his c;
+        }
+        by : (k ≡ old.number) ⊎ (k ≡ old.number → ⊥) → IsIn (set clients place new) k ⊎ HasLeft line gone (visits ++ more) k (get_or all_now k d)
+        by (inl e) = inl (record {
+          place = place;
+          within = omega (arith, within, length-set clients place new);
+          his = λ c. ap (λ (x : Client L). x.number) (get_or-set_same clients place new c within) ∙ number ∙ sym e;
+        })
+        by (inr ne) = either (left k d (omega (arith, lt, long)))
+          where
+            either : IsIn clients k ⊎ HasLeft line gone visits k (get_or guests k d) → IsIn (set clients place new) k ⊎ HasLeft line gone (visits ++ more) k (get_or all_now k d)
+            either (inl is_in) = inl (in_still is_in)
+            either (inr it) = inr (subst (λ (x : Guest L). HasLeft line gone (visits ++ more) k x) (sym (at_other k d ne)) (record {
+              why = it.why;
+              back = it.back;
+              holds = subst (λ (vs : List Visit). IsWhy line it.why (get_or guests k d).last vs) (sym (same_under k visits more (others k ne))) it.holds;
+            }))
+
   -- ---- all of them
 
-  pub are_same : (guests : List (Guest L)) (visits : List Visit) (came came_then : ℕ) (clients clients_then : List (Client L)) → came_then ≡ came → clients_then ≡ clients
-      → AreIn given line guests visits came clients → AreIn given line guests visits came_then clients_then
-  are_same guests visits came came_then clients clients_then same_came same_clients are =
-      subst (λ (n : ℕ). AreIn given line guests visits n clients_then) (sym same_came) (subst (λ (cs : List (Client L)). AreIn given line guests visits came cs) (sym same_clients) are)
+  pub are_same : (guests : List (Guest L)) (visits : List Visit) (gone : List (Leaver L)) (came came_then : ℕ) (clients clients_then : List (Client L)) → came_then ≡ came → clients_then ≡ clients
+      → AreIn given line guests visits gone came clients → AreIn given line guests visits gone came_then clients_then
+  are_same guests visits gone came came_then clients clients_then same_came same_clients are =
+      subst (λ (n : ℕ). AreIn given line guests visits gone n clients_then) (sym same_came) (subst (λ (cs : List (Client L)). AreIn given line guests visits gone came cs) (sym same_clients) are)
 
   -- one went on: all who came are there as before, and those who are in
-  pub one_went_on : (guests : List (Guest L)) (visits more : List Visit) (came : ℕ) (clients : List (Client L)) (place : ℕ) (old new : Client L) → AreIn given line guests visits came clients
+  pub one_went_on : (guests : List (Guest L)) (visits more : List Visit) (gone : List (Leaver L)) (came : ℕ) (clients : List (Client L)) (place : ℕ) (old new : Client L) → AreIn given line guests visits gone came clients
       → place < length clients → old ≡ get_or clients place old → new.door ≡ old.door → new.number ≡ old.number → All (λ (v : Visit). v.number ≡ old.number) more
       → ((guest : Guest L) → Stands line visits guest old → WentSo given line guest (visits_of old.number visits)
       → IsOf line guest.came.line new × HadFor (answer_of new) (visits_of old.number (visits ++ more))
       × ((visit : Visit) → visits_of old.number (visits ++ more) ≡ visit ∷ [] → IsGathered given line guest.came visit))
-      → (all : List (Guest L)) × (map (λ (g : Guest L). g.came) all ≡ map (λ (g : Guest L). g.came) guests) × AreIn given line all (visits ++ more) came (set clients place new)
-  one_went_on guests visits more came clients place old new are within is door number mine goes =
+      → (all : List (Guest L)) × (map (λ (g : Guest L). g.came) all ≡ map (λ (g : Guest L). g.came) guests) × AreIn given line all (visits ++ more) gone came (set clients place new)
+  one_went_on guests visits more gone came clients place old new are within is door number mine goes =
       let here = get_or_read clients place old within is in
       let some_guest : Guest L = record { came = record { door = old.door; line = old.line }; last = old.line } in
       let less : old.number < length guests = subst (λ (c : Client L). c.number < length guests) (sym (here old)) (are.known place old within) in
@@ -192,6 +227,8 @@ module _ {L : Type 0} (given : Given) (line : Line L) where
           apart = apart_still guests visits more clients place old new within is number are.apart are.known mine;
           known = known_still guests visits more clients place old new within is number are.apart are.known mine;
           stand = stand_still guests visits more clients place old new within is number are.apart are.known mine are.stand stands;
+          sum = omega (arith, are.sum, length-set clients place new, length-set guests old.number (record { came = guest.came; last = new.line }));
+          left = left_still guests visits more clients place old new within is number are.apart are.known mine gone are.left;
         },
       )
 
@@ -232,22 +269,37 @@ module _ {L : Type 0} (given : Given) (line : Line L) where
       subst (λ (g : Guest L). Stands line visits g (get_or clients k d))
       (sym (get_or_append_left guests (record { came = start; last = start.line } ∷ []) guest (get_or clients k d).number (known k d lt))) (stand k d lt guest)
 
-  -- he came, and was let go at once
-  pub one_came : (guests : List (Guest L)) (visits : List Visit) (came : ℕ) (clients : List (Client L)) (start : Comer L) → AreIn given line guests visits came clients → HasTaken (line.taken start.line) []
-      → AreIn given line (with_one guests start) visits (came + 1) clients
-  one_came guests visits came clients start are fresh = record {
-    count = omega (arith, one_longer guests start, are.count);
-    went = came_in guests visits start are.went fresh;
-    apart = are.apart;
-    known = known_on guests start clients are.known;
-    stand = stand_on guests start visits clients are.known are.stand;
-  }
+  -- whoever was in or had left is so still
+  left_on : (guests : List (Guest L)) (visits : List Visit) (gone : List (Leaver L)) (clients : List (Client L)) (start : Comer L) (client : Client L) → client.number ≡ length guests
+      → ((k : ℕ) (d : Guest L) → k < length guests → IsIn clients k ⊎ HasLeft line gone visits k (get_or guests k d))
+      → (k : ℕ) (d : Guest L) → k < length (with_one guests start) → IsIn (clients ++ client ∷ []) k ⊎ HasLeft line gone visits k (get_or (with_one guests start) k d)
+  left_on guests visits gone clients start client at left k d lt = by (cases_eq k (length guests))
+    where
+      in_still : IsIn clients k → IsIn (clients ++ client ∷ []) k
+      in_still is_in = record {
+        place = is_in.place;
+        within = omega (arith, is_in.within, length_push clients client);
+        his = λ c. ap (λ (x : Client L). x.number) (get_or_append_left clients (client ∷ []) c is_in.place is_in.within) ∙ is_in.his c;
+      }
+      by : (k ≡ length guests) ⊎ (k ≡ length guests → ⊥) → IsIn (clients ++ client ∷ []) k ⊎ HasLeft line gone visits k (get_or (with_one guests start) k d)
+      by (inl e) = inl (record {
+        place = length clients;
+        within = omega (arith, length_push clients client);
+        his = λ c. ap (λ (x : Client L). x.number) (get_or_push clients client c (length clients) refl) ∙ at ∙ sym e;
+      })
+      by (inr ne) = either (left k d (omega (arith, lt, ne, one_longer guests start)))
+        where
+          either : IsIn clients k ⊎ HasLeft line gone visits k (get_or guests k d) → IsIn (clients ++ client ∷ []) k ⊎ HasLeft line gone visits k (get_or (with_one guests start) k d)
+          either (inl is_in) = inl (in_still is_in)
+          either (inr it) =
+              let less : k < length guests = omega (arith, lt, ne, one_longer guests start) in
+              inr (subst (λ (x : Guest L). HasLeft line gone visits k x) (sym (get_or_append_left guests (record { came = start; last = start.line } ∷ []) d k less)) it)
 
-  -- he came in
-  pub one_entered : (guests : List (Guest L)) (visits : List Visit) (came : ℕ) (clients : List (Client L)) (start : Comer L) (client : Client L) → AreIn given line guests visits came clients
+  -- it came in
+  pub one_entered : (guests : List (Guest L)) (visits : List Visit) (gone : List (Leaver L)) (came : ℕ) (clients : List (Client L)) (start : Comer L) (client : Client L) → AreIn given line guests visits gone came clients
       → HasTaken (line.taken start.line) [] → client.door ≡ start.door → client.line ≡ start.line → client.number ≡ came → client.answer ≡ None → IsOf line start.line client
-      → AreIn given line (with_one guests start) visits (came + 1) (clients ++ client ∷ [])
-  one_entered guests visits came clients start client are fresh door over number unanswered own =
+      → AreIn given line (with_one guests start) visits gone (came + 1) (clients ++ client ∷ [])
+  one_entered guests visits gone came clients start client are fresh door over number unanswered own =
       let at : client.number ≡ length guests = number ∙ sym are.count in
       let none : visits_of client.number visits ≡ [] =
       none_under client.number visits (All-weaker (λ (v : Visit). v.number < length guests) (λ (v : Visit). v.number ≡ client.number → ⊥) (λ v less same. omega (arith, less, same, at)) visits are.went.known) in
@@ -260,29 +312,91 @@ module _ {L : Type 0} (given : Given) (line : Line L) where
         known = All-push (λ (c : Client L). c.number < length (with_one guests start)) clients client (known_on guests start clients are.known) (omega (arith, at, one_longer guests start));
         stand = All-push (λ (c : Client L). (g : Guest L) → Stands line visits (get_or (with_one guests start) c.number g) c) clients client (stand_on guests start visits clients are.known are.stand)
             (λ g. subst (λ (x : Guest L). Stands line visits x client) (sym (get_or_push guests (record { came = start; last = start.line }) g client.number (sym at))) (record { door = door; last = sym over; own = own; his = had }));
+        sum = omega (arith, are.sum, length_push clients client, one_longer guests start);
+        left = left_on guests visits gone clients start client at are.left;
       }
 
   -- ---- one left
 
+  -- a reason for which a client may leave holds of it
+  pub why_holds : (visits : List Visit) (guest : Guest L) (client : Client L) (why : Leaving) → Stands line visits guest client → MayLeave line why client → IsWhy line why client.line (visits_of client.number visits)
+  why_holds visits guest client Broken stood may = may
+  why_holds visits guest client Unheard stood may = tt
+  why_holds visits guest client Late stood may = tt
+  why_holds visits guest client ForRoom stood may = tt
+  why_holds visits guest client Closing stood may = tt
+  why_holds visits guest client Done stood may = whole client.answer refl stood.own stood.his may
+    where
+      whole : (answer : Option Answer) → client.answer ≡ answer → IsServedSo line guest.came.line client.line client.got.items client.answer → HadFor (option_map (λ (a : Answer). a.bytes.items) client.answer) (visits_of client.number visits)
+          → IsSomeAnd client.answer (λ (a : Answer). length a.bytes.items ≤ a.sent) → IsWhy line Done client.line (visits_of client.number visits)
+      whole None is own had all = absurd (subst (λ (x : Option Answer). IsSomeAnd x (λ (a : Answer). length a.bytes.items ≤ a.sent)) is all)
+      whole (Some answer) is own had all =
+          let told = subst (λ (x : Option Answer). IsServedSo line guest.came.line client.line client.got.items x) is own in
+          let every = subst (λ (x : Option Answer). IsSomeAnd x (λ (a : Answer). length a.bytes.items ≤ a.sent)) is all in
+          let (visit, one, same) = subst (λ (x : Option Answer). HadFor (option_map (λ (a : Answer). a.bytes.items) x) (visits_of client.number visits)) is had in
+          subst (λ (vs : List Visit). IsWhy line Done client.line vs) (sym one)
+          (subst (λ (bytes : List ℕ). HasTaken (line.taken client.line) bytes) (take_all answer.sent answer.bytes.items every ∙ sym same) told.took)
+
   rest : (P : Client L → Type 0) (xs : List (Client L)) (n : ℕ) → All P xs → All P (remove xs n)
   rest P xs n all = All-append P (take n xs) (drop (suc n) xs) (All-take P n xs all) (All-drop P (suc n) xs all)
 
-  pub one_left : (guests : List (Guest L)) (visits : List Visit) (came : ℕ) (clients : List (Client L)) (place : ℕ) → AreIn given line guests visits came clients → place < length clients
-      → AreIn given line guests visits came (remove clients place)
-  one_left guests visits came clients place are within = record {
+  module _ (clients : List (Client L)) (place : ℕ) (client : Client L) (within : place < length clients) (here : (d : Client L) → client ≡ get_or clients place d) where
+    -- whoever is at another place is in still
+    in_without : (k : ℕ) → (k ≡ client.number → ⊥) → IsIn clients k → IsIn (remove clients place) k
+    in_without k ne is_in = by (cases_order is_in.place place)
+      where
+        fewer : length (remove clients place) + 1 ≡ length clients
+        fewer = length-remove clients place within
+        by : (is_in.place ≡ place) ⊎ ((is_in.place < place) ⊎ (place < is_in.place)) → IsIn (remove clients place) k
+        by (inl same) = absurd (ne (sym (is_in.his client) ∙ ap (λ (j : ℕ). (get_or clients j client).number) same ∙ sym (ap (λ (c : Client L). c.number) (here client))))
+        by (inr (inl below)) = record {
+          place = is_in.place;
+          within = omega (arith, below, within, fewer);
+          his = λ c. ap (λ (x : Client L). x.number) (get_or-remove_below clients place c is_in.place below within) ∙ is_in.his c;
+        }
+        by (inr (inr above)) = record {
+          place = is_in.place - 1;
+          within = let inside = is_in.within in omega (arith, above, inside, fewer);
+          his = λ c.
+              ap (λ (x : Client L). x.number) (get_or-remove_above clients place c (is_in.place - 1) (omega (arith, above)) within)
+              ∙ ap (λ (j : ℕ). (get_or clients j c).number) (before_again is_in.place above) ∙ is_in.his c;
+        }
+          where
+            before_again : (n : ℕ) → place < n → n - 1 + 1 ≡ n
+            before_again n less = omega (arith, less)
+
+  pub one_left : (guests : List (Guest L)) (visits : List Visit) (gone : List (Leaver L)) (came : ℕ) (clients : List (Client L)) (place : ℕ) (client : Client L) (why : Leaving) → AreIn given line guests visits gone came clients
+      → place < length clients → ((d : Client L) → client ≡ get_or clients place d) → MayLeave line why client → AreIn given line guests visits (gone ++ leaver_of client why ∷ []) came (remove clients place)
+  one_left guests visits gone came clients place client why are within here may = record {
     count = are.count;
     went = are.went;
     apart = all_pairs_remove (λ (a b : Client L). a.number < b.number) clients place within are.apart;
     known = rest (λ (c : Client L). c.number < length guests) clients place are.known;
     stand = rest (λ (c : Client L). (g : Guest L) → Stands line visits (get_or guests c.number g) c) clients place are.stand;
+    sum = let fewer = length-remove clients place within in omega (arith, are.sum, fewer, length_push gone (leaver_of client why));
+    left = λ k d lt. by k d (cases_eq k client.number) (are.left k d lt);
   }
+    where
+      stood : (d : Guest L) → Stands line visits (get_or guests client.number d) client
+      stood d = subst (λ (c : Client L). Stands line visits (get_or guests c.number d) c) (sym (here client)) (are.stand place client within d)
+      by : (k : ℕ) (d : Guest L) → (k ≡ client.number) ⊎ (k ≡ client.number → ⊥) → IsIn clients k ⊎ HasLeft line gone visits k (get_or guests k d)
+          → IsIn (remove clients place) k ⊎ HasLeft line (gone ++ leaver_of client why ∷ []) visits k (get_or guests k d)
+      by k d (inl e) left = inr (subst (λ (j : ℕ). HasLeft line (gone ++ leaver_of client why ∷ []) visits j (get_or guests j d)) (sym e) (record {
+        why = why;
+        back = subst (λ (l : L). Contains (gone ++ leaver_of client why ∷ []) (record { number = client.number; line = l; why = why })) (sym (stood d).last) (Contains-push gone (leaver_of client why));
+        holds = subst (λ (l : L). IsWhy line why l (visits_of client.number visits)) (sym (stood d).last) (why_holds visits (get_or guests client.number d) client why (stood d) may);
+      }))
+      by k d (inr ne) (inl is_in) = inl (in_without clients place client within here k ne is_in)
+      by k d (inr ne) (inr it) = inr (record { why = it.why; back = Contains-append_left gone (leaver_of client why ∷ []) _ it.back; holds = it.holds })
 
   -- nobody came yet
-  pub none_in : AreIn given line [] [] 0 []
+  pub none_in : AreIn given line [] [] [] 0 []
   none_in = record {
     count = refl;
     went = record { each = λ k d lt. absurd (omega (arith, lt)); known = λ k d lt. absurd (omega (arith, lt)) };
     apart = λ i j d lt high. absurd (omega (arith, high));
     known = λ k d lt. absurd (omega (arith, lt));
     stand = λ k d lt. absurd (omega (arith, lt));
+    sum = refl;
+    left = λ k d lt. absurd (omega (arith, lt));
   }

@@ -1,35 +1,41 @@
 -- From one moment of a hall to another.
 use Rattle.std.proofs.Common.{◌≡◌, ◌≤◌, ◌<◌, ◌+◌, ◌-◌, ◌^◌, ◌∙◌, ◌⊎◌, ◌∷◌, ◌++◌, ℕ, true, List, [], None, Option, Some, ap, append-nil, append_assoc, arith, get_or, inl, inr, insert, length, length-set, map, option_map, refl, remove, set, subst, suc, sym, zero}
-use Rattle.std.specs.Prelude.{Err, IfSome, Ok, OnOk, Result, unwrap_or}
+use Rattle.std.specs.Prelude.{Bool, Err, IfSome, Ok, OnOk, Result, false, unwrap_or}
 use Rattle.std.specs.Result.{IsErr}
 use Rattle.std.specs.List.{FoldsTo}
 use Rattle.std.specs.Vec.{with_item}
-use Rattle.std.proofs.lemmas.List.{get_or_read, map_push}
+use Rattle.std.proofs.lemmas.List.{get_or_default, get_or_read, map_push}
 use Rattle.std.proofs.lemmas.List.Elements.{All-nil, All-push}
 use Rattle.std.proofs.lemmas.List.Sums.{sum_by-append}
 use Rattle.sqlite.specs.Held.{Held}
 use Rattle.sqlite.specs.State.{HasCleanDisk, State}
 use Rattle.office.specs.Values.{OfficeValue}
 use Rattle.votes.specs.declared.streams.Broken.{Broken}
-use Rattle.gathering.specs.Lines.{HasTaken, Line}
+use Rattle.gathering.specs.Leavers.{leaver_of}
+use Rattle.gathering.specs.Lines.{HasTaken, Line, failed_after, one_more}
 use Rattle.gathering.specs.Clients.{IsNew, IsOf}
-use Rattle.gathering.specs.Rooms.{clients_among, count_at}
+use Rattle.gathering.specs.Rooms.{DoorsEntry, after_admit, after_call, after_wait, clients_among, count_at, with_leaver}
 use Rattle.gathering.specs.declared.client.Answer.{Answer}
 use Rattle.gathering.specs.declared.client.Client.{Client}
 use Rattle.gathering.specs.declared.client.Comer.{Comer}
 use Rattle.gathering.specs.declared.client.Door.{Door}
+use Rattle.gathering.specs.declared.doors.Admitted.TheVariants.{One}
+use Rattle.gathering.specs.declared.leaver.Leaver.{Leaver}
+use Rattle.gathering.specs.declared.leaver.Leaving.{Leaving}
 use Rattle.gathering.specs.declared.room.Room.{Room}
 use Rattle.gathering.proofs.LineLemmas.{heard_more}
-use Rattle.hall.specs.Guests.{AreIn, Guest, HadFor, IsGathered, IsSound, Stands, WentSo, visits_of}
-use Rattle.hall.specs.Halls.{AreLetGo, GoesOn, GoesOnServing, IsLetGo, LetsInMore, ServesHall}
+use Rattle.hall.specs.Guests.{AreIn, Guest, HadFor, HasLeft, IsGathered, IsIn, IsSound, Stands, WentSo, visits_of}
+use Rattle.hall.specs.Halls.{AreLetGo, GoesOn, GoesOnServing, HandsBackMore, IsCalled, IsEndedBy, IsRound, LetsInMore, ServesHall}
+use Rattle.hall.specs.declared.ended.Ended.{Ended}
+use Rattle.hall.specs.declared.ended.Ended.TheVariants as ended
 use Rattle.codes.specs.Tries.{TriesEntry}
 use Rattle.hall.specs.Reads.{Desk, with_none_kept}
 use Rattle.hall.specs.Terms.{Given}
-use Rattle.hall.specs.Turns.{HasComeAt, HasTurn, IsUntold, MayHaveTurn, answer_of}
+use Rattle.hall.specs.Turns.{HasComeAt, HasTurn, IsUntold, MayHaveTurn, MayLeave, answer_of}
 use Rattle.hall.specs.Visits.{ServesVisit, Visit}
-use Rattle.hall.proofs.GuestLemmas.{are_same, first_under, gathered_for, none_in, one_came, one_entered, one_left, one_went_on, same_under, with_one}
+use Rattle.hall.proofs.GuestLemmas.{are_same, first_under, gathered_for, none_in, one_entered, one_left, one_went_on, same_under, with_one}
 use Rattle.hall.proofs.KeptLemmas.{cleans, kept_of, turned_away}
-use Rattle.hall.proofs.LeavingLemmas.{folds_then}
+use Rattle.hall.proofs.LeavingLemmas.{Outs, folds_then, more_then}
 use Rattle.hall.proofs.TurnLemmas.{is_heard}
 
 -- ---- a place
@@ -45,103 +51,131 @@ remove_set [] place x within = absurd (omega (arith, within))
 remove_set (y ∷ ys) zero x within = refl
 remove_set {X} (y ∷ ys) (suc place) x within = ap (λ (zs : List X). y ∷ zs) (remove_set ys place x (omega (arith, within)))
 
--- ---- those who came in
+-- ---- those that came in, and those that were handed back
 
-lets_in_none : {L : Type 0} (lines : Option (List (Comer L))) → LetsInMore lines lines []
-lets_in_none None = refl
-lets_in_none (Some lines) = ap Some (sym (append-nil lines))
+grows_none : {X : Type 0} (count : Option (List X)) → count ≡ option_map (λ (xs : List X). xs ++ []) count
+grows_none None = refl
+grows_none (Some xs) = ap Some (sym (append-nil xs))
 
-pub lets_in_same : {L : Type 0} (old new : Option (List (Comer L))) → new ≡ old → LetsInMore old new []
-lets_in_same old new same = same ∙ lets_in_none old
+pub grows_same : {X : Type 0} (old new : Option (List X)) → new ≡ old → new ≡ option_map (λ (xs : List X). xs ++ []) old
+grows_same old new same = same ∙ grows_none old
 
-lets_in_then : {L : Type 0} (old mid new : Option (List (Comer L))) (first next : List (Comer L)) → LetsInMore old mid first → LetsInMore mid new next → LetsInMore old new (first ++ next)
-lets_in_then {L} None mid new first next a b = b ∙ ap (option_map (λ (xs : List (Comer L)). xs ++ next)) a
-lets_in_then {L} (Some lines) mid new first next a b = b ∙ ap (option_map (λ (xs : List (Comer L)). xs ++ next)) a ∙ ap Some (append_assoc lines first next)
+grows_then : {X : Type 0} (old mid new : Option (List X)) (first next : List X) → mid ≡ option_map (λ (xs : List X). xs ++ first) old → new ≡ option_map (λ (xs : List X). xs ++ next) mid
+    → new ≡ option_map (λ (xs : List X). xs ++ (first ++ next)) old
+grows_then {X} old mid new first next a b = b ∙ ap (option_map (λ (xs : List X). xs ++ next)) a ∙ more_then old first next
 
 -- how many of them count
 clients_append : {L : Type 0} (first next : List (Comer L)) → clients_among (first ++ next) ≡ clients_among first + clients_among next
 clients_append first next = sum_by-append (λ comer. count_at comer.door) first next
 
+-- nobody came in at doors, and nobody was handed back
+abbrev pub IsStill : {L : Type 0} → DoorsEntry L → DoorsEntry L → Type 0
+IsStill before later = (later.came ≡ before.came) × (later.left ≡ before.left)
+
+pub still_call : {L A : Type 0} (result : Result A Broken) (before later : DoorsEntry L) → later ≡ after_call result before → IsStill before later
+still_call (Ok value) before later is = (ap (λ (d : DoorsEntry _). d.came) is, ap (λ (d : DoorsEntry _). d.left) is)
+still_call (Err broken) before later is = (ap (λ (d : DoorsEntry _). d.came) is, ap (λ (d : DoorsEntry _). d.left) is)
+
+pub still_wait : {L : Type 0} (result : Result (Unit {0}) Broken) (before later : DoorsEntry L) → later ≡ after_wait result before → IsStill before later
+still_wait (Ok value) before later is = (ap (λ (d : DoorsEntry _). d.came) is, ap (λ (d : DoorsEntry _). d.left) is)
+still_wait (Err broken) before later is = (ap (λ (d : DoorsEntry _). d.came) is, ap (λ (d : DoorsEntry _). d.left) is)
+
 module _ {L : Type 0} (given : Given) (line : Line L) where
   -- ---- a room
 
-  -- nobody came in, and whoever is in is still who he was
-  pub goes_with : (let_in let_in_later : Option (List (Comer L))) (old new : Room L) → let_in_later ≡ let_in → new.counted ≡ old.counted + 0
-      → ((guests : List (Guest L)) (visits : List Visit) → AreIn given line guests visits old.came old.clients.items → AreIn given line guests visits new.came new.clients.items)
-      → GoesOn given line [] let_in let_in_later old new
-  goes_with let_in let_in_later old new same counted stay = record {
+  -- nobody came in, and whoever is in is still who it was, or was handed back
+  pub goes_with : (before later : DoorsEntry L) (old new : Room L) (gone : List (Leaver L)) → later.came ≡ before.came → HandsBackMore before.left later.left gone → new.counted ≡ old.counted + 0
+      → ((guests : List (Guest L)) (visits : List Visit) (left : List (Leaver L)) → AreIn given line guests visits left old.came old.clients.items → AreIn given line guests visits (left ++ gone) new.came new.clients.items)
+      → GoesOn given line [] before later old new
+  goes_with before later old new gone same back counted stay = record {
     comers = [];
-    told = lets_in_same let_in let_in_later same;
+    told = grows_same before.came later.came same;
     counted = counted;
-    own = λ guests earlier are. (
+    gone = gone;
+    back = back;
+    own = λ guests earlier left are. (
       guests,
       sym (append-nil (map (λ (g : Guest L). g.came) guests)),
-      subst (λ (vs : List Visit). AreIn given line guests vs new.came new.clients.items) (sym (append-nil earlier)) (stay guests earlier are),
+      subst (λ (vs : List Visit). AreIn given line guests vs (left ++ gone) new.came new.clients.items) (sym (append-nil earlier)) (stay guests earlier left are),
     );
   }
 
-  pub goes_none : (let_in let_in_later : Option (List (Comer L))) (room : Room L) → let_in_later ≡ let_in → GoesOn given line [] let_in let_in_later room room
-  goes_none let_in let_in_later room same = goes_with let_in let_in_later room room same (omega arith) (λ guests visits are. are)
+  pub goes_none : (before later : DoorsEntry L) (room : Room L) → IsStill before later → GoesOn given line [] before later room room
+  goes_none before later room (same, still) = goes_with before later room room [] same (grows_same before.left later.left still) (omega arith) (λ guests visits left are.
+      subst (λ (ls : List (Leaver L)). AreIn given line guests visits ls room.came room.clients.items) (sym (append-nil left)) are)
 
-  pub goes_then : (first next : List Visit) (let_in let_in_mid let_in_later : Option (List (Comer L))) (old mid new : Room L) → GoesOn given line first let_in let_in_mid old mid
-      → GoesOn given line next let_in_mid let_in_later mid new → GoesOn given line (first ++ next) let_in let_in_later old new
-  goes_then first next let_in let_in_mid let_in_later old mid new a b = record {
+  pub goes_then : (first next : List Visit) (before mid later : DoorsEntry L) (old went new : Room L) → GoesOn given line first before mid old went
+      → GoesOn given line next mid later went new → GoesOn given line (first ++ next) before later old new
+  goes_then first next before mid later old went new a b = record {
     comers = a.comers ++ b.comers;
-    told = lets_in_then let_in let_in_mid let_in_later a.comers b.comers a.told b.told;
+    told = grows_then before.came mid.came later.came a.comers b.comers a.told b.told;
     counted = let sum = clients_append a.comers b.comers in omega (arith, a.counted, b.counted, sum);
-    own = λ guests earlier are.
-        let (some, some_came, some_are) = a.own guests earlier are in
-        let (all, all_came, all_are) = b.own some (earlier ++ first) some_are in (
+    gone = a.gone ++ b.gone;
+    back = grows_then before.left mid.left later.left a.gone b.gone a.back b.back;
+    own = λ guests earlier left are.
+        let (some, some_came, some_are) = a.own guests earlier left are in
+        let (all, all_came, all_are) = b.own some (earlier ++ first) (left ++ a.gone) some_are in (
           all,
           all_came ∙ ap (λ (cs : List (Comer L)). cs ++ b.comers) some_came ∙ append_assoc (map (λ (g : Guest L). g.came) guests) a.comers b.comers,
-          subst (λ (vs : List Visit). AreIn given line all vs new.came new.clients.items) (append_assoc earlier first next) all_are,
+          subst (λ (ls : List (Leaver L)). AreIn given line all (earlier ++ (first ++ next)) ls new.came new.clients.items) (append_assoc left a.gone b.gone)
+              (subst (λ (vs : List Visit). AreIn given line all vs (left ++ a.gone ++ b.gone) new.came new.clients.items) (append_assoc earlier first next) all_are),
         );
   }
 
   -- some were let go
-  stay : (least now : ℕ) (places : List ℕ) (guests : List (Guest L)) (visits : List Visit) (came : ℕ) (old new : List (Client L)) → FoldsTo (IsLetGo least now) old places new
-      → AreIn given line guests visits came old → AreIn given line guests visits came new
-  stay least now [] guests visits came old new same are = subst (λ (cs : List (Client L)). AreIn given line guests visits came cs) same are
-  stay least now (place ∷ places) guests visits came old new (mid, gone, others) are =
-      stay least now places guests visits came mid new others
-      (subst (λ (cs : List (Client L)). AreIn given line guests visits came cs) (sym gone.left) (one_left given line guests visits came old place are gone.within))
+  module _ (Goes : List (Client L) → Leaver L → List (Client L) → Type 0) (outs : Outs Goes) where
+    stay : (gone : List (Leaver L)) (guests : List (Guest L)) (visits : List Visit) (left : List (Leaver L)) (came : ℕ) (old new : List (Client L)) → FoldsTo Goes old gone new
+        → AreIn given line guests visits left came old → AreIn given line guests visits (left ++ gone) came new
+    stay [] guests visits left came old new same are =
+        subst (λ (ls : List (Leaver L)). AreIn given line guests visits ls came new) (sym (append-nil left)) (subst (λ (cs : List (Client L)). AreIn given line guests visits left came cs) same are)
+    stay (leaver ∷ gone) guests visits left came old new (mid, goes, others) are =
+        subst (λ (ls : List (Leaver L)). AreIn given line guests visits ls came new) (append_assoc left (leaver ∷ []) gone)
+        (stay gone guests visits (left ++ leaver ∷ []) came mid new others (step old mid goes are))
+      where
+        step : (clients rest : List (Client L)) → Goes clients leaver rest → AreIn given line guests visits left came clients → AreIn given line guests visits (left ++ leaver ∷ []) came rest
+        step [] rest it is_in = let out = outs [] leaver rest it in absurd (omega (arith, out.out.within))
+        step (c ∷ cs) rest it is_in =
+            let out = outs (c ∷ cs) leaver rest it in
+            let client = get_or (c ∷ cs) out.place c in
+            subst (λ (rs : List (Client L)). AreIn given line guests visits (left ++ leaver ∷ []) came rs) (sym out.out.left)
+            (subst (λ (l : Leaver L). AreIn given line guests visits (left ++ l ∷ []) came (remove (c ∷ cs) out.place)) (sym (out.out.is c))
+            (one_left given line guests visits left came (c ∷ cs) out.place client out.why is_in out.out.within (λ d. get_or_default (c ∷ cs) out.place c d out.out.within) (out.may line client)))
 
-  pub goes_without : (least now : ℕ) (let_in let_in_later : Option (List (Comer L))) (old new : Room L) → let_in_later ≡ let_in → AreLetGo least now old new → GoesOn given line [] let_in let_in_later old new
-  goes_without least now let_in let_in_later old new same (same_came, same_counted, (places, each)) = goes_with let_in let_in_later old new same (omega (arith, same_counted)) (λ guests visits are.
-      stay least now places guests visits new.came old.clients.items new.clients.items each
-      (subst (λ (n : ℕ). AreIn given line guests visits n old.clients.items) (sym same_came) are))
+    pub goes_without : (before later : DoorsEntry L) (old new : Room L) → AreLetGo Goes before later old new → GoesOn given line [] before later old new
+    goes_without before later old new it =
+        goes_with before later old new it.gone (ap (λ (d : DoorsEntry L). d.came) it.back) (ap (λ (d : DoorsEntry L). d.left) it.back) (omega (arith, it.counted)) (λ guests visits left are.
+        stay it.gone guests visits left new.came old.clients.items new.clients.items it.each
+        (subst (λ (n : ℕ). AreIn given line guests visits left n old.clients.items) (sym it.came) are))
 
-  -- one who is done or lost left
-  pub goes_less : (let_in let_in_later : Option (List (Comer L))) (old new : Room L) (place : ℕ) → let_in_later ≡ let_in → place < length old.clients.items → new.clients.items ≡ remove old.clients.items place
-      → new.came ≡ old.came → new.counted ≡ old.counted → GoesOn given line [] let_in let_in_later old new
-  goes_less let_in let_in_later old new place same within items same_came same_counted = goes_with let_in let_in_later old new same (omega (arith, same_counted)) (λ guests visits are.
-      are_same given line guests visits old.came new.came (remove old.clients.items place) new.clients.items same_came items (one_left given line guests visits old.came old.clients.items place are within))
+  -- one left that may, for its reason
+  pub goes_less : (before later : DoorsEntry L) (old new : Room L) (place : ℕ) (client : Client L) (why : Leaving) → later ≡ with_leaver before (leaver_of client why) → place < length old.clients.items
+      → ((d : Client L) → client ≡ get_or old.clients.items place d) → MayLeave line why client → new.clients.items ≡ remove old.clients.items place → new.came ≡ old.came → new.counted ≡ old.counted
+      → GoesOn given line [] before later old new
+  goes_less before later old new place client why back within here may items same_came same_counted =
+      goes_with before later old new (leaver_of client why ∷ []) (ap (λ (d : DoorsEntry L). d.came) back) (ap (λ (d : DoorsEntry L). d.left) back) (omega (arith, same_counted)) (λ guests visits left are.
+      are_same given line guests visits (left ++ leaver_of client why ∷ []) old.came new.came (remove old.clients.items place) new.clients.items same_came items
+      (one_left given line guests visits left old.came old.clients.items place client why are within here may))
 
-  -- one came in, or was let go at once
-  pub goes_more : (let_in let_in_later : Option (List (Comer L))) (old new : Room L) (start : Comer L) (now : ℕ) → let_in_later ≡ option_map (λ (cs : List (Comer L)). cs ++ start ∷ []) let_in → HasTaken (line.taken start.line) []
+  -- one came in
+  pub goes_more : (before later : DoorsEntry L) (old new : Room L) (start : Comer L) (now : ℕ) → later ≡ after_admit (One start) before → HasTaken (line.taken start.line) []
       → new.came ≡ old.came + 1 → new.counted ≡ old.counted + count_at start.door
-      → (new.clients.items ≡ old.clients.items) ⊎ ((client : Client L) × (new.clients.items ≡ old.clients.items ++ client ∷ []) × IsNew start old.came now client × IsOf line start.line client)
-      → GoesOn given line [] let_in let_in_later old new
-  goes_more let_in let_in_later old new start now more fresh one counted entered = record {
+      → (client : Client L) × (new.clients.items ≡ old.clients.items ++ client ∷ []) × IsNew start old.came now client × IsOf line start.line client
+      → GoesOn given line [] before later old new
+  goes_more before later old new start now admitted fresh one counted (client, is, is_new, own) = record {
     comers = start ∷ [];
-    told = more;
+    told = ap (λ (d : DoorsEntry L). d.came) admitted;
     counted = omega (arith, counted);
-    own = λ guests earlier are. (
+    gone = [];
+    back = grows_same before.left later.left (ap (λ (d : DoorsEntry L). d.left) admitted);
+    own = λ guests earlier left are. (
       with_one given line guests start,
       map_push (λ (g : Guest L). g.came) guests (record { came = start; last = start.line }),
-      subst (λ (vs : List Visit). AreIn given line (with_one given line guests start) vs new.came new.clients.items) (sym (append-nil earlier)) (by guests earlier are entered),
+      subst (λ (vs : List Visit). AreIn given line (with_one given line guests start) vs (left ++ []) new.came new.clients.items) (sym (append-nil earlier))
+          (subst (λ (ls : List (Leaver L)). AreIn given line (with_one given line guests start) earlier ls new.came new.clients.items) (sym (append-nil left))
+          (are_same given line (with_one given line guests start) earlier left (old.came + 1) new.came (old.clients.items ++ client ∷ []) new.clients.items one is
+          (one_entered given line guests earlier left old.came old.clients.items start client are fresh is_new.at is_new.over is_new.numbered is_new.unanswered own))),
     );
   }
-    where
-      by : (guests : List (Guest L)) (visits : List Visit) → AreIn given line guests visits old.came old.clients.items
-          → (new.clients.items ≡ old.clients.items) ⊎ ((client : Client L) × (new.clients.items ≡ old.clients.items ++ client ∷ []) × IsNew start old.came now client × IsOf line start.line client)
-          → AreIn given line (with_one given line guests start) visits new.came new.clients.items
-      by guests visits are (inl same) =
-          are_same given line (with_one given line guests start) visits (old.came + 1) new.came old.clients.items new.clients.items one same
-          (one_came given line guests visits old.came old.clients.items start are fresh)
-      by guests visits are (inr (client, is, is_new, own)) =
-          are_same given line (with_one given line guests start) visits (old.came + 1) new.came (old.clients.items ++ client ∷ []) new.clients.items one is
-          (one_entered given line guests visits old.came old.clients.items start client are fresh is_new.at is_new.over is_new.numbered is_new.unanswered own)
 
   -- ---- one goes on
 
@@ -178,42 +212,49 @@ module _ {L : Type 0} (given : Given) (line : Line L) where
 
   -- a room in which one is another now
   abbrev pub room_with : Room L → ℕ → Client L → Room L
-  room_with room place client = record { clients = with_item room.clients place client; came = room.came; counted = room.counted }
+  room_with room place client = record room { clients = with_item room.clients place client }
 
-  pub goes_on_at : {S : Type 0} (state_of : Held S → State) (let_in : Option (List (Comer L))) (room after : Room L) (place : ℕ) (old new : Client L) (before later : Desk S) → place < length room.clients.items
-      → old ≡ get_or room.clients.items place old → new.door ≡ old.door → new.number ≡ old.number → ((start : L) → IsOf line start old → IsOf line start new) → (now : ℕ) × MayHaveTurn given line state_of now old new before later
+  -- he went on, and stands in his place again
+  pub goes_on_at : {S : Type 0} (state_of : Held S → State) (before later : DoorsEntry L) (room after : Room L) (place : ℕ) (old new : Client L) (at behind : Desk S) → IsStill before later → place < length room.clients.items
+      → old ≡ get_or room.clients.items place old → new.door ≡ old.door → new.number ≡ old.number → ((start : L) → IsOf line start old → IsOf line start new) → (now : ℕ) × MayHaveTurn given line state_of now old new at behind
       → after.clients.items ≡ set room.clients.items place new → after.came ≡ room.came → after.counted ≡ room.counted
-      → GoesOnServing given line state_of let_in let_in room after before later
-  goes_on_at state_of let_in room after place old new before later within at door number is (now, inl turn) items came counted = record {
+      → GoesOnServing given line state_of before later room after at behind
+  goes_on_at state_of before later room after place old new at behind (same_in, same_left) within here door number is (now, inl turn) items came counted = record {
     visits = turn.visit ∷ [];
-    each = (later, turn.served, refl);
+    each = (behind, turn.served, refl);
     goes_on = record {
       comers = [];
-      told = lets_in_same let_in let_in refl;
+      told = grows_same before.came later.came same_in;
       counted = omega (arith, counted);
-      own = λ guests earlier are.
-          let (all, all_came, all_are) = one_went_on given line guests earlier (turn.visit ∷ []) room.came room.clients.items place old new are within at door number
+      gone = [];
+      back = grows_same before.left later.left same_left;
+      own = λ guests earlier left are.
+          let (all, all_came, all_are) = one_went_on given line guests earlier (turn.visit ∷ []) left room.came room.clients.items place old new are within here door number
           (All-push (λ (v : Visit). v.number ≡ old.number) [] turn.visit (All-nil (λ (v : Visit). v.number ≡ old.number)) turn.number)
-          (λ guest stood went. had_turn state_of guest earlier now old new before later turn is stood) in (
+          (λ guest stood went. had_turn state_of guest earlier now old new at behind turn is stood) in (
             all,
             all_came ∙ sym (append-nil (map (λ (g : Guest L). g.came) guests)),
-            are_same given line all (earlier ++ turn.visit ∷ []) room.came after.came (set room.clients.items place new) after.clients.items came items all_are,
+            subst (λ (ls : List (Leaver L)). AreIn given line all (earlier ++ turn.visit ∷ []) ls after.came after.clients.items) (sym (append-nil left))
+                (are_same given line all (earlier ++ turn.visit ∷ []) left room.came after.came (set room.clients.items place new) after.clients.items came items all_are),
           );
     };
   }
-  goes_on_at state_of let_in room after place old new before later within at door number is (now, inr (same, answer)) items came counted = record {
+  goes_on_at state_of before later room after place old new at behind (same_in, same_left) within here door number is (now, inr (same, answer)) items came counted = record {
     visits = [];
     each = sym same;
     goes_on = record {
       comers = [];
-      told = lets_in_same let_in let_in refl;
+      told = grows_same before.came later.came same_in;
       counted = omega (arith, counted);
-      own = λ guests earlier are.
-          let (all, all_came, all_are) = one_went_on given line guests earlier [] room.came room.clients.items place old new are within at door number (All-nil (λ (v : Visit). v.number ≡ old.number))
+      gone = [];
+      back = grows_same before.left later.left same_left;
+      own = λ guests earlier left are.
+          let (all, all_came, all_are) = one_went_on given line guests earlier [] left room.came room.clients.items place old new are within here door number (All-nil (λ (v : Visit). v.number ≡ old.number))
           (λ guest stood went. had_still guest earlier old new answer is stood went) in (
             all,
             all_came ∙ sym (append-nil (map (λ (g : Guest L). g.came) guests)),
-            are_same given line all (earlier ++ []) room.came after.came (set room.clients.items place new) after.clients.items came items all_are,
+            subst (λ (ls : List (Leaver L)). AreIn given line all (earlier ++ []) ls after.came after.clients.items) (sym (append-nil left))
+                (are_same given line all (earlier ++ []) left room.came after.came (set room.clients.items place new) after.clients.items came items all_are),
           );
     };
   }
@@ -222,102 +263,106 @@ module _ {L : Type 0} (given : Given) (line : Line L) where
 
   module _ {S : Type 0} (state_of : Held S → State) where
     -- nobody had a turn
-    pub serving_none : (let_in let_in_later : Option (List (Comer L))) (old new : Room L) (office : Desk S) → GoesOn given line [] let_in let_in_later old new
-        → GoesOnServing given line state_of let_in let_in_later old new office office
-    serving_none let_in let_in_later old new office goes = record { visits = []; each = refl; goes_on = goes }
+    pub serving_none : (before later : DoorsEntry L) (old new : Room L) (office : Desk S) → GoesOn given line [] before later old new
+        → GoesOnServing given line state_of before later old new office office
+    serving_none before later old new office goes = record { visits = []; each = refl; goes_on = goes }
 
-    pub serving_then : (let_in let_in_mid let_in_later : Option (List (Comer L))) (old mid new : Room L) (before between later : Desk S)
-        → GoesOnServing given line state_of let_in let_in_mid old mid before between → GoesOnServing given line state_of let_in_mid let_in_later mid new between later
-        → GoesOnServing given line state_of let_in let_in_later old new before later
-    serving_then let_in let_in_mid let_in_later old mid new before between later a b = record {
+    pub serving_then : (before mid later : DoorsEntry L) (old went new : Room L) (at between behind : Desk S)
+        → GoesOnServing given line state_of before mid old went at between → GoesOnServing given line state_of mid later went new between behind
+        → GoesOnServing given line state_of before later old new at behind
+    serving_then before mid later old went new at between behind a b = record {
       visits = a.visits ++ b.visits;
-      each = folds_then (ServesVisit given state_of) a.visits b.visits before between later a.each b.each;
-      goes_on = goes_then a.visits b.visits let_in let_in_mid let_in_later old mid new a.goes_on b.goes_on;
+      each = folds_then (ServesVisit given state_of) a.visits b.visits at between behind a.each b.each;
+      goes_on = goes_then a.visits b.visits before mid later old went new a.goes_on b.goes_on;
     }
 
-    pub serving_same : (let_in let_in_mid let_in_later : Option (List (Comer L))) (old new : Room L) (before later : Desk S) → let_in_later ≡ let_in_mid
-        → GoesOnServing given line state_of let_in let_in_mid old new before later → GoesOnServing given line state_of let_in let_in_later old new before later
-    serving_same let_in let_in_mid let_in_later old new before later same it =
-        subst (λ (lines : Option (List (Comer L))). GoesOnServing given line state_of let_in lines old new before later) (sym same) it
+    -- nothing is known of the doors behind that but what was
+    pub serving_still : (before mid later : DoorsEntry L) (old new : Room L) (at behind : Desk S) → IsStill mid later
+        → GoesOnServing given line state_of before mid old new at behind → GoesOnServing given line state_of before later old new at behind
+    serving_still before mid later old new at behind still it =
+        serving_then before mid later old new new at behind behind it (serving_none mid later new new behind (goes_none mid later new still))
 
     -- one went on, and left
-    pub left_after : (let_in : Option (List (Comer L))) (room left : Room L) (place : ℕ) (old new : Client L) (before later : Desk S) → place < length room.clients.items
-        → old ≡ get_or room.clients.items place old → new.door ≡ old.door → new.number ≡ old.number → ((start : L) → IsOf line start old → IsOf line start new)
-        → (now : ℕ) × MayHaveTurn given line state_of now old new before later → left.clients.items ≡ remove room.clients.items place → left.came ≡ room.came → left.counted ≡ room.counted
-        → GoesOnServing given line state_of let_in let_in room left before later
-    left_after let_in room left place old new before later within at door number is turn items came counted =
+    pub left_after : (before mid later : DoorsEntry L) (room left : Room L) (place : ℕ) (old new : Client L) (why : Leaving) (at behind : Desk S) → IsStill before mid → later ≡ with_leaver mid (leaver_of new why)
+        → place < length room.clients.items → old ≡ get_or room.clients.items place old → new.door ≡ old.door → new.number ≡ old.number → ((start : L) → IsOf line start old → IsOf line start new)
+        → (now : ℕ) × MayHaveTurn given line state_of now old new at behind → MayLeave line why new → left.clients.items ≡ remove room.clients.items place → left.came ≡ room.came → left.counted ≡ room.counted
+        → GoesOnServing given line state_of before later room left at behind
+    left_after before mid later room left place old new why at behind still back within here door number is turn may items came counted =
         let went = room_with room place new in
-        serving_then let_in let_in let_in room went left before later later (goes_on_at state_of let_in room went place old new before later within at door number is turn refl refl refl)
-        (serving_none let_in let_in went left later
-        (goes_less let_in let_in went left place refl (omega (arith, within, length-set room.clients.items place new)) (items ∙ sym (remove_set room.clients.items place new within)) came counted))
+        serving_then before mid later room went left at behind behind (goes_on_at state_of before mid room went place old new at behind still within here door number is turn refl refl refl)
+        (serving_none mid later went left behind
+        (goes_less mid later went left place new why back (omega (arith, within, length-set room.clients.items place new)) (λ d. sym (get_or-set_same room.clients.items place new d within)) may
+        (items ∙ sym (remove_set room.clients.items place new within)) came counted))
 
-    -- one went on, and stands in his place again, or left
-    pub back_after : (let_in : Option (List (Comer L))) (room back : Room L) (place : ℕ) (old new : Client L) (before later : Desk S) → place < length room.clients.items
+    -- one went on, and stands in its place again
+    pub back_after : (before later : DoorsEntry L) (room taken back : Room L) (place : ℕ) (old new : Client L) (at behind : Desk S) → IsStill before later → place < length room.clients.items
         → old ≡ get_or room.clients.items place old → new.door ≡ old.door → new.number ≡ old.number → ((start : L) → IsOf line start old → IsOf line start new)
-        → (now : ℕ) × MayHaveTurn given line state_of now old new before later
-        → (back.clients.items ≡ insert (remove room.clients.items place) place new) ⊎ (back.clients.items ≡ remove room.clients.items place) → back.came ≡ room.came → back.counted ≡ room.counted
-        → GoesOnServing given line state_of let_in let_in room back before later
-    back_after let_in room back place old new before later within at door number is turn (inl items) came counted =
-        goes_on_at state_of let_in room back place old new before later within at door number is turn (items ∙ set_again room.clients.items place new within) came counted
-    back_after let_in room back place old new before later within at door number is turn (inr items) came counted =
-        left_after let_in room back place old new before later within at door number is turn items came counted
-
-    -- those who were in went on, some were let go, and more came in
-    pub serving_round : (let_in let_in_mid let_in_later : Option (List (Comer L))) (old went left new : Room L) (before later : Desk S) (least now : ℕ)
-        → GoesOnServing given line state_of let_in let_in_mid old went before later → AreLetGo least now went left → GoesOn given line [] let_in_mid let_in_later left new
-        → GoesOnServing given line state_of let_in let_in_later old new before later
-    serving_round let_in let_in_mid let_in_later old went left new before later least now on gone more =
-        serving_then let_in let_in_mid let_in_later old went new before later later on
-        (serving_none let_in_mid let_in_later went new later
-        (goes_then [] [] let_in_mid let_in_mid let_in_later went left new (goes_without least now let_in_mid let_in_mid went left refl gone) more))
+        → (now : ℕ) × MayHaveTurn given line state_of now old new at behind
+        → taken.clients.items ≡ remove room.clients.items place → back.clients.items ≡ insert taken.clients.items place new → back.came ≡ room.came → back.counted ≡ room.counted
+        → GoesOnServing given line state_of before later room back at behind
+    back_after before later room taken back place old new at behind still within here door number is turn out items came counted =
+        goes_on_at state_of before later room back place old new at behind still within here door number is turn
+        (items ∙ ap (λ (cs : List (Client L)). insert cs place new) out ∙ set_again room.clients.items place new within) came counted
 
     -- a closed office stays as it is
-    pub serving_closed : (let_in let_in_later : Option (List (Comer L))) (old new : Room L) (before later : Desk S) → GoesOnServing given line state_of let_in let_in_later old new before later
-        → before.office.closed ≡ true → later.office ≡ before.office
-    serving_closed let_in let_in_later old new before later it closed = let away = turned_away given state_of it.visits before later it.each closed in away.1
+    pub serving_closed : (before later : DoorsEntry L) (old new : Room L) (at behind : Desk S) → GoesOnServing given line state_of before later old new at behind
+        → at.office.closed ≡ true → behind.office ≡ at.office
+    serving_closed before later old new at behind it closed = let away = turned_away given state_of it.visits at behind it.each closed in away.1
 
-    pub serving_clean : (let_in let_in_later : Option (List (Comer L))) (old new : Room L) (before later : Desk S) → GoesOnServing given line state_of let_in let_in_later old new before later
-        → HasCleanDisk (state_of later.office.held) → HasCleanDisk (state_of before.office.held)
-    serving_clean let_in let_in_later old new before later it clean = cleans given state_of it.visits before later it.each clean
+    pub serving_clean : (before later : DoorsEntry L) (old new : Room L) (at behind : Desk S) → GoesOnServing given line state_of before later old new at behind
+        → HasCleanDisk (state_of behind.office.held) → HasCleanDisk (state_of at.office.held)
+    serving_clean before later old new at behind it clean = cleans given state_of it.visits at behind it.each clean
 
     -- where it is sound with a room, it is so later
-    pub sound_later : (let_in let_in_later : Option (List (Comer L))) (old new : Room L) (before later : Desk S) → GoesOnServing given line state_of let_in let_in_later old new before later
+    pub sound_later : (before later : DoorsEntry L) (old new : Room L) (at behind : Desk S) → GoesOnServing given line state_of before later old new at behind
         → IsSound given line old → IsSound given line new
-    sound_later let_in let_in_later old new before later it (guests, visits, are) =
-        let (all, came, now) = it.goes_on.own guests visits are in (all, visits ++ it.visits, now)
+    sound_later before later old new at behind it (guests, visits, left, are) =
+        let (all, came, now) = it.goes_on.own guests visits left are in (all, visits ++ it.visits, left ++ it.goes_on.gone, now)
 
-    -- all who came since the doors were opened, where nobody was in before
-    pub hall_serves : (let_in let_in_later : Option (List (Comer L))) (most : Option ℕ) (tries : List TriesEntry) (old new : Room L) (before : OfficeValue S) (later : Desk S) (result : Result (Unit {0}) Broken)
-        → GoesOnServing given line state_of let_in let_in_later old new (with_none_kept tries before) later → old.clients.items ≡ [] → old.came ≡ 0 → old.counted ≡ 0 → IfSome most (λ n. new.counted ≤ n)
+    -- nobody is in any more, so each was handed back
+    none_is_in : (k : ℕ) (clients : List (Client L)) → clients ≡ [] → IsIn clients k → ⊥
+    none_is_in k clients none it = let some = it.within in let zero : length clients ≡ 0 = ap (λ (cs : List (Client L)). length cs) none in omega (arith, some, zero)
+
+    -- all that came since the doors were opened, where nobody was in before, and nobody is in any more
+    pub hall_serves : (before later : DoorsEntry L) (most : Option ℕ) (tries : List TriesEntry) (old new : Room L) (at : OfficeValue S) (behind : Desk S) (result : Result (Unit {0}) Ended)
+        → GoesOnServing given line state_of before later old new (with_none_kept tries at) behind → old.clients.items ≡ [] → old.came ≡ 0 → old.counted ≡ 0 → new.clients.items ≡ [] → IfSome most (λ n. new.counted ≤ n)
         → OnOk result (IfSome most (λ n. new.counted ≡ n))
-        → ServesHall given line state_of let_in let_in_later most tries before later.office result
-    hall_serves let_in let_in_later most tries old new before later result it none first uncounted few all =
-        let (guests, came, are) = it.goes_on.own [] [] (are_same given line [] [] 0 old.came [] old.clients.items first none (none_in given line)) in
+        → ServesHall given line state_of before later most tries at behind.office result
+    hall_serves before later most tries old new at behind result it none first uncounted empty few all =
+        let (guests, came, are) = it.goes_on.own [] [] [] (are_same given line [] [] [] 0 old.came [] old.clients.items first none (none_in given line)) in
         let sum = it.goes_on.counted in
         let counted : new.counted ≡ clients_among (map (λ (g : Guest L). g.came) guests) =
         subst (λ (cs : List (Comer L)). new.counted ≡ clients_among cs) (sym came) (omega (arith, sum, uncounted)) in
         record {
           guests = guests;
           visits = it.visits;
-          came = subst (λ (cs : List (Comer L)). LetsInMore let_in let_in_later cs) (sym came) it.goes_on.told;
+          gone = it.goes_on.gone;
+          came = subst (λ (cs : List (Comer L)). LetsInMore before.came later.came cs) (sym came) it.goes_on.told;
+          back = it.goes_on.back;
           few = subst (λ (m : ℕ). IfSome most (λ n. m ≤ n)) counted few;
           all = subst (λ (m : ℕ). OnOk result (IfSome most (λ n. m ≡ n))) counted all;
           went = are.went;
-          kept = later.kept;
+          left = λ k d lt. out k (get_or guests k d) (are.left k d lt);
+          once = let zero : length new.clients.items ≡ 0 = ap (λ (cs : List (Client L)). length cs) empty in omega (arith, are.sum, zero);
+          kept = behind.kept;
           each = it.each;
-          keeps = λ clean is_open earlier at. kept_of given state_of earlier it.visits tries before later it.each clean is_open at;
+          keeps = λ clean is_open earlier rests. kept_of given state_of earlier it.visits tries at behind it.each clean is_open rests;
         }
+      where
+        out : (k : ℕ) (guest : Guest L) → IsIn new.clients.items k ⊎ HasLeft line it.goes_on.gone it.visits k guest → HasLeft line it.goes_on.gone it.visits k guest
+        out k guest (inl is_in) = absurd (none_is_in k new.clients.items empty is_in)
+        out k guest (inr left) = left
 
 -- ---- who was told nothing
 
 -- a room with nobody in it is sound
 pub sound_empty : {L : Type 0} (given : Given) (line : Line L) (room : Room L) → room.clients.items ≡ [] → room.came ≡ 0 → IsSound given line room
-sound_empty {L} given line room none first = ([], [], are_same given line [] [] 0 room.came [] room.clients.items first none (none_in given line))
+sound_empty {L} given line room none first = ([], [], [], are_same given line [] [] [] 0 room.came [] room.clients.items first none (none_in given line))
 
 -- of those who are in a room that is sound, whoever has no answer was told nothing
 pub untold_at : {L : Type 0} (given : Given) (line : Line L) (room : Room L) (place : ℕ) (client : Client L) → IsSound given line room → place < length room.clients.items
     → client ≡ get_or room.clients.items place client → IsUntold line client
-untold_at {L} given line room place client (guests, visits, are) within at none =
+untold_at {L} given line room place client (guests, visits, left, are) within at none =
     let here = get_or_read room.clients.items place client within at client in
     let some_guest : Guest L = record { came = record { door = client.door; line = client.line }; last = client.line } in
     let stood = are.stand place client within some_guest in
@@ -339,3 +384,29 @@ most_all (Some n) most came is few all = omega (arith, is, few, all)
 pub on_err : {A E : Type 0} (result : Result A E) (P : Type 0) → IsErr result → OnOk result P
 on_err (Ok a) P failed = absurd (cc failed)
 on_err (Err e) P failed = tt
+
+-- ---- calls of the doors
+
+module _ {L : Type 0} where
+  pub called_one : {A : Type 0} (result : Result A Broken) (before later : DoorsEntry L) → later ≡ after_call result before → IsCalled result before later
+  called_one (Ok value) before later is = (ap (λ (d : DoorsEntry L). d.failed) is, ap (λ (d : DoorsEntry L). d.waits) is)
+  called_one (Err broken) before later is = (ap (λ (d : DoorsEntry L). d.failed) is, ap (λ (d : DoorsEntry L). d.waits) is)
+
+  -- no call failed
+  abbrev pub IsUnfailed : DoorsEntry L → DoorsEntry L → Type 0
+  IsUnfailed before later = (later.failed ≡ before.failed) × (later.waits ≡ before.waits)
+
+  pub unfailed_then : {A : Type 0} (result : Result A Broken) (before mid later : DoorsEntry L) → IsUnfailed before mid → IsCalled result mid later → IsCalled result before later
+  unfailed_then result before mid later (failed, waits) (failed_then, waits_then) = (failed_then ∙ ap (failed_after result) failed, waits_then ∙ waits)
+
+  pub then_unfailed : {A : Type 0} (result : Result A Broken) (before mid later : DoorsEntry L) → IsCalled result before mid → IsUnfailed mid later → IsCalled result before later
+  then_unfailed result before mid later (failed, waits) (failed_then, waits_then) = (failed_then ∙ failed, waits_then ∙ waits)
+
+  pub unfailed_leavers : (before later : DoorsEntry L) (old new : Room L) (Goes : List (Client L) → Leaver L → List (Client L) → Type 0) → AreLetGo Goes before later old new → IsUnfailed before later
+  unfailed_leavers before later old new Goes it = (ap (λ (d : DoorsEntry L). d.failed) it.back, ap (λ (d : DoorsEntry L). d.waits) it.back)
+
+  -- two calls failed alike
+  pub called_as : {A B : Type 0} (result : Result A Broken) (other : Result B Broken) (before later : DoorsEntry L) → IsErr result → IsErr other → IsCalled result before later → IsCalled other before later
+  called_as (Err broken) (Err again) before later err also it = it
+  called_as (Ok value) other before later err also it = absurd (cc err)
+  called_as (Err broken) (Ok value) before later err also it = absurd (cc also)

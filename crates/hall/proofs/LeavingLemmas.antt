@@ -1,47 +1,152 @@
--- Clients who are let go, one after the other.
-use Rattle.std.proofs.Common.{◌≡◌, ◌≤◌, ◌<◌, ◌+◌, ◌-◌, ◌∙◌, ◌⊎◌, ◌∷◌, ◌++◌, Bool, false, true, ℕ, List, [], ap, arith, cond, get_or, inl, inr, length, refl, remove, subst, sym}
-use Rattle.std.proofs.lemmas.List.{get_or_read, nil_from_length}
-use Rattle.std.specs.List.{FoldsTo}
-use Rattle.gathering.specs.Rooms.{IsLongest, bytes_held}
+-- Clients that are let go, one after the other.
+use Rattle.std.proofs.Common.{◌≡◌, ◌≤◌, ◌<◌, ◌+◌, ◌-◌, ◌∙◌, ◌⊎◌, ◌∷◌, ◌++◌, ⊤, Bool, false, true, ℕ, List, [], None, Option, Some, ap, append-nil, append_assoc, arith, cond, get_or, inl, inr, length, option_map, refl, remove, subst, sym}
+use Rattle.std.proofs.lemmas.List.{get_or_default, get_or_read, nil_from_length}
+use Rattle.std.proofs.lemmas.List.Edits.{length-remove}
+use Rattle.std.proofs.lemmas.List.Elements.{All-nil, All-weaker}
+use Rattle.std.specs.List.{All, FoldsTo}
+use Rattle.gathering.specs.Leavers.{leaver_of}
+use Rattle.gathering.specs.Lines.{Line}
+use Rattle.gathering.specs.Rooms.{AreUnseen, DoorsEntry, IsLongest, bytes_held, is_among, with_leaver}
 use Rattle.gathering.specs.declared.client.Client.{Client}
+use Rattle.gathering.specs.declared.client.Door.{Door}
+use Rattle.gathering.specs.declared.client.Door.TheVariants.{Clients, Orders}
+use Rattle.gathering.specs.declared.leaver.Leaver.{Leaver}
+use Rattle.gathering.specs.declared.leaver.Leaving.{Leaving}
 use Rattle.gathering.specs.declared.room.Room.{Room}
-use Rattle.hall.specs.Halls.{AreLetGo, IsLetGo}
+use Rattle.hall.specs.Halls.{AreLetGo, IsClosed, IsClosedAt, IsLetGo, IsLetGoForBytes, IsOut, LetsOneGo, OneGoes, for_bytes, for_room_by, late_by, with_leavers}
+use Rattle.hall.specs.Turns.{MayLeave}
+use Rattle.hall.specs.declared.leaving.Rule.{Rule}
 
 pub folds_then : {P A : Type 0} (R : P → A → P → Type 0) (xs ys : List A) (old mid new : P) → FoldsTo R old xs mid → FoldsTo R mid ys new → FoldsTo R old (xs ++ ys) new
 folds_then {P} R [] ys old mid new same rest = subst (λ (o : P). FoldsTo R o ys new) (sym same) rest
 folds_then R (x ∷ xs) ys old mid new (next, step, first) rest = (next, step, folds_then R xs ys next mid new first rest)
 
-module _ {L : Type 0} (least now : ℕ) where
-  pub let_go_none : (room : Room L) → AreLetGo least now room room
-  let_go_none room = (refl, refl, ([], refl))
+-- ---- those that were handed back
 
-  -- who has waited longest of those who were seen, and long enough
-  pub let_go_one : (old new : Room L) (seen : List (Client L)) (place : ℕ) (one : Client L) → seen ≡ old.clients.items → place < length seen
-      → ((c : Client L) → IsLongest seen (get_or seen place c)) → one ≡ get_or old.clients.items place one → least ≤ now - one.since
-      → new.clients.items ≡ remove old.clients.items place → new.came ≡ old.came → new.counted ≡ old.counted → AreLetGo least now old new
-  let_go_one old new seen place one same within longest is patient left came counted =
-      let clients = old.clients.items in
-      let inside : place < length clients = subst (λ (cs : List (Client L)). place < length cs) same within in (
-        came,
-        counted,
-        (
-          place ∷ [],
-          (
-            new.clients.items,
-            record {
-              within = inside;
-              longest = λ c. let it = subst (λ (cs : List (Client L)). (d : Client L) → IsLongest cs (get_or cs place d)) same longest in it c;
-              patient = λ c. subst (λ (d : Client L). least ≤ now - d.since) (get_or_read clients place one inside is c) patient;
-              left = left;
-            },
-            refl,
-          ),
-        ),
-      )
+none_more : {X : Type 0} (count : Option (List X)) → option_map (λ (xs : List X). xs ++ []) count ≡ count
+none_more None = refl
+none_more (Some xs) = ap Some (append-nil xs)
 
-  pub let_go_then : (old mid new : Room L) → AreLetGo least now old mid → AreLetGo least now mid new → AreLetGo least now old new
-  let_go_then old mid new (came, counted, (first, each)) (came_then, counted_then, (next, rest)) =
-      (came_then ∙ came, counted_then ∙ counted, (first ++ next, folds_then (IsLetGo least now) first next old.clients.items mid.clients.items new.clients.items each rest))
+pub more_then : {X : Type 0} (count : Option (List X)) (a b : List X) → option_map (λ (xs : List X). xs ++ b) (option_map (λ (xs : List X). xs ++ a) count) ≡ option_map (λ (xs : List X). xs ++ (a ++ b)) count
+more_then None a b = refl
+more_then (Some xs) a b = ap Some (append_assoc xs a b)
+
+pub with_none : {L : Type 0} (doors : DoorsEntry L) → doors ≡ with_leavers doors []
+with_none {L} doors = ap (λ (left : Option (List (Leaver L))). record doors { left = left }) (sym (none_more doors.left))
+
+pub with_both : {L : Type 0} (doors : DoorsEntry L) (a b : List (Leaver L)) → with_leavers (with_leavers doors a) b ≡ with_leavers doors (a ++ b)
+with_both {L} doors a b = ap (λ (left : Option (List (Leaver L))). record doors { left = left }) (more_then doors.left a b)
+
+module _ {L : Type 0} (Goes : List (Client L) → Leaver L → List (Client L) → Type 0) where
+  pub let_go_none : (doors : DoorsEntry L) (room : Room L) → AreLetGo Goes doors doors room room
+  let_go_none doors room = record { came = refl; counted = refl; gone = []; back = with_none doors; each = refl }
+
+  pub let_go_one : (before later : DoorsEntry L) (old new : Room L) → OneGoes Goes before later old new → AreLetGo Goes before later old new
+  let_go_one before later old new one = record { came = one.came; counted = one.counted; gone = one.leaver ∷ []; back = one.back; each = (new.clients.items, one.goes, refl) }
+
+  pub let_go_maybe : (one : Bool) (before later : DoorsEntry L) (old new : Room L) → LetsOneGo Goes one before later old new → AreLetGo Goes before later old new
+  let_go_maybe true before later old new goes = let_go_one before later old new goes
+  let_go_maybe false before later old new (same, still) =
+      subst (λ (room : Room L). AreLetGo Goes before later old room) (sym same) (subst (λ (doors : DoorsEntry L). AreLetGo Goes before doors old old) (sym still) (let_go_none before old))
+
+  pub let_go_then : (before mid later : DoorsEntry L) (old went new : Room L) → AreLetGo Goes before mid old went → AreLetGo Goes mid later went new → AreLetGo Goes before later old new
+  let_go_then before mid later old went new a b = record {
+    came = b.came ∙ a.came;
+    counted = b.counted ∙ a.counted;
+    gone = a.gone ++ b.gone;
+    back = b.back ∙ ap (λ (doors : DoorsEntry L). with_leavers doors b.gone) a.back ∙ with_both before a.gone b.gone;
+    each = folds_then Goes a.gone b.gone old.clients.items went.clients.items new.clients.items a.each b.each;
+  }
+
+-- ---- who is out
+
+-- whoever goes so is out of its place, for a reason that says nothing of it
+pub record Out {L : Type 0} (old : List (Client L)) (leaver : Leaver L) (new : List (Client L)) : Type 0 where
+  pub why : Leaving
+  pub place : ℕ
+  pub out : IsOut why place old leaver new
+  pub may : (line : Line L) (client : Client L) → MayLeave line why client
+
+abbrev pub Outs : {L : Type 0} → (List (Client L) → Leaver L → List (Client L) → Type 0) → Type 0
+Outs {L} Goes = (old : List (Client L)) (leaver : Leaver L) (new : List (Client L)) → Goes old leaver new → Out old leaver new
+
+module _ {L : Type 0} where
+  pub late_outs : (now : ℕ) → Outs {L} (IsLetGo (late_by now))
+  late_outs now old leaver new it = record { why = (late_by now).why; place = it.place; out = it.out; may = λ line client. tt }
+
+  pub room_outs : (now : ℕ) → Outs {L} (IsLetGo (for_room_by now))
+  room_outs now old leaver new it = record { why = (for_room_by now).why; place = it.place; out = it.out; may = λ line client. tt }
+
+  pub bytes_outs : Outs {L} IsLetGoForBytes
+  bytes_outs old leaver new (over, inl it) = record { why = (for_bytes false).why; place = it.place; out = it.out; may = λ line client. tt }
+  bytes_outs old leaver new (over, inr (unseen, it)) = record { why = (for_bytes true).why; place = it.place; out = it.out; may = λ line client. tt }
+
+  pub closed_outs : Outs {L} IsClosed
+  closed_outs old leaver new it = record { why = _; place = 0; out = it; may = λ line client. tt }
+
+  pub one_fewer : (Goes : List (Client L) → Leaver L → List (Client L) → Type 0) → Outs Goes → (old new : Room L) (before later : DoorsEntry L) → OneGoes Goes before later old new
+      → length new.clients.items + 1 ≡ length old.clients.items
+  one_fewer Goes outs old new before later it =
+      let gone = outs old.clients.items it.leaver new.clients.items it.goes in
+      ap (λ (cs : List (Client L)). length cs + 1) gone.out.left ∙ length-remove old.clients.items gone.place gone.out.within
+
+-- ---- who waited longest
+
+module _ {L : Type 0} (rule : Rule) where
+  pub goes_longest : (before later : DoorsEntry L) (old new : Room L) (seen : List (Client L)) (place : ℕ) (one : Client L) → seen ≡ old.clients.items → place < length seen
+      → ((c : Client L) → IsLongest rule.orders_too seen (get_or seen place c)) → one ≡ get_or old.clients.items place one → rule.least ≤ rule.now - one.since
+      → IsClosedAt rule.why place old.clients.items before new.clients.items later → new.came ≡ old.came → new.counted ≡ old.counted → OneGoes (IsLetGo rule) before later old new
+  goes_longest before later old new seen place one same within longest is patient (leaver, out, back) came counted = record {
+    came = came;
+    counted = counted;
+    leaver = leaver;
+    goes = record {
+      place = place;
+      out = out;
+      longest = λ c. let it = subst (λ (cs : List (Client L)). (d : Client L) → IsLongest rule.orders_too cs (get_or cs place d)) same longest in it c;
+      patient = λ c. subst (λ (d : Client L). rule.least ≤ rule.now - d.since) (get_or_read old.clients.items place one out.within is c) patient;
+    };
+    back = back;
+  }
+
+  -- nobody has waited long enough
+  abbrev pub NoneDue : List (Client L) → Type 0
+  NoneDue clients = All (λ (c : Client L). is_among rule.orders_too c.door ≡ true → rule.now - c.since < rule.least) clients
+
+  pub none_due_unseen : (clients seen : List (Client L)) → seen ≡ clients → AreUnseen rule.orders_too seen → NoneDue clients
+  none_due_unseen clients seen same unseen =
+      subst NoneDue same (All-weaker (λ (c : Client L). is_among rule.orders_too c.door ≡ false) (λ (c : Client L). is_among rule.orders_too c.door ≡ true → rule.now - c.since < rule.least) (λ c no yes. absurd (cc (no, yes))) seen unseen)
+
+  pub none_due_young : (clients seen : List (Client L)) (place : ℕ) (one : Client L) → seen ≡ clients → place < length seen → ((c : Client L) → IsLongest rule.orders_too seen (get_or seen place c))
+      → one ≡ get_or clients place one → rule.now - one.since < rule.least → NoneDue clients
+  none_due_young clients seen place one same within longest is young =
+      subst NoneDue same (All-weaker (λ (c : Client L). is_among rule.orders_too c.door ≡ true → one.since ≤ c.since) (λ (c : Client L). is_among rule.orders_too c.door ≡ true → rule.now - c.since < rule.least)
+      (λ c first yes. let le = first yes in omega (arith, le, young)) seen first_of_all)
+    where
+      first_of_all : All (λ (c : Client L). is_among rule.orders_too c.door ≡ true → one.since ≤ c.since) seen
+      first_of_all =
+          let at : get_or seen place one ≡ one = ap (λ (cs : List (Client L)). get_or cs place one) same ∙ sym is in
+          subst (λ (x : Client L). All (λ (c : Client L). is_among rule.orders_too c.door ≡ true → x.since ≤ c.since) seen) at (longest one).first
+
+-- where orders are looked at too, everybody is
+seen_too : (door : Door) → is_among true door ≡ true
+seen_too Clients = refl
+seen_too Orders = refl
+
+pub all_seen : {L : Type 0} (P : Client L → Type 0) (clients : List (Client L)) → All (λ (c : Client L). is_among true c.door ≡ true → P c) clients → All P clients
+all_seen {L} P clients all = All-weaker (λ (c : Client L). is_among true c.door ≡ true → P c) P (λ c holds. holds (seen_too c.door)) clients all
+
+-- where all would be due, and none is, nobody is in
+pub none_there : {L : Type 0} (clients : List (Client L)) → All (λ (c : Client L). is_among true c.door ≡ true → 0 - c.since < 0) clients → clients ≡ []
+none_there [] none = refl
+none_there (c ∷ cs) none = let never = none 0 c (omega arith) (seen_too c.door) in absurd (omega (arith, never))
+
+pub none_unseen : {L : Type 0} (clients : List (Client L)) → All (λ (c : Client L). is_among false c.door ≡ true → 0 - c.since < 0) clients → AreUnseen false clients
+none_unseen {L} clients none = All-weaker (λ (c : Client L). is_among false c.door ≡ true → 0 - c.since < 0) (λ (c : Client L). is_among false c.door ≡ false) (λ c never. unseen c.door never) clients none
+  where
+    unseen : (door : Door) → (is_among false door ≡ true → _) → is_among false door ≡ false
+    unseen Clients never = absurd (omega (arith, never refl))
+    unseen Orders never = refl
 
 -- ---- how many are left
 
@@ -49,11 +154,9 @@ module _ {L : Type 0} (least now : ℕ) where
 abbrev pub IsThinner : {L : Type 0} → List (Client L) → ℕ → List (Client L) → Type 0
 IsThinner old turns new = (length new + turns ≤ length old) ⊎ (new ≡ [])
 
-pub thinner : {L : Type 0} (first old new : List (Client L)) (turns : ℕ) (one : Bool) → (one ≡ true → length new + 1 ≡ length old) → (one ≡ false → new ≡ old) → (one ≡ false → old ≡ [])
-    → IsThinner first turns old → IsThinner first (turns + 1) new
-thinner {L} first old new turns false less same none it = inr (same refl ∙ none refl)
-thinner {L} first old new turns true less same none (inl so_far) = inl (omega (arith, less refl, so_far))
-thinner {L} first old new turns true less same none (inr empty) = let one = less refl in let zero : length old ≡ 0 = ap (λ (cs : List (Client L)). length cs) empty in absurd (omega (arith, one, zero))
+pub thinner : {L : Type 0} (first old new : List (Client L)) (turns : ℕ) → length new + 1 ≡ length old → IsThinner first turns old → IsThinner first (turns + 1) new
+thinner {L} first old new turns less (inl so_far) = inl (omega (arith, less, so_far))
+thinner {L} first old new turns less (inr empty) = let zero : length old ≡ 0 = ap (λ (cs : List (Client L)). length cs) empty in absurd (omega (arith, less, zero))
 
 -- after as many turns as there were nobody is left
 pub none_left : {L : Type 0} (first last : List (Client L)) (turns : ℕ) → IsThinner first turns last → length first ≤ turns → last ≡ []
@@ -62,9 +165,3 @@ none_left first last turns (inr empty) few = empty
 
 pub none_held : {L : Type 0} (last : List (Client L)) (most : ℕ) → last ≡ [] → bytes_held last ≤ most
 none_held {L} last most empty = subst (λ (cs : List (Client L)). bytes_held cs ≤ most) (sym empty) (omega arith)
-
--- ---- one who is put back
-
-pub either : {X : Type 0} (b : Bool) (now one other : X) → now ≡ cond b one other → (now ≡ one) ⊎ (now ≡ other)
-either true now one other is = inl is
-either false now one other is = inr is

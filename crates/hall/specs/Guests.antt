@@ -1,10 +1,13 @@
 -- All who ever came, clients and orders, and how it went with each.
-use Rattle.std.specs.Prelude.{◌≡◌, ◌<◌, ◌==◌, List, [], ◌∷◌, None, Option, Some, filter, length, slice_index_or, ℕ}
-use Rattle.std.specs.List.{All, AllPairs}
-use Rattle.gathering.specs.Lines.{HasTaken, Line}
+use Rattle.std.specs.Prelude.{◌≡◌, ◌<◌, ◌+◌, ◌⊎◌, ◌==◌, ⊤, List, [], ◌∷◌, None, Option, Some, filter, length, slice_index_or, ℕ}
+use Rattle.std.specs.List.{All, AllPairs, Contains}
+use Rattle.gathering.specs.Lines.{HasFailed, HasTaken, Line}
 use Rattle.gathering.specs.Clients.{IsHeard, IsOf, IsTold}
 use Rattle.gathering.specs.declared.client.Client.{Client}
 use Rattle.gathering.specs.declared.client.Comer.{Comer}
+use Rattle.gathering.specs.declared.leaver.Leaver.{Leaver}
+use Rattle.gathering.specs.declared.leaver.Leaving.{Leaving}
+use Rattle.gathering.specs.declared.leaver.Leaving.TheVariants.{Done, Broken, Unheard, Late, ForRoom, Closing}
 use Rattle.gathering.specs.declared.room.Room.{Room}
 use Rattle.hall.specs.Terms.{Given}
 use Rattle.hall.specs.Turns.{HasComeAt, answer_of}
@@ -38,7 +41,31 @@ pub record WentSoWithAll {L : Type 0} (given : Given) (line : Line L) (guests : 
   pub each : (number : ℕ) (guest : Guest L) → number < length guests → WentSo given line (slice_index_or guests number guest) (visits_of number visits)
   pub known : All (λ visit. visit.number < length guests) visits
 
+-- ---- those that left
+
+-- What the reason says for which one left: it is done where its line took the whole response to its request, and broken where a call of its line failed.
+abbrev pub IsWhy : {L : Type 0} → Line L → Leaving → L → List Visit → Type 0
+IsWhy line Done last [] = ⊥
+IsWhy line Done last (visit ∷ visits) = HasTaken (line.taken last) visit.answer
+IsWhy line Broken last visits = HasFailed (line.failed last)
+IsWhy line Unheard last visits = ⊤
+IsWhy line Late last visits = ⊤
+IsWhy line ForRoom last visits = ⊤
+IsWhy line Closing last visits = ⊤
+
+-- one that came was handed back: under its number, with its line as it was last, and for a reason that holds
+pub record HasLeft {L : Type 0} (line : Line L) (gone : List (Leaver L)) (visits : List Visit) (number : ℕ) (guest : Guest L) : Type 0 where
+  pub why : Leaving
+  pub back : Contains gone (record { number = number; line = guest.last; why = why })
+  pub holds : IsWhy line why guest.last (visits_of number visits)
+
 -- ---- those who are still in
+
+-- one is among those that are in, under this number
+pub record IsIn {L : Type 0} (clients : List (Client L)) (number : ℕ) : Type 0 where
+  pub place : ℕ
+  pub within : place < length clients
+  pub his : (client : Client L) → (slice_index_or clients place client).number ≡ number
 
 -- the visits that a client had who has this answer, or none yet
 abbrev pub HadFor : Option (List ℕ) → List Visit → Type 0
@@ -52,14 +79,16 @@ pub record Stands {L : Type 0} (line : Line L) (visits : List Visit) (guest : Gu
   pub own : IsOf line guest.came.line client
   pub his : HadFor (answer_of client) (visits_of client.number visits)
 
--- All who came to a room, so many, and those of them who are still in it, each under a number of his own.
-pub record AreIn {L : Type 0} (given : Given) (line : Line L) (guests : List (Guest L)) (visits : List Visit) (came : ℕ) (clients : List (Client L)) : Type 0 where
+-- All that came to a room, so many, and those of them that are still in it, each under a number of its own. Each of the others was handed back, once.
+pub record AreIn {L : Type 0} (given : Given) (line : Line L) (guests : List (Guest L)) (visits : List Visit) (gone : List (Leaver L)) (came : ℕ) (clients : List (Client L)) : Type 0 where
   pub count : length guests ≡ came
   pub went : WentSoWithAll given line guests visits
   pub apart : AllPairs (λ one other. one.number < other.number) clients
   pub known : All (λ client. client.number < length guests) clients
   pub stand : All (λ client. (guest : Guest L) → Stands line visits (slice_index_or guests client.number guest) client) clients
+  pub sum : length gone + length clients ≡ length guests
+  pub left : (number : ℕ) (guest : Guest L) → number < length guests → IsIn clients number ⊎ HasLeft line gone visits number (slice_index_or guests number guest)
 
--- so it is with the room: some came, and had their visits, of whom these are in it still
+-- so it is with the room: some came, and had their visits, of which these are in it still
 abbrev pub IsSound : {L : Type 0} → Given → Line L → Room L → Type 0
-IsSound {L} given line room = (guests : List (Guest L)) × (visits : List Visit) × AreIn given line guests visits room.came room.clients.items
+IsSound {L} given line room = (guests : List (Guest L)) × (visits : List Visit) × (gone : List (Leaver L)) × AreIn given line guests visits gone room.came room.clients.items

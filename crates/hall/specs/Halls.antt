@@ -1,5 +1,5 @@
 -- A hall in which clients are served and orders followed: who comes in, who is let go, and what is promised of all of them.
-use Rattle.std.specs.Prelude.{◌≡◌, ◌≤◌, ◌<◌, ◌+◌, ◌-◌, false, List, ◌++◌, IfSome, OnOk, Option, Result, length, map, option_map, slice_index_or, ℕ}
+use Rattle.std.specs.Prelude.{◌≡◌, ◌≤◌, ◌<◌, ◌+◌, ◌-◌, ◌^◌, ◌⊎◌, Bool, true, false, List, ◌++◌, IfSome, OnOk, Option, Result, Ok, Err, length, map, option_map, slice_index_or, ℕ}
 use Rattle.std.specs.List.{FoldsTo, remove}
 use Rattle.sqlite.specs.Held.{Held}
 use Rattle.sqlite.specs.State.{HasCleanDisk, State}
@@ -9,70 +9,164 @@ use Rattle.register.specs.declared.command.Request.{Request}
 use Rattle.store.specs.Offices.{IsAt}
 use Rattle.office.specs.Values.{OfficeValue}
 use Rattle.votes.specs.declared.streams.Broken.{Broken}
-use Rattle.gathering.specs.Lines.{Line}
-use Rattle.gathering.specs.Rooms.{IsLongest, bytes_held, clients_among}
+use Rattle.gathering.specs.Lines.{Line, failed_after, one_more}
+use Rattle.gathering.specs.Rooms.{AreUnseen, DoorsEntry, IsLongest, bytes_held, clients_among, most_bytes, most_clients, with_leaver}
+use Rattle.gathering.specs.Leavers.{leaver_of}
 use Rattle.gathering.specs.declared.client.Client.{Client}
 use Rattle.gathering.specs.declared.client.Comer.{Comer}
+use Rattle.gathering.specs.declared.leaver.Leaver.{Leaver}
+use Rattle.gathering.specs.declared.leaver.Leaving.{Leaving}
+use Rattle.gathering.specs.declared.leaver.Leaving.TheVariants.{Late, ForRoom, Closing}
 use Rattle.gathering.specs.declared.room.Room.{Room}
-use Rattle.hall.specs.Guests.{AreIn, Guest, WentSoWithAll}
+use Rattle.hall.specs.Guests.{AreIn, Guest, HasLeft, WentSoWithAll}
+use Rattle.hall.specs.declared.leaving.Rule.{Rule}
+use Rattle.hall.specs.declared.ended.Ended.{Ended}
+use Rattle.hall.specs.declared.ended.Ended.TheVariants as ended
 use Rattle.codes.specs.Tries.{TriesEntry}
 use Rattle.hall.specs.Reads.{Desk, KeptEntry, desk_at, with_none_kept}
 use Rattle.hall.specs.Terms.{Given}
 use Rattle.hall.specs.Visits.{IsKeptOf, ServesVisit, Visit}
 
--- the most clients who are in a room at once
-abbrev pub most_clients : ℕ
-most_clients = 512
-
--- the most bytes that are held of all of them: 64 MiB
-abbrev pub most_bytes : ℕ
-most_bytes = 67108864
-
 -- no more clients are in a room than may be, and no more bytes are held of them
 abbrev pub IsWithin : {L : Type 0} → Room L → Type 0
 IsWithin room = (length room.clients.items ≤ most_clients) × (bytes_held room.clients.items ≤ most_bytes)
 
--- one who was in at a place is let go: he had waited longest, and at least so long
-pub record IsLetGo {L : Type 0} (least now : ℕ) (old : List (Client L)) (place : ℕ) (new : List (Client L)) : Type 0 where
+-- how long a client may take to send what it asks, and as long to take its response, in milliseconds
+abbrev pub patience : ℕ
+patience = 30000
+
+-- for how long nobody is let go to make room, in milliseconds
+abbrev pub grace : ℕ
+grace = 1000
+
+-- one that was in is late: its half minute is over
+abbrev pub IsLate : {L : Type 0} → ℕ → Client L → Type 0
+IsLate now client = patience ≤ now - client.since
+
+-- nobody more may be in a room
+abbrev pub IsFull : {L : Type 0} → Room L → Type 0
+IsFull room = (most_clients ≤ length room.clients.items) ⊎ (most_bytes ≤ bytes_held room.clients.items)
+
+-- who is late: clients and orders
+abbrev pub late_by : ℕ → Rule
+late_by now = record { orders_too = true; least = patience; now = now; why = Late }
+
+-- for whom room is made: clients alone, that have waited for a second at least
+abbrev pub for_room_by : ℕ → Rule
+for_room_by now = record { orders_too = false; least = grace; now = now; why = ForRoom }
+
+-- what goes where too many bytes are held: clients, or orders too
+abbrev pub for_bytes : Bool → Rule
+for_bytes orders_too = record { orders_too = orders_too; least = 0; now = 0; why = ForRoom }
+
+-- one that was in at a place is out, and is this leaver
+pub record IsOut {L : Type 0} (why : Leaving) (place : ℕ) (old : List (Client L)) (leaver : Leaver L) (new : List (Client L)) : Type 0 where
   pub within : place < length old
-  pub longest : (client : Client L) → IsLongest old (slice_index_or old place client)
-  pub patient : (client : Client L) → least ≤ now - (slice_index_or old place client).since
+  pub is : (client : Client L) → leaver ≡ leaver_of (slice_index_or old place client) why
   pub left : new ≡ remove old place
 
--- some of those who were in are let go, one after the other
-abbrev pub AreLetGo : {L : Type 0} → ℕ → ℕ → Room L → Room L → Type 0
-AreLetGo least now old new = (new.came ≡ old.came) × (new.counted ≡ old.counted) × ((places : List ℕ) × FoldsTo (IsLetGo least now) old.clients.items places new.clients.items)
+-- one is let go by a rule: of those that the rule looks at it had waited longest, and at least so long
+pub record IsLetGo {L : Type 0} (rule : Rule) (old : List (Client L)) (leaver : Leaver L) (new : List (Client L)) : Type 0 where
+  pub place : ℕ
+  pub out : IsOut rule.why place old leaver new
+  pub longest : (client : Client L) → IsLongest rule.orders_too old (slice_index_or old place client)
+  pub patient : (client : Client L) → rule.least ≤ rule.now - (slice_index_or old place client).since
 
--- those who came in grow by these
+-- one is let go since too many bytes are held: a client, or an order where no client is in
+abbrev pub IsLetGoForBytes : {L : Type 0} → List (Client L) → Leaver L → List (Client L) → Type 0
+IsLetGoForBytes old leaver new = (most_bytes < bytes_held old) × (IsLetGo (for_bytes false) old leaver new ⊎ (AreUnseen false old × IsLetGo (for_bytes true) old leaver new))
+
+-- serving ends, and the first one is closed
+abbrev pub IsClosed : {L : Type 0} → List (Client L) → Leaver L → List (Client L) → Type 0
+IsClosed old leaver new = IsOut Closing 0 old leaver new
+
+-- doors had these handed back, one after the other
+abbrev pub with_leavers : {L : Type 0} → DoorsEntry L → List (Leaver L) → DoorsEntry L
+with_leavers doors gone = record doors { left = option_map (λ before. before ++ gone) doors.left }
+
+-- the one at a place is out, and was handed back to the doors
+abbrev pub IsClosedAt : {L : Type 0} → Leaving → ℕ → List (Client L) → DoorsEntry L → List (Client L) → DoorsEntry L → Type 0
+IsClosedAt {L} why place old before new later = (leaver : Leaver L) × IsOut why place old leaver new × (later ≡ with_leaver before leaver)
+
+-- some of those that were in are let go, one after the other, and handed back
+pub record AreLetGo {L : Type 0} (Goes : List (Client L) → Leaver L → List (Client L) → Type 0) (before later : DoorsEntry L) (old new : Room L) : Type 0 where
+  pub came : new.came ≡ old.came
+  pub counted : new.counted ≡ old.counted
+  pub gone : List (Leaver L)
+  pub back : later ≡ with_leavers before gone
+  pub each : FoldsTo Goes old.clients.items gone new.clients.items
+
+-- one of those that were in is let go, and handed back
+pub record OneGoes {L : Type 0} (Goes : List (Client L) → Leaver L → List (Client L) → Type 0) (before later : DoorsEntry L) (old new : Room L) : Type 0 where
+  pub came : new.came ≡ old.came
+  pub counted : new.counted ≡ old.counted
+  pub leaver : Leaver L
+  pub goes : Goes old.clients.items leaver new.clients.items
+  pub back : later ≡ with_leaver before leaver
+
+-- one is let go, or none, and all is as it was
+abbrev pub LetsOneGo : {L : Type 0} → (List (Client L) → Leaver L → List (Client L) → Type 0) → Bool → DoorsEntry L → DoorsEntry L → Room L → Room L → Type 0
+LetsOneGo Goes true before later old new = OneGoes Goes before later old new
+LetsOneGo Goes false before later old new = (new ≡ old) × (later ≡ before)
+
+-- those that came in grow by these
 abbrev pub LetsInMore : {L : Type 0} → Option (List (Comer L)) → Option (List (Comer L)) → List (Comer L) → Type 0
 LetsInMore old new comers = new ≡ option_map (λ before. before ++ comers) old
 
--- From one moment of a room to another. More came in, each with the next number, and clients
--- were counted. These visits were had. Whoever was in is still who he was, or has left.
-pub record GoesOn {L : Type 0} (given : Given) (line : Line L) (visits : List Visit) (let_in let_in_later : Option (List (Comer L))) (old new : Room L) : Type 0 where
+-- and those that were handed back by these
+abbrev pub HandsBackMore : {L : Type 0} → Option (List (Leaver L)) → Option (List (Leaver L)) → List (Leaver L) → Type 0
+HandsBackMore old new gone = new ≡ option_map (λ before. before ++ gone) old
+
+-- From one moment of a room to another. More came in, each with the next number, and clients were counted. These visits were had. Whoever was in is still who it
+-- was, or was handed back.
+pub record GoesOn {L : Type 0} (given : Given) (line : Line L) (visits : List Visit) (before later : DoorsEntry L) (old new : Room L) : Type 0 where
   pub comers : List (Comer L)
-  pub told : LetsInMore let_in let_in_later comers
+  pub told : LetsInMore before.came later.came comers
   pub counted : new.counted ≡ old.counted + clients_among comers
-  pub own : (guests : List (Guest L)) (earlier : List Visit) → AreIn given line guests earlier old.came old.clients.items
-      → (all : List (Guest L)) × (map (λ guest. guest.came) all ≡ map (λ guest. guest.came) guests ++ comers) × AreIn given line all (earlier ++ visits) new.came new.clients.items
+  pub gone : List (Leaver L)
+  pub back : HandsBackMore before.left later.left gone
+  pub own : (guests : List (Guest L)) (earlier : List Visit) (left : List (Leaver L)) → AreIn given line guests earlier left old.came old.clients.items
+      → (all : List (Guest L)) × (map (λ guest. guest.came) all ≡ map (λ guest. guest.came) guests ++ comers) × AreIn given line all (earlier ++ visits) (left ++ gone) new.came new.clients.items
 
 -- the same while an office serves the visits
-pub record GoesOnServing {L S : Type 0} (given : Given) (line : Line L) (state_of : Held S → State) (let_in let_in_later : Option (List (Comer L))) (old new : Room L) (before later : Desk S) : Type 0 where
+pub record GoesOnServing {L S : Type 0} (given : Given) (line : Line L) (state_of : Held S → State) (before later : DoorsEntry L) (old new : Room L) (at behind : Desk S) : Type 0 where
   pub visits : List Visit
-  pub each : FoldsTo (ServesVisit given state_of) before visits later
-  pub goes_on : GoesOn given line visits let_in let_in_later old new
+  pub each : FoldsTo (ServesVisit given state_of) at visits behind
+  pub goes_on : GoesOn given line visits before later old new
 
--- Clients and orders came to the doors of an office: no more clients than were to come, and at an end without a failure just so many. It went with each as it should.
--- Their visits had their turns one after the other, each in the office that those before it left, where no answer was kept at first, and these wrong codes had come;
--- and this is kept of them.
-pub record ServesHall {L S : Type 0} (given : Given) (line : Line L) (state_of : Held S → State) (let_in let_in_later : Option (List (Comer L))) (most : Option ℕ)
-    (tries : List TriesEntry) (old new : OfficeValue S) (result : Result (Unit {0}) Broken) : Type 0 where
+-- calls of the doors, of which none failed, or the last one did; and none of them was a wait that didn't fail
+abbrev pub IsCalled : {A L : Type 0} → Result A Broken → DoorsEntry L → DoorsEntry L → Type 0
+IsCalled result before later = (later.failed ≡ failed_after result before.failed) × (later.waits ≡ before.waits)
+
+-- a round of them: one wait, that didn't fail; or none where all came and left, or a call failed
+abbrev pub IsRound : {L : Type 0} → Result Bool Broken → DoorsEntry L → DoorsEntry L → Type 0
+IsRound (Ok true) before later = (later.failed ≡ before.failed) × (later.waits ≡ before.waits)
+IsRound (Ok false) before later = (later.failed ≡ before.failed) × (later.waits ≡ one_more before.waits)
+IsRound (Err broken) before later = (later.failed ≡ one_more before.failed) × (later.waits ≡ before.waits)
+
+-- Why serving ended otherwise than it was to: a call of the doors failed, and it was the only one; or there was no memory for a room; or as many rounds were over as
+-- there are numbers. Else no call failed.
+abbrev pub IsEndedBy : {L : Type 0} → DoorsEntry L → DoorsEntry L → Result (Unit {0}) Ended → Type 0
+IsEndedBy before later (Ok end) = later.failed ≡ before.failed
+IsEndedBy before later (Err ended.Doors) = later.failed ≡ one_more before.failed
+IsEndedBy before later (Err ended.Memory) = (later.failed ≡ before.failed) × (later.came ≡ before.came)
+IsEndedBy before later (Err ended.Rounds) = (later.failed ≡ before.failed) × (later.waits ≡ option_map (λ n. n + (2 ^ 64 - 1)) before.waits)
+
+-- Clients and orders came to the doors of an office: no more clients than were to come, and at an end without a failure just so many. It went with each as it should,
+-- and each was handed back, once, with its line as it was last. Their visits had their turns one after the other, each in the office that those before it left, where
+-- no response was kept at first, and so many wrong codes had come; and this is kept of them.
+pub record ServesHall {L S : Type 0} (given : Given) (line : Line L) (state_of : Held S → State) (before later : DoorsEntry L) (most : Option ℕ)
+    (tries : List TriesEntry) (old new : OfficeValue S) (result : Result (Unit {0}) Ended) : Type 0 where
   pub guests : List (Guest L)
   pub visits : List Visit
-  pub came : LetsInMore let_in let_in_later (map (λ guest. guest.came) guests)
+  pub gone : List (Leaver L)
+  pub came : LetsInMore before.came later.came (map (λ guest. guest.came) guests)
+  pub back : HandsBackMore before.left later.left gone
   pub few : IfSome most (λ n. clients_among (map (λ guest. guest.came) guests) ≤ n)
   pub all : OnOk result (IfSome most (λ n. clients_among (map (λ guest. guest.came) guests) ≡ n))
   pub went : WentSoWithAll given line guests visits
+  pub left : (number : ℕ) (guest : Guest L) → number < length guests → HasLeft line gone visits number (slice_index_or guests number guest)
+  pub once : length gone ≡ length guests
   pub kept : KeptEntry
   pub each : FoldsTo (ServesVisit given state_of) (with_none_kept tries old) visits (desk_at new kept)
   pub keeps : HasCleanDisk (state_of new.held) → old.closed ≡ false → (earlier : List Request) → IsAt (after empty_office earlier) (state_of old.held)

@@ -1,13 +1,14 @@
 //! Who goes on, a client or an order: he is heard, has his turn once what he asks has come to its end, and gets his answer.
 
-ghost use Rattle.std.specs.Prelude.{◌≡◌, ℕ, [], None, Ok, Some, false, true};
+ghost use Rattle.std.specs.Prelude.{◌≡◌, ◌≢◌, ◌⊎◌, ℕ, [], Err, None, Ok, Some, false, true};
 ghost use Rattle.sqlite.specs.Held.{state};
-ghost use Rattle.gathering.specs.Lines.{Gathers, HasTaken, line_of};
+ghost use Rattle.gathering.specs.Lines.{Gathers, HasFailed, HasTaken, line_of};
 ghost use Rattle.gathering.specs.Clients.{IsOf, IsTold};
+ghost use Rattle.gathering.specs.declared.leaver.Leaving.{Leaving};
 ghost use Rattle.wire.specs.Gates.{given_entry};
 ghost use Rattle.hall.specs.Handings.{HasCameWhole};
 ghost use Rattle.hall.specs.Terms.{Given as AllGiven, given_in};
-ghost use Rattle.hall.specs.Turns.{HasCome, HasComeAt, IsSameClient, IsToldAll, IsUntold, MayHaveTurn, answer_of};
+ghost use Rattle.hall.specs.Turns.{HasCome, HasComeAt, IsSameClient, IsToldAll, IsUntold, MayHaveTurn, MayLeave, answer_of};
 ghost use Rattle.office.specs.Answers.{IsOpenAt, IsReadAt, WhenOpenAt};
 ghost use Rattle.wire.specs.Asking.{Asks, reading};
 ghost use Rattle.wire.specs.declared.target.Reading.{Reading};
@@ -21,10 +22,11 @@ use crate::ordering::answer_order;
 use crate::reads::asks_reading;
 use crate::remembered::Remembered;
 use crate::terms::Terms;
-use gathering::{Answer, Client, Door, Gathered, Heard, Line, Lost, Writing, deliver};
+use gathering::{Answer, Client, Door, Gathered, Heard, Leaving, Line, Writing, deliver};
 use office::Office;
 use sqlite::Alter;
 use std::alloc::Global;
+use votes::Broken;
 use wire::{Given, Lacks, Served, knock_of, lacks, serve_one, tell_to_wait};
 
 /// How many bytes of a client are heard before it is looked what they lack: as many as the head of a request may have.
@@ -33,17 +35,15 @@ const FRONT: usize = 8192;
 /// The status of an answer with a fault, which isn't kept.
 const FAULT: u16 = 503;
 
-/// What became of who went on.
+/// What became of one that went on.
 #[derive(Clone, Copy)]
 pub enum Attended {
-    /// More is to come of him, or he has more to take.
+    /// More is to come of it, or it has more to take.
     Waits,
-    /// He had his turn just now, and has more to take.
+    /// It had its turn just now, and has more to take.
     Served,
-    /// He took his whole answer.
-    Done,
-    /// He is let go: his line broke, or memory was wanting for what he sends.
-    Lost,
+    /// It leaves, for this reason.
+    Leaves(Leaving),
 }
 
 /// Hears the body of what a client asks, for which so many bytes in all are wanted; whether it has come to its end.
@@ -52,11 +52,13 @@ fn hear_body<L: Line>(
     given: Given<'_>,
     client: &mut Client<L>,
     wanted: usize,
-) -> Result<bool, Lost>
+) -> Result<bool, Leaving>
     requires { client.old.answer ≡ None }
-    ensures gathers { Gathers (line_of L.held L.taken) client.old.line client.new.line client.old.got.items client.new.got.items }
+    ensures gathers { Gathers (line_of L.held L.taken L.failed) client.old.line client.new.line client.old.got.items client.new.got.items }
     ensures same { IsSameClient client.old client.new × (client.new.answer ≡ None) }
     ensures come { result ≡ Ok true → HasCome (given_entry given.entry) (L.held client.new.line) client.new.got.items }
+    ensures broken { result ≡ Err Leaving.Broken → HasFailed (L.failed client.new.line) }
+    ensures apart { result ≢ Err Leaving.Done }
 {
     match client.hear(wanted)? {
         Heard::Ended => Ok(true),
@@ -69,11 +71,17 @@ fn hear_body<L: Line>(
 }
 
 /// Hears what a client asks; whether it has come to its end.
-fn hear_out<L: Line>(alloc: Global, given: Given<'_>, client: &mut Client<L>) -> Result<bool, Lost>
+fn hear_out<L: Line>(
+    alloc: Global,
+    given: Given<'_>,
+    client: &mut Client<L>,
+) -> Result<bool, Leaving>
     requires { client.old.answer ≡ None }
-    ensures gathers { Gathers (line_of L.held L.taken) client.old.line client.new.line client.old.got.items client.new.got.items }
+    ensures gathers { Gathers (line_of L.held L.taken L.failed) client.old.line client.new.line client.old.got.items client.new.got.items }
     ensures same { IsSameClient client.old client.new × (client.new.answer ≡ None) }
     ensures come { result ≡ Ok true → HasCome (given_entry given.entry) (L.held client.new.line) client.new.got.items }
+    ensures broken { result ≡ Err Leaving.Broken → HasFailed (L.failed client.new.line) }
+    ensures apart { result ≢ Err Leaving.Done }
 {
     let heard = client.hear(FRONT)?;
     match lacks(alloc, given, client.got.as_slice())? {
@@ -87,11 +95,13 @@ fn hear_out<L: Line>(alloc: Global, given: Given<'_>, client: &mut Client<L>) ->
 }
 
 /// Hears who has no answer yet; whether what he asks has come to its end.
-fn hear<L: Line>(alloc: Global, given: Given<'_>, client: &mut Client<L>) -> Result<bool, Lost>
+fn hear<L: Line>(alloc: Global, given: Given<'_>, client: &mut Client<L>) -> Result<bool, Leaving>
     requires { client.old.answer ≡ None }
-    ensures gathers { Gathers (line_of L.held L.taken) client.old.line client.new.line client.old.got.items client.new.got.items }
+    ensures gathers { Gathers (line_of L.held L.taken L.failed) client.old.line client.new.line client.old.got.items client.new.got.items }
     ensures same { IsSameClient client.old client.new × (client.new.answer ≡ None) }
     ensures come { result ≡ Ok true → (all : AllGiven) → all.clients ≡ given_entry given.entry → HasComeAt client.old.door all (L.held client.new.line) client.new.got.items }
+    ensures broken { result ≡ Err Leaving.Broken → HasFailed (L.failed client.new.line) }
+    ensures apart { result ≢ Err Leaving.Done }
 {
     match client.door {
         Door::Clients => hear_out(alloc, given, client),
@@ -243,7 +253,7 @@ fn answer_to<L: Line, A: Aside, S: Alter>(
 ) -> (L, Answer)
     requires fresh { HasTaken (L.taken line) [] }
     requires whole { door ≡ Door.Orders → HasCameWhole got.now }
-    ensures told { IsTold (line_of L.held L.taken) result.0 result.1.bytes.items result.1.sent }
+    ensures told { IsTold (line_of L.held L.taken L.failed) result.0 result.1.bytes.items result.1.sent }
     ensures served { (number : ℕ) → ServesVisit (given_in terms.entry) (state S.Store) (desk_at office.old (kept_in kept.old))
         (record { door = door; number = number; moment = now; got = got.now; answer = result.1.bytes.items }) (desk_at office.new (kept_in kept.new)) }
 {
@@ -259,20 +269,34 @@ fn answer_to<L: Line, A: Aside, S: Alter>(
     }
 }
 
-/// Puts out more of his answer to a client, if he has one.
+/// Drops what is still to come of the request of a client that has its whole response.
+fn drop_rest<L: Line>(client: &mut Client<L>) -> Attended
+    requires { IsToldAll client.old }
+    ensures is { (start : L) → IsOf (line_of L.held L.taken L.failed) start client.old → IsOf (line_of L.held L.taken L.failed) start client.new }
+    ensures same { IsSameClient client.old client.new × (client.new.answer ≡ client.old.answer) }
+    ensures waits { (result ≡ Attended.Waits) ⊎ (result ≡ Attended.Leaves Leaving.Done) }
+{
+    match client.drop_unread() {
+        Ok(false) => Attended::Waits,
+        // It has its whole response, even if its line fails now.
+        Ok(true) | Err(Broken) => Attended::Leaves(Leaving::Done),
+    }
+}
+
+/// Writes more of its response to a client, if it has one.
 fn tell_more<L: Line>(client: &mut Client<L>) -> Attended
-    ensures is { (start : L) → IsOf (line_of L.held L.taken) start client.old → IsOf (line_of L.held L.taken) start client.new }
+    ensures is { (start : L) → IsOf (line_of L.held L.taken L.failed) start client.old → IsOf (line_of L.held L.taken L.failed) start client.new }
     ensures same { IsSameClient client.old client.new }
     ensures his { answer_of client.new ≡ answer_of client.old }
-    ensures done { result ≡ Attended.Done → IsToldAll client.new }
+    ensures leaves { (why : Leaving) → result ≡ Attended.Leaves why → MayLeave (line_of L.held L.taken L.failed) why client.new }
 {
     let Some(answer) = &mut client.answer else {
         return Attended::Waits;
     };
     match deliver(&mut client.line, answer) {
-        Ok(true) => Attended::Done,
+        Ok(true) => drop_rest(client),
         Ok(false) => Attended::Waits,
-        Err(_) => Attended::Lost,
+        Err(Broken) => Attended::Leaves(Leaving::Broken),
     }
 }
 
@@ -288,11 +312,11 @@ fn take_turn<L: Line, A: Aside, S: Alter>(
 ) -> (Client<L>, Attended)
     requires fresh { HasTaken (L.taken client.line) [] }
     requires whole { client.door ≡ Door.Orders → HasCameWhole client.got.items }
-    ensures is { (start : L) → IsOf (line_of L.held L.taken) start result.0 }
+    ensures is { (start : L) → IsOf (line_of L.held L.taken L.failed) start result.0 }
     ensures same { IsSameClient client result.0 }
     ensures turn { (visit : Visit) × (visit.door ≡ client.door) × (visit.number ≡ client.number) × (visit.moment ≡ now) × (visit.got ≡ client.got.items)
         × ServesVisit (given_in terms.entry) (state S.Store) (desk_at office.old (kept_in kept.old)) visit (desk_at office.new (kept_in kept.new)) × (answer_of result.0 ≡ Some visit.answer) }
-    ensures done { result.1 ≡ Attended.Done → IsToldAll result.0 }
+    ensures leaves { (why : Leaving) → result.1 ≡ Attended.Leaves why → MayLeave (line_of L.held L.taken L.failed) why result.0 }
 {
     let Client {
         door,
@@ -300,7 +324,7 @@ fn take_turn<L: Line, A: Aside, S: Alter>(
         number,
         since,
         got,
-        answer: _,
+        ..
     } = client;
     let (line, answer) = answer_to(
         alloc,
@@ -320,6 +344,7 @@ fn take_turn<L: Line, A: Aside, S: Alter>(
         since,
         got: Vec::new(alloc),
         answer: Some(answer),
+        unread: 0,
     };
     match tell_more(&mut client) {
         Attended::Waits => (client, Attended::Served),
@@ -341,11 +366,11 @@ pub fn attend<L: Line, A: Aside, S: Alter>(
     office: &mut Office<S>,
     kept: &mut Remembered,
 ) -> (Client<L>, Attended)
-    requires untold { IsUntold (line_of L.held L.taken) client }
-    ensures is { (start : L) → IsOf (line_of L.held L.taken) start client → IsOf (line_of L.held L.taken) start result.0 }
+    requires untold { IsUntold (line_of L.held L.taken L.failed) client }
+    ensures is { (start : L) → IsOf (line_of L.held L.taken L.failed) start client → IsOf (line_of L.held L.taken L.failed) start result.0 }
     ensures same { IsSameClient client result.0 }
-    ensures turn { MayHaveTurn (given_in terms.entry) (line_of L.held L.taken) (state S.Store) now client result.0 (desk_at office.old (kept_in kept.old)) (desk_at office.new (kept_in kept.new)) }
-    ensures done { result.1 ≡ Attended.Done → IsToldAll result.0 }
+    ensures turn { MayHaveTurn (given_in terms.entry) (line_of L.held L.taken L.failed) (state S.Store) now client result.0 (desk_at office.old (kept_in kept.old)) (desk_at office.new (kept_in kept.new)) }
+    ensures leaves { (why : Leaving) → result.1 ≡ Attended.Leaves why → MayLeave (line_of L.held L.taken L.failed) why result.0 }
 {
     let mut client = client;
     if client.answer.is_some() {
@@ -355,6 +380,6 @@ pub fn attend<L: Line, A: Aside, S: Alter>(
     match hear(alloc, terms.given, &mut client) {
         Ok(true) => take_turn(alloc, terms, now, aside, client, office, kept),
         Ok(false) => (client, Attended::Waits),
-        Err(_) => (client, Attended::Lost),
+        Err(why) => (client, Attended::Leaves(why)),
     }
 }

@@ -27,11 +27,13 @@ mod remembered;
 pub mod terms;
 // one who goes on
 pub mod attending;
-// all who are in
+// all that are in
+pub mod ended;
 mod leaving;
 mod serving;
 
 pub use aside::Aside;
 pub use attending::{Attended, attend};
+pub use ended::Ended;
 pub use serving::serve_hall;
 pub use terms::{FileNumbers, Terms};

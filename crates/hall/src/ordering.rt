@@ -146,7 +146,7 @@ fn tell_asked<L: Line, A: Aside, S: Alter>(
     office: &mut Office<S>,
 ) -> (L, Answer)
     requires { HasTaken (L.taken line) [] }
-    ensures told { IsTold (line_of L.held L.taken) result.0 result.1.bytes.items result.1.sent }
+    ensures told { IsTold (line_of L.held L.taken L.failed) result.0 result.1.bytes.items result.1.sent }
     ensures followed { TellsAsked (state S.Store) office.old (piece_entries brought.entry.files.now) asked.now result.1.bytes.items office.new }
 {
     let mut out = Outlet::new(alloc, line);
@@ -165,7 +165,7 @@ fn tell_handed<L: Line, A: Aside, S: Alter>(
     office: &mut Office<S>,
 ) -> (L, Answer)
     requires { HasTaken (L.taken line) [] }
-    ensures told { IsTold (line_of L.held L.taken) result.0 result.1.bytes.items result.1.sent }
+    ensures told { IsTold (line_of L.held L.taken L.failed) result.0 result.1.bytes.items result.1.sent }
     ensures followed { (got : List ℕ) → IsMessage got (handed_entry handed.now) → FollowsOrder file (state S.Store) office.old got result.1.bytes.items office.new }
 {
     let none = Brought {
@@ -206,7 +206,7 @@ pub fn answer_order<L: Line, A: Aside, S: Alter>(
 ) -> (L, Answer)
     requires fresh { HasTaken (L.taken line) [] }
     requires whole { HasCameWhole got.now }
-    ensures told { IsTold (line_of L.held L.taken) result.0 result.1.bytes.items result.1.sent }
+    ensures told { IsTold (line_of L.held L.taken L.failed) result.0 result.1.bytes.items result.1.sent }
     ensures followed { FollowsOrder file (state S.Store) office.old got.now result.1.bytes.items office.new }
 {
     match read_message(alloc, &got[LENGTH..]) {

@@ -31,7 +31,7 @@ impl<L: Line> Outlet<L> {
     /// Nothing is printed yet. Takes no memory.
     pub fn new(alloc: Global, line: L) -> Outlet<L>
         requires { HasTaken (L.taken line) [] }
-        ensures taken { said_through (line_of L.held L.taken) result ≡ Some [] }
+        ensures taken { said_through (line_of L.held L.taken L.failed) result ≡ Some [] }
         ensures failed { result.failed ≡ 0 }
     {
         Outlet {
@@ -47,7 +47,7 @@ impl<L: Line> Outlet<L> {
     /// Puts the frame of the end behind what was printed, and gives the line back, and
     /// the answer. Where memory is wanting for the frame, the answer ends without it.
     pub fn end(self, status: u8, err: &[u8]) -> (L, Answer)
-        ensures { (said : List ℕ) → said_through (line_of L.held L.taken) self ≡ Some said → IsEnded (line_of L.held L.taken) said status err.now result.0 result.1 }
+        ensures { (said : List ℕ) → said_through (line_of L.held L.taken L.failed) self ≡ Some said → IsEnded (line_of L.held L.taken L.failed) said status err.now result.0 result.1 }
     {
         let Outlet {
             line,
@@ -65,8 +65,8 @@ impl<L: Line> Outlet<L> {
 /// line broke, memory was wanting, or the answer got too long.
 fn say<L: Line>(line: &mut L, answer: &mut Answer, bytes: &[u8]) -> Result<(), Broken>
     requires { length bytes.now ≤ FRAME }
-    ensures goes_out { IsGoingOut (line_of L.held L.taken) line.old answer.old → IsGoingOut (line_of L.held L.taken) line.new answer.new }
-    ensures said { IsGoingOut (line_of L.held L.taken) line.old answer.old → OnOk result (said_by answer.new.bytes.items ≡ said_by answer.old.bytes.items ++ bytes.now) }
+    ensures goes_out { IsGoingOut (line_of L.held L.taken L.failed) line.old answer.old → IsGoingOut (line_of L.held L.taken L.failed) line.new answer.new }
+    ensures said { IsGoingOut (line_of L.held L.taken L.failed) line.old answer.old → OnOk result (said_by answer.new.bytes.items ≡ said_by answer.old.bytes.items ++ bytes.now) }
     ensures unsaid { OnErr result (answer.new.bytes.items ≡ answer.old.bytes.items) }
 {
     deliver(line, answer)?;
@@ -84,7 +84,7 @@ fn say<L: Line>(line: &mut L, answer: &mut Answer, bytes: &[u8]) -> Result<(), B
 }
 
 impl<L: Line> Sink for Outlet<L> {
-    ghost taken = { λ o. said_through (line_of L.held L.taken) o };
+    ghost taken = { λ o. said_through (line_of L.held L.taken L.failed) o };
 
     ghost failed = { λ o. o.failed };
 

@@ -7,171 +7,175 @@ ghost use Rattle.sqlite.specs.State.{HasCleanDisk};
 ghost use Rattle.sqlite.specs.Held.{state};
 ghost use Rattle.gathering.specs.Lines.{line_of};
 ghost use Rattle.gathering.specs.Clients.{IsOf};
-ghost use Rattle.gathering.specs.declared.client.Comer.{Comer};
+ghost use Rattle.gathering.specs.Rooms.{after_call};
 ghost use Rattle.codes.specs.Tries.{entries_of};
 ghost use Rattle.hall.specs.Guests.{IsSound};
 ghost use Rattle.hall.specs.Reads.{desk_at, kept_in};
 ghost use Rattle.hall.specs.Terms.{Given, given_in};
-ghost use Rattle.hall.specs.Turns.{IsUntold, MayHaveTurn};
-ghost use Rattle.hall.specs.Halls.{GoesOn, GoesOnServing, IsWithin, ServesHall};
+ghost use Rattle.hall.specs.Turns.{IsUntold, MayHaveTurn, MayLeave};
+ghost use Rattle.hall.specs.Halls.{GoesOn, GoesOnServing, IsCalled, IsEndedBy, IsRound, IsWithin, ServesHall};
 
 use crate::aside::Aside;
 use crate::attending::{Attended, attend};
-use crate::leaving::{PATIENCE, keep_within, let_go_late, make_room};
+use crate::ended::Ended;
+use crate::leaving::{PATIENCE, close_all, keep_within, let_go_late, make_room, make_way};
 use crate::remembered::Remembered;
 use crate::terms::Terms;
 use codes::Tries;
 use gathering::room::{longest, place_of};
-use gathering::{Admitted, Client, Doors, Line, Room};
+use gathering::{Admitted, Client, Doors, Leaving, Room};
 use office::Office;
 use sqlite::Alter;
 use std::alloc::Global;
-use std::time::{Clock, Duration};
+use std::time::Duration;
 use votes::Broken;
 
-/// How long the next look at those who wait may be put off, while somebody waits whom no event may name.
+/// How long the next look at the doors may be put off, in milliseconds, while somebody waits there of whom no event may tell.
 const LOOK: u64 = 1_000;
 
-/// The most who come in before those who are in go on.
+/// The most that come in before those that are in go on.
 const COMERS: usize = 64;
 
-/// The time of a clock in milliseconds.
-fn moment<C: Clock>(clock: &C) -> Result<u64, Broken> {
-    match clock.monotonic() {
-        Ok(since) => Ok(u64::try_from(since.as_millis()).unwrap_or(u64::MAX)),
-        Err(_) => Err(Broken),
-    }
-}
+/// The most rounds of serving.
+const ROUNDS: u64 = u64::MAX;
 
-/// The time of a clock in milliseconds, where there is a gate, at which wrong codes count; and 0 where there is none.
-fn moment_at_gate<C: Clock>(clock: &C, terms: Terms<'_>) -> Result<u64, Broken> {
+/// Returns the time of the clock if there is a gate, at which wrong codes count; and 0 if there is none.
+fn moment_at_gate<D: Doors>(doors: &mut D, terms: Terms<'_>) -> Result<u64, Broken>
+    ensures { D.known doors.new ≡ after_call result (D.known doors.old) }
+{
     match terms.given.gate {
-        Some(_) => moment(clock),
+        Some(_) => doors.now(),
         None => Ok(0),
     }
 }
 
-/// One of those who are in goes on at a moment, and is given back; whether he stays in. His half minute begins anew once he has
-/// his answer: however long his turn took, he has all of it.
-fn go_on_now<L: Line, C: Clock, A: Aside, S: Alter>(
+/// One of those that are in goes on at a moment, and is given back; and for what reason it leaves, if it does. Its half minute
+/// begins anew once it has its response: however long its turn took, it has all of it.
+fn go_on_now<D: Doors, A: Aside, S: Alter>(
     alloc: Global,
-    clock: &C,
+    doors: &mut D,
     terms: Terms<'_>,
     now: u64,
     aside: &A,
-    client: Client<L>,
+    client: Client<D::Line>,
     office: &mut Office<S>,
     kept: &mut Remembered,
-) -> (Client<L>, Result<bool, Broken>)
-    requires untold { IsUntold (line_of L.held L.taken) client }
-    ensures is { (start : L) → IsOf (line_of L.held L.taken) start client → IsOf (line_of L.held L.taken) start result.0 }
+) -> (Client<D::Line>, Result<Option<Leaving>, Broken>)
+    requires untold { IsUntold (line_of D.Line.held D.Line.taken D.Line.failed) client }
+    ensures is { (start : D.Line) → IsOf (line_of D.Line.held D.Line.taken D.Line.failed) start client → IsOf (line_of D.Line.held D.Line.taken D.Line.failed) start result.0 }
     ensures same { (result.0.door ≡ client.door) × (result.0.number ≡ client.number) }
-    ensures turn { MayHaveTurn (given_in terms.entry) (line_of L.held L.taken) (state S.Store) now client result.0 (desk_at office.old (kept_in kept.old)) (desk_at office.new (kept_in kept.new)) }
+    ensures turn { MayHaveTurn (given_in terms.entry) (line_of D.Line.held D.Line.taken D.Line.failed) (state S.Store) now client result.0 (desk_at office.old (kept_in kept.old)) (desk_at office.new (kept_in kept.new)) }
+    ensures leaves { IfOk result.1 (λ next. IfSome next (λ why. MayLeave (line_of D.Line.held D.Line.taken D.Line.failed) why result.0)) }
+    ensures known { D.known doors.new ≡ after_call result.1 (D.known doors.old) }
 {
     let (mut client, attended) = attend(alloc, terms, now, aside, client, office, kept);
     match attended {
-        Attended::Waits => (client, Ok(true)),
-        Attended::Served => match moment(clock) {
+        Attended::Waits => (client, Ok(None)),
+        Attended::Served => match doors.now() {
             Ok(later) => {
                 client.since = later;
-                (client, Ok(true))
+                (client, Ok(None))
             }
             Err(Broken) => (client, Err(Broken)),
         },
-        Attended::Done => (client, Ok(false)),
-        Attended::Lost => (client, Ok(false)),
+        Attended::Leaves(why) => (client, Ok(Some(why))),
     }
 }
 
-/// One of those who are in goes on, and is given back; whether he stays in. Where the clock fails at the gate, he doesn't go on.
-fn go_on<L: Line, C: Clock, A: Aside, S: Alter>(
+/// One of those that are in goes on, and is given back; and for what reason it leaves, if it does. If the clock fails at the gate,
+/// it doesn't go on.
+fn go_on<D: Doors, A: Aside, S: Alter>(
     alloc: Global,
-    clock: &C,
+    doors: &mut D,
     terms: Terms<'_>,
     aside: &A,
-    client: Client<L>,
+    client: Client<D::Line>,
     office: &mut Office<S>,
     kept: &mut Remembered,
-) -> (Client<L>, Result<bool, Broken>)
-    requires untold { IsUntold (line_of L.held L.taken) client }
-    ensures is { (start : L) → IsOf (line_of L.held L.taken) start client → IsOf (line_of L.held L.taken) start result.0 }
+) -> (Client<D::Line>, Result<Option<Leaving>, Broken>)
+    requires untold { IsUntold (line_of D.Line.held D.Line.taken D.Line.failed) client }
+    ensures is { (start : D.Line) → IsOf (line_of D.Line.held D.Line.taken D.Line.failed) start client → IsOf (line_of D.Line.held D.Line.taken D.Line.failed) start result.0 }
     ensures same { (result.0.door ≡ client.door) × (result.0.number ≡ client.number) }
-    ensures turn { (now : ℕ) × MayHaveTurn (given_in terms.entry) (line_of L.held L.taken) (state S.Store) now client result.0
+    ensures turn { (now : ℕ) × MayHaveTurn (given_in terms.entry) (line_of D.Line.held D.Line.taken D.Line.failed) (state S.Store) now client result.0
         (desk_at office.old (kept_in kept.old)) (desk_at office.new (kept_in kept.new)) }
+    ensures leaves { IfOk result.1 (λ next. IfSome next (λ why. MayLeave (line_of D.Line.held D.Line.taken D.Line.failed) why result.0)) }
+    ensures known { D.known doors.new ≡ after_call result.1 (D.known doors.old) }
 {
-    match moment_at_gate(clock, terms) {
-        Ok(now) => go_on_now(alloc, clock, terms, now, aside, client, office, kept),
+    match moment_at_gate(doors, terms) {
+        Ok(now) => go_on_now(alloc, doors, terms, now, aside, client, office, kept),
         Err(Broken) => (client, Err(Broken)),
     }
 }
 
-/// Puts one back in his place. Where memory is wanting for it, he leaves.
-fn put_back<L: Line + Drop>(room: &mut Room<L>, place: usize, client: Client<L>)
-    requires { place ≤ length room.old.clients.items }
-    ensures items { (room.new.clients.items ≡ insert room.old.clients.items place client) ⊎ (room.new.clients.items ≡ room.old.clients.items) }
-    ensures came { room.new.came ≡ room.old.came }
-    ensures counted { room.new.counted ≡ room.old.counted }
-{
-    let _ = room.clients.insert(place, client);
-}
-
-/// The one at a place goes on. Where he is done, or lost, he leaves; and so he does where memory is wanting for his place.
-fn go_on_at<L: Line + Drop, C: Clock, A: Aside, S: Alter>(
+/// The one at a place goes on. If it is done or lost, it leaves. If the clock fails, it stays where it was.
+fn go_on_at<D: Doors, A: Aside, S: Alter>(
     alloc: Global,
-    clock: &C,
+    doors: &mut D,
     terms: Terms<'_>,
     aside: &A,
-    room: &mut Room<L>,
+    room: &mut Room<D::Line>,
     place: usize,
     office: &mut Office<S>,
     kept: &mut Remembered,
 ) -> Result<(), Broken>
     requires place { place < length room.old.clients.items }
-    requires sound { IsSound (given_in terms) (line_of L.held L.taken) room.old }
-    ensures goes_on { (let_in : Option (List (Comer L))) → GoesOnServing (given_in terms.entry) (line_of L.held L.taken) (state S.Store) let_in let_in room.old room.new
+    requires sound { IsSound (given_in terms) (line_of D.Line.held D.Line.taken D.Line.failed) room.old }
+    requires within { IsWithin room.old }
+    ensures goes_on { GoesOnServing (given_in terms.entry) (line_of D.Line.held D.Line.taken D.Line.failed) (state S.Store) (D.known doors.old) (D.known doors.new) room.old room.new
         (desk_at office.old (kept_in kept.old)) (desk_at office.new (kept_in kept.new)) }
     ensures came { room.new.came ≡ room.old.came }
     ensures counted { room.new.counted ≡ room.old.counted }
-    ensures within { IsWithin room.old → OnOk result (IsWithin room.new) }
+    ensures within { OnOk result (IsWithin room.new) }
+    ensures called { IsCalled result (D.known doors.old) (D.known doors.new) }
 {
-    let client = room.clients.remove(place);
-    let (client, stays) = go_on(alloc, clock, terms, aside, client, office, kept);
-    if !stays? {
-        return Ok(());
+    let client = room.take_out(place);
+    let (client, next) = go_on(alloc, doors, terms, aside, client, office, kept);
+    match next {
+        Ok(Some(why)) => {
+            doors.leave(client.into_leaver(why));
+            Ok(())
+        }
+        Ok(None) => {
+            room.put_back(place, client);
+            keep_within(doors, room);
+            Ok(())
+        }
+        Err(Broken) => {
+            room.put_back(place, client);
+            Err(Broken)
+        }
     }
-    put_back(room, place, client);
-    keep_within(room);
-    Ok(())
 }
 
-/// The one with a number goes on, if he is in.
-fn go_on_numbered<L: Line + Drop, C: Clock, A: Aside, S: Alter>(
+/// The one with a number goes on, if it is in.
+fn go_on_numbered<D: Doors, A: Aside, S: Alter>(
     alloc: Global,
-    clock: &C,
+    doors: &mut D,
     terms: Terms<'_>,
     aside: &A,
-    room: &mut Room<L>,
+    room: &mut Room<D::Line>,
     number: u64,
     office: &mut Office<S>,
     kept: &mut Remembered,
 ) -> Result<(), Broken>
-    requires { IsSound (given_in terms) (line_of L.held L.taken) room.old }
-    ensures goes_on { (let_in : Option (List (Comer L))) → GoesOnServing (given_in terms.entry) (line_of L.held L.taken) (state S.Store) let_in let_in room.old room.new
+    requires sound { IsSound (given_in terms) (line_of D.Line.held D.Line.taken D.Line.failed) room.old }
+    requires within { IsWithin room.old }
+    ensures goes_on { GoesOnServing (given_in terms.entry) (line_of D.Line.held D.Line.taken D.Line.failed) (state S.Store) (D.known doors.old) (D.known doors.new) room.old room.new
         (desk_at office.old (kept_in kept.old)) (desk_at office.new (kept_in kept.new)) }
     ensures came { room.new.came ≡ room.old.came }
     ensures counted { room.new.counted ≡ room.old.counted }
-    ensures within { IsWithin room.old → OnOk result (IsWithin room.new) }
+    ensures within { OnOk result (IsWithin room.new) }
+    ensures called { IsCalled result (D.known doors.old) (D.known doors.new) }
 {
     match place_of(room.clients.as_slice(), number) {
-        Some(place) => go_on_at(alloc, clock, terms, aside, room, place, office, kept),
+        Some(place) => go_on_at(alloc, doors, terms, aside, room, place, office, kept),
         None => Ok(()),
     }
 }
 
-/// Each who may go on goes on, in the order in which the doors name them.
-fn go_on_all<D: Doors, C: Clock, A: Aside, S: Alter>(
+/// Each that may go on goes on, in the order in which the doors name them.
+fn go_on_all<D: Doors, A: Aside, S: Alter>(
     alloc: Global,
-    clock: &C,
     doors: &mut D,
     terms: Terms<'_>,
     aside: &A,
@@ -179,24 +183,26 @@ fn go_on_all<D: Doors, C: Clock, A: Aside, S: Alter>(
     office: &mut Office<S>,
     kept: &mut Remembered,
 ) -> Result<(), Broken>
-    requires { IsSound (given_in terms) (line_of D.Line.held D.Line.taken) room.old }
-    ensures goes_on { GoesOnServing (given_in terms.entry) (line_of D.Line.held D.Line.taken) (state S.Store) (D.came doors.old) (D.came doors.new) room.old room.new
+    requires sound { IsSound (given_in terms) (line_of D.Line.held D.Line.taken D.Line.failed) room.old }
+    requires within { IsWithin room.old }
+    ensures goes_on { GoesOnServing (given_in terms.entry) (line_of D.Line.held D.Line.taken D.Line.failed) (state S.Store) (D.known doors.old) (D.known doors.new) room.old room.new
         (desk_at office.old (kept_in kept.old)) (desk_at office.new (kept_in kept.new)) }
     ensures came { room.new.came ≡ room.old.came }
     ensures counted { room.new.counted ≡ room.old.counted }
-    ensures within { IsWithin room.old → OnOk result (IsWithin room.new) }
+    ensures within { OnOk result (IsWithin room.new) }
+    ensures called { IsCalled result (D.known doors.old) (D.known doors.new) }
 {
     for _ in 0..u64::MAX {
         let Some(number) = doors.next_ready() else {
             return Ok(());
         };
-        go_on_numbered(alloc, clock, terms, aside, room, number, office, kept)?;
+        go_on_numbered(alloc, doors, terms, aside, room, number, office, kept)?;
     }
     Ok(())
 }
 
-/// Lets in the next who waits at the doors, as far as there is room, or room is made: an order, or a client, as long as fewer clients
-/// came than are to come. Where nobody came in, it gives how long the next look at the doors may be put off, in milliseconds.
+/// Lets in the next that waits at the doors, as far as there is room, or room is made: an order, or a client, as long as fewer
+/// clients came than are to come. If nobody came in, it returns how long the next look at the doors may be put off, in milliseconds.
 fn let_one_in<D: Doors>(
     alloc: Global,
     doors: &mut D,
@@ -204,16 +210,18 @@ fn let_one_in<D: Doors>(
     most: u64,
     now: u64,
 ) -> Option<u64>
-    ensures goes_on { (given : Given) → GoesOn given (line_of D.Line.held D.Line.taken) [] (D.came doors.old) (D.came doors.new) room.old room.new }
+    requires { IsWithin room.old }
+    ensures goes_on { (given : Given) → GoesOn given (line_of D.Line.held D.Line.taken D.Line.failed) [] (D.known doors.old) (D.known doors.new) room.old room.new }
     ensures few { room.old.counted ≤ most → room.new.counted ≤ most }
-    ensures within { IsWithin room.old → IsWithin room.new }
+    ensures within { IsWithin room.new }
     ensures look { IfSome result (λ look. look ≤ PATIENCE) }
+    ensures called { IsCalled (Ok tt) (D.known doors.old) (D.known doors.new) }
 {
     if room.came == u64::MAX || !doors.is_waited_at() {
         return Some(PATIENCE);
     }
     let clients_too = room.counted < most;
-    if !make_room(room, clients_too, now) {
+    if !make_room(doors, room, clients_too, now) {
         return Some(LOOK);
     }
     match doors.admit(room.came, clients_too) {
@@ -223,10 +231,17 @@ fn let_one_in<D: Doors>(
         }
         Admitted::Nobody => Some(PATIENCE),
         Admitted::NotNow => Some(LOOK),
+        Admitted::Full => {
+            if make_way(doors, room, now) {
+                None
+            } else {
+                Some(LOOK)
+            }
+        }
     }
 }
 
-/// Lets in those who wait at the doors, as far as may be, and says how long the next look at the doors may be put off, in
+/// Lets in those that wait at the doors, as far as may be, and returns how long the next look at the doors may be put off, in
 /// milliseconds.
 fn let_in<D: Doors>(
     alloc: Global,
@@ -235,10 +250,12 @@ fn let_in<D: Doors>(
     most: u64,
     now: u64,
 ) -> u64
-    ensures goes_on { (given : Given) → GoesOn given (line_of D.Line.held D.Line.taken) [] (D.came doors.old) (D.came doors.new) room.old room.new }
+    requires { IsWithin room.old }
+    ensures goes_on { (given : Given) → GoesOn given (line_of D.Line.held D.Line.taken D.Line.failed) [] (D.known doors.old) (D.known doors.new) room.old room.new }
     ensures few { room.old.counted ≤ most → room.new.counted ≤ most }
-    ensures within { IsWithin room.old → IsWithin room.new }
+    ensures within { IsWithin room.new }
     ensures look { result ≤ PATIENCE }
+    ensures called { IsCalled (Ok tt) (D.known doors.old) (D.known doors.new) }
 {
     for _ in 0..COMERS {
         if let Some(look) = let_one_in(alloc, doors, room, most, now) {
@@ -248,11 +265,11 @@ fn let_in<D: Doors>(
     0
 }
 
-/// How long the next look may be put off: so long at most, and no longer than until the first half minute is over.
+/// Returns how long the next look may be put off: so long at most, and no longer than until the first half minute is over.
 fn pause<L>(room: &Room<L>, look: u64, now: u64) -> Duration
     ensures { as_nanos result ≤ look * 1_000_000 }
 {
-    match longest(room.clients.as_slice()) {
+    match longest(room.clients.as_slice(), true) {
         Some(place) => {
             let waited = now.saturating_sub(room.clients[place].since);
             Duration::from_millis(look.min(PATIENCE.saturating_sub(waited)))
@@ -261,11 +278,10 @@ fn pause<L>(room: &Room<L>, look: u64, now: u64) -> Duration
     }
 }
 
-/// One round: those who are in go on, those whose time is over are let go, more come in, and it waits until somebody may go on.
-/// It answers whether all have come who were to come, and all of them left.
-fn go_round<D: Doors, C: Clock, A: Aside, S: Alter>(
+/// One round: those that are in go on, late ones are closed, more come in, and it waits until somebody may go on. Returns whether
+/// all have come that were to come, and all of them left.
+fn go_round<D: Doors, A: Aside, S: Alter>(
     alloc: Global,
-    clock: &C,
     doors: &mut D,
     terms: Terms<'_>,
     aside: &A,
@@ -274,22 +290,53 @@ fn go_round<D: Doors, C: Clock, A: Aside, S: Alter>(
     office: &mut Office<S>,
     kept: &mut Remembered,
 ) -> Result<bool, Broken>
-    requires { IsSound (given_in terms) (line_of D.Line.held D.Line.taken) room.old }
-    ensures goes_on { GoesOnServing (given_in terms.entry) (line_of D.Line.held D.Line.taken) (state S.Store) (D.came doors.old) (D.came doors.new) room.old room.new
+    requires sound { IsSound (given_in terms) (line_of D.Line.held D.Line.taken D.Line.failed) room.old }
+    requires within { IsWithin room.old }
+    ensures goes_on { GoesOnServing (given_in terms.entry) (line_of D.Line.held D.Line.taken D.Line.failed) (state S.Store) (D.known doors.old) (D.known doors.new) room.old room.new
         (desk_at office.old (kept_in kept.old)) (desk_at office.new (kept_in kept.new)) }
     ensures few { room.old.counted ≤ most → room.new.counted ≤ most }
-    ensures within { IsWithin room.old → OnOk result (IsWithin room.new) }
+    ensures within { OnOk result (IsWithin room.new) }
     ensures all { result ≡ Ok true → (most ≤ room.new.counted) × (room.new.clients.items ≡ []) }
+    ensures round { IsRound result (D.known doors.old) (D.known doors.new) }
 {
-    go_on_all(alloc, clock, doors, terms, aside, room, office, kept)?;
-    let now = moment(clock)?;
-    let_go_late(room, now);
+    go_on_all(alloc, doors, terms, aside, room, office, kept)?;
+    let now = doors.now()?;
+    let_go_late(doors, room, now);
     let look = let_in(alloc, doors, room, most, now);
     if room.counted >= most && room.clients.is_empty() {
         return Ok(true);
     }
     doors.wait(pause(room, look, now))?;
     Ok(false)
+}
+
+/// Serves in a room until all have come that were to come, and all of them left.
+fn go_on_serving<D: Doors, A: Aside, S: Alter>(
+    alloc: Global,
+    doors: &mut D,
+    terms: Terms<'_>,
+    aside: &A,
+    most: u64,
+    room: &mut Room<D::Line>,
+    office: &mut Office<S>,
+    kept: &mut Remembered,
+) -> Result<(), Ended>
+    requires sound { IsSound (given_in terms) (line_of D.Line.held D.Line.taken D.Line.failed) room.old }
+    requires within { IsWithin room.old }
+    ensures goes_on { GoesOnServing (given_in terms.entry) (line_of D.Line.held D.Line.taken D.Line.failed) (state S.Store) (D.known doors.old) (D.known doors.new) room.old room.new
+        (desk_at office.old (kept_in kept.old)) (desk_at office.new (kept_in kept.new)) }
+    ensures few { room.old.counted ≤ most → room.new.counted ≤ most }
+    ensures all { OnOk result (most ≤ room.new.counted) }
+    ensures ended { IsEndedBy (D.known doors.old) (D.known doors.new) result }
+{
+    for round in 0..ROUNDS {
+        match go_round(alloc, doors, terms, aside, most, room, office, kept) {
+            Ok(true) => return Ok(()),
+            Ok(false) => {}
+            Err(Broken) => return Err(Ended::Doors),
+        }
+    }
+    Err(Ended::Rounds)
 }
 
 /// Serves those who come to the doors of an office, by what it was given: the origin of a proxy and the gate, if any. It goes on
@@ -312,30 +359,29 @@ fn go_round<D: Doors, C: Clock, A: Aside, S: Alter>(
 /// his turn comes. A closed office stays as it is.
 ///
 /// `Broken` where the doors or the clock fail; what was answered before stands.
-pub fn serve_hall<D: Doors, C: Clock, A: Aside, S: Alter>(
+pub fn serve_hall<D: Doors, A: Aside, S: Alter>(
     alloc: Global,
-    clock: &C,
     doors: &mut D,
     terms: Terms<'_>,
     tries: Tries,
     aside: &A,
     connections: Option<u64>,
     office: &mut Office<S>,
-) -> Result<(), Broken>
-    ensures served { ServesHall (given_in terms.entry) (line_of D.Line.held D.Line.taken) (state S.Store)
-        (D.came doors.old) (D.came doors.new) connections (entries_of tries) office.old office.new result }
+) -> Result<(), Ended>
+    ensures served { ServesHall (given_in terms.entry) (line_of D.Line.held D.Line.taken D.Line.failed) (state S.Store)
+        (D.known doors.old) (D.known doors.new) connections (entries_of tries) office.old office.new result }
+    ensures ended { IsEndedBy (D.known doors.old) (D.known doors.new) result }
     ensures closed { office.old.closed ≡ true → office.new ≡ office.old }
     ensures clean { HasCleanDisk (state S.Store office.new.held) → HasCleanDisk (state S.Store office.old.held) }
 {
     let most = connections.unwrap_or(u64::MAX);
-    let mut room = Room::new(alloc);
+    let Ok(mut room) = Room::new(alloc) else {
+        return Err(Ended::Memory);
+    };
     let mut kept = Remembered::new(alloc, tries);
-    for _ in 0..u64::MAX {
-        if go_round(
-            alloc, clock, doors, terms, aside, most, &mut room, office, &mut kept,
-        )? {
-            return Ok(());
-        }
-    }
-    Err(Broken)
+    let ended = go_on_serving(
+        alloc, doors, terms, aside, most, &mut room, office, &mut kept,
+    );
+    close_all(doors, &mut room);
+    ended
 }

@@ -14,7 +14,7 @@ returns-in-Ok-true-clause-turn g c =
     let heard = c.in-Ok-true.ensures in
     let same = heard.same.0 in
     let given = given_in c.args.terms in
-    has_turn (line_of g.L.Line.held g.L.Line.taken) given (state g.S.Store) c.args.now c.args.client c.hear.new.client c.take_turn.result.0 (desk_at c.args.office.now (kept_in c.args.kept.now))
+    has_turn (line_of g.L.Line.held g.L.Line.taken g.L.Line.failed) given (state g.S.Store) c.args.now c.args.client c.hear.new.client c.take_turn.result.0 (desk_at c.args.office.now (kept_in c.args.kept.now))
     (desk_at c.take_turn.new.office (kept_in c.take_turn.new.kept)) (none_from c.args.client.answer (sym c.is_some.ensures ∙ c.if-is_some.false)) heard.gathers same.0 same.1
     (heard.come (ap Ok c.in-Ok-true.field-0-test) given refl) c.take_turn.ensures.turn
 

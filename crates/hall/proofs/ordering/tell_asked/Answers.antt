@@ -10,7 +10,7 @@ use Rattle.hall.proofs.ordering.tell_asked.Goals as goal
 
 pub returns-clause-followed : goal.returns-clause-followed
 returns-clause-followed g c =
-    let line = line_of g.L.Line.held g.L.Line.taken in
+    let line = line_of g.L.Line.held g.L.Line.taken g.L.Line.failed in
     let before : Outputs =
     record { out = said_through line c.new-out.result; out_failed = c.new-out.result.failed; err = Some c.new-err.result.bytes.items; err_failed = c.new-err.result.failed } in
     let after : Outputs = record { out = said_through line c.do_asked-status.new.out; out_failed = c.do_asked-status.new.out.failed; err = Some c.do_asked-status.new.err.bytes.items; err_failed = c.do_asked-status.new.err.failed } in

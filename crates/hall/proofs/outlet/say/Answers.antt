@@ -8,7 +8,7 @@ use Rattle.hall.proofs.outlet.say.Goals as goal
 
 pub returns-in-Ok-clause-goes_out : goal.returns-in-Ok-clause-goes_out
 returns-in-Ok-clause-goes_out g c = λ goes.
-    let line = line_of g.L.Line.held g.L.Line.taken in
+    let line = line_of g.L.Line.held g.L.Line.taken g.L.Line.failed in
     let before = c.deliver.new.answer in
     let between : Answer = record { bytes = c.put_said.new.out; sent = before.sent } in
     let first = out_more line c.args.line.now c.deliver.new.line c.args.answer.now before c.deliver.ensures.delivers c.deliver.ensures.same goes in
@@ -17,7 +17,7 @@ returns-in-Ok-clause-goes_out g c = λ goes.
 
 pub returns-in-Ok-clause-said : goal.returns-in-Ok-clause-said
 returns-in-Ok-clause-said g c = λ goes.
-    let line = line_of g.L.Line.held g.L.Line.taken in
+    let line = line_of g.L.Line.held g.L.Line.taken g.L.Line.failed in
     let before = c.deliver.new.answer in
     let between : Answer = record { bytes = c.put_said.new.out; sent = before.sent } in
     let first = out_more line c.args.line.now c.deliver.new.line c.args.answer.now before c.deliver.ensures.delivers c.deliver.ensures.same goes in

@@ -13,10 +13,10 @@ returns-in-Ok g c = λ said took.
     let after : Answer = record { bytes = c.put_over.new.out; sent = c.args.self.answer.sent } in
     let cut : take c.min.result err ≡ take 65536 err = ap (λ (n : ℕ). take n err) c.min.ensures ∙ take_min 65536 err in
     let put = c.in-Ok.ensures.over ∙ ap (λ (e : List ℕ). c.args.self.answer.bytes.items ++ frame_bytes (over c.args.status e)) cut in
-    ended (line_of g.L.Line.held g.L.Line.taken) c.args.self said c.args.status err after took (omega (arith, length-take 65536 err)) refl (inr put)
+    ended (line_of g.L.Line.held g.L.Line.taken g.L.Line.failed) c.args.self said c.args.status err after took (omega (arith, length-take 65536 err)) refl (inr put)
 
 pub returns-in-Err : goal.returns-in-Err
 returns-in-Err g c = λ said took.
     let err = c.args.err.now in
     let after : Answer = record { bytes = c.put_over.new.out; sent = c.args.self.answer.sent } in
-    ended (line_of g.L.Line.held g.L.Line.taken) c.args.self said c.args.status err after took (omega (arith, length-take 65536 err)) refl (inl c.in-Err.ensures.kept)
+    ended (line_of g.L.Line.held g.L.Line.taken g.L.Line.failed) c.args.self said c.args.status err after took (omega (arith, length-take 65536 err)) refl (inl c.in-Err.ensures.kept)
