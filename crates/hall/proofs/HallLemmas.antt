@@ -28,7 +28,6 @@ use Rattle.hall.specs.Guests.{AreIn, Guest, HadFor, HasLeft, IsGathered, IsIn, I
 use Rattle.hall.specs.Halls.{AreLetGo, GoesOn, GoesOnServing, HandsBackMore, IsCalled, IsEndedBy, IsRound, LetsInMore, ServesHall}
 use Rattle.hall.specs.declared.ended.Ended.{Ended}
 use Rattle.hall.specs.declared.ended.Ended.TheVariants as ended
-use Rattle.codes.specs.Tries.{TriesEntry}
 use Rattle.hall.specs.Reads.{Desk, with_none_kept}
 use Rattle.hall.specs.Terms.{Given}
 use Rattle.hall.specs.Turns.{HasComeAt, HasTurn, IsUntold, MayHaveTurn, MayLeave, answer_of}
@@ -324,11 +323,11 @@ module _ {L : Type 0} (given : Given) (line : Line L) where
     none_is_in k clients none it = let some = it.within in let zero : length clients ≡ 0 = ap (λ (cs : List (Client L)). length cs) none in omega (arith, some, zero)
 
     -- all that came since the doors were opened, where nobody was in before, and nobody is in any more
-    pub hall_serves : (before later : DoorsEntry L) (most : Option ℕ) (tries : List TriesEntry) (old new : Room L) (at : OfficeValue S) (behind : Desk S) (result : Result (Unit {0}) Ended)
-        → GoesOnServing given line state_of before later old new (with_none_kept tries at) behind → old.clients.items ≡ [] → old.came ≡ 0 → old.counted ≡ 0 → new.clients.items ≡ [] → IfSome most (λ n. new.counted ≤ n)
+    pub hall_serves : (before later : DoorsEntry L) (most : Option ℕ) (old new : Room L) (at : OfficeValue S) (behind : Desk S) (result : Result (Unit {0}) Ended)
+        → GoesOnServing given line state_of before later old new (with_none_kept at) behind → old.clients.items ≡ [] → old.came ≡ 0 → old.counted ≡ 0 → new.clients.items ≡ [] → IfSome most (λ n. new.counted ≤ n)
         → OnOk result (IfSome most (λ n. new.counted ≡ n))
-        → ServesHall given line state_of before later most tries at behind.office result
-    hall_serves before later most tries old new at behind result it none first uncounted empty few all =
+        → ServesHall given line state_of before later most at behind.office result
+    hall_serves before later most old new at behind result it none first uncounted empty few all =
         let (guests, came, are) = it.goes_on.own [] [] [] (are_same given line [] [] [] 0 old.came [] old.clients.items first none (none_in given line)) in
         let sum = it.goes_on.counted in
         let counted : new.counted ≡ clients_among (map (λ (g : Guest L). g.came) guests) =
@@ -346,7 +345,7 @@ module _ {L : Type 0} (given : Given) (line : Line L) where
           once = let zero : length new.clients.items ≡ 0 = ap (λ (cs : List (Client L)). length cs) empty in omega (arith, are.sum, zero);
           kept = behind.kept;
           each = it.each;
-          keeps = λ clean is_open earlier rests. kept_of given state_of earlier it.visits tries at behind it.each clean is_open rests;
+          keeps = λ clean is_open earlier rests. kept_of given state_of earlier it.visits at behind it.each clean is_open rests;
         }
       where
         out : (k : ℕ) (guest : Guest L) → IsIn new.clients.items k ⊎ HasLeft line it.goes_on.gone it.visits k guest → HasLeft line it.goes_on.gone it.visits k guest

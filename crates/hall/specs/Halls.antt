@@ -22,7 +22,6 @@ use Rattle.hall.specs.Guests.{AreIn, Guest, HasLeft, WentSoWithAll}
 use Rattle.hall.specs.declared.leaving.Rule.{Rule}
 use Rattle.hall.specs.declared.ended.Ended.{Ended}
 use Rattle.hall.specs.declared.ended.Ended.TheVariants as ended
-use Rattle.codes.specs.Tries.{TriesEntry}
 use Rattle.hall.specs.Reads.{Desk, KeptEntry, desk_at, with_none_kept}
 use Rattle.hall.specs.Terms.{Given}
 use Rattle.hall.specs.Visits.{IsKeptOf, ServesVisit, Visit}
@@ -154,9 +153,9 @@ IsEndedBy before later (Err ended.Rounds) = (later.failed ≡ before.failed) × 
 
 -- Clients and orders came to the doors of an office: no more clients than were to come, and at an end without a failure just so many. It went with each as it should,
 -- and each was handed back, once, with its line as it was last. Their visits had their turns one after the other, each in the office that those before it left, where
--- no response was kept at first, and so many wrong codes had come; and this is kept of them.
+-- no response was kept at first, and no wrong code had come; and this is kept of them.
 pub record ServesHall {L S : Type 0} (given : Given) (line : Line L) (state_of : Held S → State) (before later : DoorsEntry L) (most : Option ℕ)
-    (tries : List TriesEntry) (old new : OfficeValue S) (result : Result (Unit {0}) Ended) : Type 0 where
+    (old new : OfficeValue S) (result : Result (Unit {0}) Ended) : Type 0 where
   pub guests : List (Guest L)
   pub visits : List Visit
   pub gone : List (Leaver L)
@@ -168,6 +167,6 @@ pub record ServesHall {L S : Type 0} (given : Given) (line : Line L) (state_of :
   pub left : (number : ℕ) (guest : Guest L) → number < length guests → HasLeft line gone visits number (slice_index_or guests number guest)
   pub once : length gone ≡ length guests
   pub kept : KeptEntry
-  pub each : FoldsTo (ServesVisit given state_of) (with_none_kept tries old) visits (desk_at new kept)
+  pub each : FoldsTo (ServesVisit given state_of) (with_none_kept old) visits (desk_at new kept)
   pub keeps : HasCleanDisk (state_of new.held) → old.closed ≡ false → (earlier : List Request) → IsAt (after empty_office earlier) (state_of old.held)
       → IsKeptOf state_of given earlier visits new.closed (state_of new.held)

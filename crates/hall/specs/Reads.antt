@@ -1,9 +1,9 @@
 -- What is kept in memory: answers to reads, to be given again while nothing changes; and the wrong codes that came.
-use Rattle.std.specs.Prelude.{◌≡◌, Bool, false, List, [], None, Option, Some, if◌then◌else◌, map, ℕ}
+use Rattle.std.specs.Prelude.{◌≡◌, ◌&&◌, Bool, false, List, [], None, Option, Some, if◌then◌else◌, map, ℕ}
 use Rattle.std.specs.List.{All}
 use Rattle.register.specs.Offices.{OfficeState}
 use Rattle.office.specs.Values.{OfficeValue}
-use Rattle.codes.specs.Tries.{TriesEntry, entries_of, noted, waits}
+use Rattle.codes.specs.RateLimits.{LimitEntry, counted, is_reached, limit_entry, none_wrong}
 use Rattle.wire.specs.Asking.{Asks, reading}
 use Rattle.wire.specs.Gates.{GivenEntry, KnockEntry}
 use Rattle.wire.specs.Serving.{IsServed, reading_response}
@@ -45,25 +45,25 @@ AreReadAt given s reads = All (λ r. IsRead given s r.got r.answer) reads
 
 -- ---- wrong codes
 
--- who knocks so at a moment must wait: ten wrong codes came under his number
-abbrev pub must_wait : Option KnockEntry → ℕ → List TriesEntry → Bool
-must_wait None now tries = false
-must_wait (Some knock) now tries = waits tries knock.clerk now
+-- whether a client is told to wait: its code is wrong, and as many wrong codes came as may
+abbrev pub must_wait : Option KnockEntry → ℕ → LimitEntry → Bool
+must_wait None now limit = false
+must_wait (Some knock) now limit = knock.is_wrong && is_reached limit now
 
--- the wrong codes behind who knocked so
-abbrev pub tries_behind : Option KnockEntry → ℕ → List TriesEntry → List TriesEntry
-tries_behind None now tries = tries
-tries_behind (Some knock) now tries = if knock.is_wrong then noted knock.clerk now tries else tries
+-- the wrong codes that came, after those of this client
+abbrev pub limit_after : Option KnockEntry → ℕ → LimitEntry → LimitEntry
+limit_after None now limit = limit
+limit_after (Some knock) now limit = if knock.is_wrong then counted now limit else limit
 
 -- ---- both
 
--- what is kept: answers to reads, and wrong codes
+-- what is kept: responses to reads, and how many wrong codes came
 pub record KeptEntry : Type 0 where
   pub reads : List ReadEntry
-  pub tries : List TriesEntry
+  pub limit : LimitEntry
 
 abbrev pub kept_in : Remembered → KeptEntry
-kept_in kept = record { reads = reads_in kept.reads; tries = entries_of kept.tries }
+kept_in kept = record { reads = reads_in kept.reads; limit = limit_entry kept.limit }
 
 -- an office that serves, and what is kept beside it
 pub record Desk (S : Type 0) : Type 0 where
@@ -73,6 +73,6 @@ pub record Desk (S : Type 0) : Type 0 where
 abbrev pub desk_at : {S : Type 0} → OfficeValue S → KeptEntry → Desk S
 desk_at office kept = record { office = office; kept = kept }
 
--- an office of which no answer is kept yet, and these wrong codes came
-abbrev pub with_none_kept : {S : Type 0} → List TriesEntry → OfficeValue S → Desk S
-with_none_kept tries office = desk_at office (record { reads = []; tries = tries })
+-- an office of which no response is kept yet, and no wrong code came
+abbrev pub with_none_kept : {S : Type 0} → OfficeValue S → Desk S
+with_none_kept office = desk_at office (record { reads = []; limit = none_wrong })

@@ -19,7 +19,7 @@ use Rattle.wire.specs.Serving.{IsHandedOn, IsServed, ReadiesClosed, ReadiesFor, 
 use Rattle.wire.specs.declared.serving.Served.{Served}
 use Rattle.wire.specs.declared.target.Reading.{Reading}
 use Rattle.hall.specs.Handings.{FollowsOrder, IsTurnedAway, TellsOrder}
-use Rattle.hall.specs.Reads.{AreReadAt, Desk, must_wait, tries_behind}
+use Rattle.hall.specs.Reads.{AreReadAt, Desk, limit_after, must_wait}
 use Rattle.hall.specs.Terms.{Given}
 
 -- Who had a turn, a client or an order that was handed over. He has the door at which he came in, his number in the order of coming, and the moment of his
@@ -66,11 +66,11 @@ pub record ServesClient {S : Type 0} (given : GivenEntry) (state_of : Held S →
 abbrev pub IsToldToWait : Visit → Type 0
 IsToldToWait visit = EndsSo visit (IsServed (IsWritten waits_response))
 
--- a client knocks under the number of a clerk who must wait: the answer says so, and all stays as it is
+-- a client's code is wrong, and as many wrong codes came as may: the answer says to wait, and all stays as it is
 pub record IsKeptWaiting {S : Type 0} (given : GivenEntry) (old : Desk S) (visit : Visit) (new : Desk S) : Type 0 where
   pub knock : Option KnockEntry
   pub is : IsKnock given visit.got knock
-  pub waits : must_wait knock visit.moment old.kept.tries ≡ true
+  pub waits : must_wait knock visit.moment old.kept.limit ≡ true
   pub told : IsToldToWait visit
   pub stays : new ≡ old
 
@@ -78,9 +78,9 @@ pub record IsKeptWaiting {S : Type 0} (given : GivenEntry) (old : Desk S) (visit
 pub record IsLetIn {S : Type 0} (given : GivenEntry) (state_of : Held S → State) (old : Desk S) (visit : Visit) (new : Desk S) : Type 0 where
   pub knock : Option KnockEntry
   pub is : IsKnock given visit.got knock
-  pub free : must_wait knock visit.moment old.kept.tries ≡ false
+  pub free : must_wait knock visit.moment old.kept.limit ≡ false
   pub serves : ServesClient given state_of old visit new
-  pub noted : new.kept.tries ≡ tries_behind knock visit.moment old.kept.tries
+  pub noted : new.kept.limit ≡ limit_after knock visit.moment old.kept.limit
 
 -- a client had his turn: he must wait, or is let in
 abbrev pub MeetsClient : {S : Type 0} → GivenEntry → (Held S → State) → Desk S → Visit → Desk S → Type 0
@@ -90,7 +90,7 @@ MeetsClient given state_of old visit new = IsKeptWaiting given old visit new ⊎
 abbrev pub ServesAt : {S : Type 0} → Door → Given → (Held S → State) → Desk S → Visit → Desk S → Type 0
 ServesAt Clients given state_of old visit new = MeetsClient given.clients state_of old visit new
 ServesAt Orders given state_of old visit new =
-    FollowsOrder given.file state_of old.office visit.got visit.answer new.office × (new.kept.reads ≡ []) × (new.kept.tries ≡ old.kept.tries)
+    FollowsOrder given.file state_of old.office visit.got visit.answer new.office × (new.kept.reads ≡ []) × (new.kept.limit ≡ old.kept.limit)
 
 abbrev pub ServesVisit : {S : Type 0} → Given → (Held S → State) → Desk S → Visit → Desk S → Type 0
 ServesVisit given state_of old visit new = ServesAt visit.door given state_of old visit new

@@ -12,7 +12,7 @@ ghost use Rattle.hall.specs.Turns.{HasCome, HasComeAt, IsSameClient, IsToldAll, 
 ghost use Rattle.office.specs.Answers.{IsOpenAt, IsReadAt, WhenOpenAt};
 ghost use Rattle.wire.specs.Asking.{Asks, reading};
 ghost use Rattle.wire.specs.declared.target.Reading.{Reading};
-ghost use Rattle.codes.specs.Tries.{entries_of};
+ghost use Rattle.codes.specs.RateLimits.{limit_entry};
 ghost use Rattle.hall.specs.Reads.{IsRead, TellsNoFault, desk_at, kept_in};
 ghost use Rattle.hall.specs.Visits.{HasServed, IsToldToWait, MeetsClient, ServesClient, ServesVisit, Visit};
 
@@ -166,7 +166,7 @@ fn read_answer<S: Alter>(
     requires asks { (what : Reading) × Asks (given_entry given) got.now (reading what) }
     ensures served { (number moment : ℕ) → ServesClient (given_entry given.entry) (state S.Store) (desk_at office.old (kept_in kept.old))
         (record { door = Door.Clients; number = number; moment = moment; got = got.now; answer = result.bytes.items }) (desk_at office.new (kept_in kept.new)) }
-    ensures tries { entries_of kept.new.tries ≡ entries_of kept.old.tries }
+    ensures limit { limit_entry kept.new.limit ≡ limit_entry kept.old.limit }
     ensures untold { result.sent ≡ 0 }
 {
     if let Some(bytes) = kept.reads.told_to(alloc, got) {
@@ -191,7 +191,7 @@ fn answered<S: Alter>(
 ) -> Answer
     ensures served { (number moment : ℕ) → ServesClient (given_entry given.entry) (state S.Store) (desk_at office.old (kept_in kept.old))
         (record { door = Door.Clients; number = number; moment = moment; got = got.now; answer = result.bytes.items }) (desk_at office.new (kept_in kept.new)) }
-    ensures tries { entries_of kept.new.tries ≡ entries_of kept.old.tries }
+    ensures limit { limit_entry kept.new.limit ≡ limit_entry kept.old.limit }
     ensures untold { result.sent ≡ 0 }
 {
     if is_reading(alloc, given, got, office) {
@@ -215,8 +215,8 @@ fn to_wait(alloc: Global) -> Answer
     }
 }
 
-/// The answer to a client of whom these bytes were gathered; nothing of it went out yet. A client who knocks under the number of
-/// a clerk who must wait is answered so, and nothing else comes of it. Of anybody else it is noted if his code was wrong.
+/// The answer to a client of whom these bytes were gathered; nothing of it went out yet. If its code is wrong, and as many wrong
+/// codes came as may, it is told to wait, and nothing else comes of it. Else it is counted if its code was wrong.
 fn answer_client<S: Alter>(
     alloc: Global,
     given: Given<'_>,

@@ -1,53 +1,53 @@
 //! What an office that serves keeps in memory.
 
 ghost use Rattle.std.specs.Prelude.{◌≡◌, [], option_map};
-ghost use Rattle.codes.specs.Tries.{entries_of};
+ghost use Rattle.codes.specs.RateLimits.{limit_entry, none_wrong};
 ghost use Rattle.wire.specs.Gates.{knock_entry};
-ghost use Rattle.hall.specs.Reads.{kept_in, must_wait, reads_in, tries_behind};
+ghost use Rattle.hall.specs.Reads.{kept_in, limit_after, must_wait, reads_in};
 
 use crate::reads::Kept;
-use codes::Tries;
+use codes::RateLimit;
 use std::alloc::Global;
 use wire::Knock;
 
-/// The answers to reads since anything may have changed; and the wrong codes that came.
+/// The responses to reads since anything may have changed; and the wrong codes that came.
 #[derive(Drop)]
 pub struct Remembered {
     pub reads: Kept,
-    pub tries: Tries,
+    pub limit: RateLimit,
 }
 
 impl Remembered {
-    /// No answer is kept yet, and these wrong codes came. Takes no memory.
-    pub fn new(alloc: Global, tries: Tries) -> Remembered
-        ensures { kept_in result ≡ record { reads = []; tries = entries_of tries } }
+    /// No response is kept yet, and no wrong code came. Takes no memory.
+    pub fn new(alloc: Global) -> Remembered
+        ensures { kept_in result ≡ record { reads = []; limit = none_wrong } }
     {
         Remembered {
             reads: Kept::new(alloc),
-            tries,
+            limit: RateLimit::new(),
         }
     }
 
-    /// Whether who knocks so must wait at a moment.
+    /// Returns whether a client is told to wait at a moment: its code is wrong, and as many wrong codes came as may.
     pub fn must_wait(&self, knock: Option<Knock>, now: u64) -> bool
-        ensures { result ≡ must_wait (option_map knock_entry knock) now (entries_of self.now.tries) }
+        ensures { result ≡ must_wait (option_map knock_entry knock) now (limit_entry self.now.limit) }
     {
         match knock {
-            Some(knock) => self.tries.waits(knock.clerk, now),
+            Some(knock) => knock.is_wrong && self.limit.is_reached(now),
             None => false,
         }
     }
 
-    /// Notes a wrong code, where one came with who knocked so.
+    /// Counts a wrong code, if one came with this client.
     pub fn note(&mut self, knock: Option<Knock>, now: u64)
         ensures reads { reads_in self.new.reads ≡ reads_in self.old.reads }
-        ensures tries { entries_of self.new.tries ≡ tries_behind (option_map knock_entry knock) now (entries_of self.old.tries) }
+        ensures limit { limit_entry self.new.limit ≡ limit_after (option_map knock_entry knock) now (limit_entry self.old.limit) }
     {
         let Some(knock) = knock else {
             return;
         };
         if knock.is_wrong {
-            self.tries.note(knock.clerk, now);
+            self.limit.count_wrong(now);
         }
     }
 }

@@ -8,7 +8,6 @@ ghost use Rattle.sqlite.specs.Held.{state};
 ghost use Rattle.gathering.specs.Lines.{line_of};
 ghost use Rattle.gathering.specs.Clients.{IsOf};
 ghost use Rattle.gathering.specs.Rooms.{after_call};
-ghost use Rattle.codes.specs.Tries.{entries_of};
 ghost use Rattle.hall.specs.Guests.{IsSound};
 ghost use Rattle.hall.specs.Reads.{desk_at, kept_in};
 ghost use Rattle.hall.specs.Terms.{Given, given_in};
@@ -21,7 +20,6 @@ use crate::ended::Ended;
 use crate::leaving::{PATIENCE, close_all, keep_within, let_go_late, make_room, make_way};
 use crate::remembered::Remembered;
 use crate::terms::Terms;
-use codes::Tries;
 use gathering::room::{longest, place_of};
 use gathering::{Admitted, Client, Doors, Leaving, Room};
 use office::Office;
@@ -349,27 +347,26 @@ fn go_on_serving<D: Doors, A: Aside, S: Alter>(
 /// him, if that is a second at least. One has half a minute for what he asks, and half a minute more to take his answer. Who is
 /// let go gets no answer. Who can't be let in now is let in later.
 ///
-/// At the gate ten wrong codes under a clerk's number within a minute make everyone wait who asks there, for a minute. The
-/// answer says so, and nothing else. The moments are those that the clock shows, and `tries` are the wrong codes that came
-/// before.
+/// At the gate a request is let in by its clerk's code, whatever wrong codes came. Once 6,000 wrong codes came within a minute, a
+/// request with a wrong code is told to wait, for the rest of that minute. The moments are those that the clock shows.
 ///
 /// What is gathered of a client, or of an order, are his own bytes, from the first one on, and what he gets is the answer to just
 /// these. Nothing changes an open office but clerks' keyings, at most one a client, and the requests of orders. Whatever a stop
 /// leaves is the state after those that were answered, and at most one more. Each is answered as the office's machine says where
 /// his turn comes. A closed office stays as it is.
 ///
-/// `Broken` where the doors or the clock fail; what was answered before stands.
+/// The error says why it ended before: the doors or their clock failed, there was no memory for a room, or there were as many
+/// rounds as there are numbers. What was answered before stands. Whoever is in then is closed.
 pub fn serve_hall<D: Doors, A: Aside, S: Alter>(
     alloc: Global,
     doors: &mut D,
     terms: Terms<'_>,
-    tries: Tries,
     aside: &A,
     connections: Option<u64>,
     office: &mut Office<S>,
 ) -> Result<(), Ended>
     ensures served { ServesHall (given_in terms.entry) (line_of D.Line.held D.Line.taken D.Line.failed) (state S.Store)
-        (D.known doors.old) (D.known doors.new) connections (entries_of tries) office.old office.new result }
+        (D.known doors.old) (D.known doors.new) connections office.old office.new result }
     ensures ended { IsEndedBy (D.known doors.old) (D.known doors.new) result }
     ensures closed { office.old.closed ≡ true → office.new ≡ office.old }
     ensures clean { HasCleanDisk (state S.Store office.new.held) → HasCleanDisk (state S.Store office.old.held) }
@@ -378,7 +375,7 @@ pub fn serve_hall<D: Doors, A: Aside, S: Alter>(
     let Ok(mut room) = Room::new(alloc) else {
         return Err(Ended::Memory);
     };
-    let mut kept = Remembered::new(alloc, tries);
+    let mut kept = Remembered::new(alloc);
     let ended = go_on_serving(
         alloc, doors, terms, aside, most, &mut room, office, &mut kept,
     );
