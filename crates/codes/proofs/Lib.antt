@@ -1,4 +1,3 @@
 -- Lemmas.
 pub mod LetterLemmas
 pub mod NumberLemmas
-pub mod TryLemmas

@@ -3,4 +3,4 @@ pub mod Codes
 pub mod Faults
 pub mod Files
 pub mod Making
-pub mod Tries
+pub mod RateLimits

@@ -1,0 +1,36 @@
+-- How many wrong codes are answered within a minute, whoever sends them.
+use Rattle.std.specs.Prelude.{◌+◌, ◌-◌, ◌&&◌, Bool, if◌then◌else◌, min, nat_le, nat_lt, ℕ}
+use Rattle.codes.specs.declared.rate_limit.RateLimit.{RateLimit}
+
+-- the number of wrong codes within a minute at which the limit is reached
+abbrev pub most_wrong : ℕ
+most_wrong = 6000
+
+-- a minute, in milliseconds
+abbrev pub minute : ℕ
+minute = 60000
+
+-- the wrong codes of a minute: when it began, in milliseconds of a clock, and how many came since, up to the limit
+pub record LimitEntry : Type 0 where
+  pub since : ℕ
+  pub count : ℕ
+
+abbrev pub limit_entry : RateLimit → LimitEntry
+limit_entry limit = record { since = limit.since; count = limit.count }
+
+-- no wrong code came
+abbrev pub none_wrong : LimitEntry
+none_wrong = record { since = 0; count = 0 }
+
+-- its minute isn't over; a time before its beginning, to which a clock was set back, counts as the beginning
+abbrev pub is_current : LimitEntry → ℕ → Bool
+is_current e now = nat_lt (now - e.since) minute
+
+-- the limit is reached: that many wrong codes came in the current minute
+abbrev pub is_reached : LimitEntry → ℕ → Bool
+is_reached e now = nat_le most_wrong e.count && is_current e now
+
+-- one wrong code more, in the current minute, or the first one of a new minute
+abbrev pub counted : ℕ → LimitEntry → LimitEntry
+counted now e =
+    if is_current e now then record { since = e.since; count = min (e.count + 1) most_wrong } else record { since = now; count = 1 }
