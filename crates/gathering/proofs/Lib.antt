@@ -2,3 +2,5 @@
 pub mod LineLemmas
 pub mod RoomLemmas
 pub mod OfLemmas
+pub mod ClosingLemmas
+pub mod BoundLemmas

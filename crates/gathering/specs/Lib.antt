@@ -1,4 +1,5 @@
 pub mod Lines
 pub mod Clients
 pub mod Leavers
+pub mod Closing
 pub mod Rooms

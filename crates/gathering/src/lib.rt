@@ -7,6 +7,7 @@
 #![tactic(auto)]
 
 pub mod client;
+pub mod closing;
 pub mod doors;
 pub mod gathered;
 pub mod leaver;

@@ -153,7 +153,7 @@ module _ {S : Type 0} (given : GivenEntry) (state_of : Held S → State) where
       → ServesClient given state_of old visit (desk_at new later)
   noted_still old visit new kept later same it = record {
     serves = it.serves;
-    keeps = subst (λ (rs : List ReadEntry). KeepsReads given state_of old visit.got (desk_at new (record { reads = rs; tries = later.tries }))) (sym same) it.keeps;
+    keeps = subst (λ (rs : List ReadEntry). KeepsReads given state_of old visit.got (desk_at new (record { reads = rs; limit = later.limit }))) (sym same) it.keeps;
     turned_away = it.turned_away;
     clean = it.clean;
   }

@@ -19,8 +19,8 @@ use Rattle.gathering.specs.declared.client.Client.{Client}
 use Rattle.gathering.specs.declared.client.Comer.{Comer}
 use Rattle.hall.specs.Guests.{AreIn, Guest, HadFor, HasLeft, IsGathered, IsIn, IsWhy, Stands, WentSo, WentSoWithAll, visits_of}
 use Rattle.hall.specs.Terms.{Given}
-use Rattle.hall.specs.Halls.{IsOut}
-use Rattle.hall.specs.Turns.{MayLeave, answer_of}
+use Rattle.gathering.specs.Closing.{MayLeave}
+use Rattle.hall.specs.Turns.{answer_of}
 use Rattle.hall.specs.Visits.{Visit}
 
 -- ---- the visits under a number
@@ -177,6 +177,7 @@ module _ {L : Type 0} (given : Given) (line : Line L) where
           within = omega (arith, is_in.within, length-set clients place new);
           his = λ c. number_kept is_in.place c ∙ is_in.his c;
         }
+
         by : (k ≡ old.number) ⊎ (k ≡ old.number → ⊥) → IsIn (set clients place new) k ⊎ HasLeft line gone (visits ++ more) k (get_or all_now k d)
         by (inl e) = inl (record {
           place = place;
@@ -281,6 +282,7 @@ module _ {L : Type 0} (given : Given) (line : Line L) where
         within = omega (arith, is_in.within, length_push clients client);
         his = λ c. ap (λ (x : Client L). x.number) (get_or_append_left clients (client ∷ []) c is_in.place is_in.within) ∙ is_in.his c;
       }
+
       by : (k ≡ length guests) ⊎ (k ≡ length guests → ⊥) → IsIn (clients ++ client ∷ []) k ⊎ HasLeft line gone visits k (get_or (with_one guests start) k d)
       by (inl e) = inl (record {
         place = length clients;
@@ -347,6 +349,7 @@ module _ {L : Type 0} (given : Given) (line : Line L) where
       where
         fewer : length (remove clients place) + 1 ≡ length clients
         fewer = length-remove clients place within
+
         by : (is_in.place ≡ place) ⊎ ((is_in.place < place) ⊎ (place < is_in.place)) → IsIn (remove clients place) k
         by (inl same) = absurd (ne (sym (is_in.his client) ∙ ap (λ (j : ℕ). (get_or clients j client).number) same ∙ sym (ap (λ (c : Client L). c.number) (here client))))
         by (inr (inl below)) = record {
@@ -379,6 +382,7 @@ module _ {L : Type 0} (given : Given) (line : Line L) where
     where
       stood : (d : Guest L) → Stands line visits (get_or guests client.number d) client
       stood d = subst (λ (c : Client L). Stands line visits (get_or guests c.number d) c) (sym (here client)) (are.stand place client within d)
+
       by : (k : ℕ) (d : Guest L) → (k ≡ client.number) ⊎ (k ≡ client.number → ⊥) → IsIn clients k ⊎ HasLeft line gone visits k (get_or guests k d)
           → IsIn (remove clients place) k ⊎ HasLeft line (gone ++ leaver_of client why ∷ []) visits k (get_or guests k d)
       by k d (inl e) left = inr (subst (λ (j : ℕ). HasLeft line (gone ++ leaver_of client why ∷ []) visits j (get_or guests j d)) (sym e) (record {

@@ -25,16 +25,17 @@ use Rattle.gathering.specs.declared.leaver.Leaving.{Leaving}
 use Rattle.gathering.specs.declared.room.Room.{Room}
 use Rattle.gathering.proofs.LineLemmas.{heard_more}
 use Rattle.hall.specs.Guests.{AreIn, Guest, HadFor, HasLeft, IsGathered, IsIn, IsSound, Stands, WentSo, visits_of}
-use Rattle.hall.specs.Halls.{AreLetGo, GoesOn, GoesOnServing, HandsBackMore, IsCalled, IsEndedBy, IsRound, LetsInMore, ServesHall}
+use Rattle.gathering.specs.Closing.{AreLetGo, MayLeave}
+use Rattle.hall.specs.Halls.{GoesOn, GoesOnServing, HandsBackMore, IsCalled, IsEndedBy, IsRound, LetsInMore, ServesHall}
 use Rattle.hall.specs.declared.ended.Ended.{Ended}
 use Rattle.hall.specs.declared.ended.Ended.TheVariants as ended
 use Rattle.hall.specs.Reads.{Desk, with_none_kept}
 use Rattle.hall.specs.Terms.{Given}
-use Rattle.hall.specs.Turns.{HasComeAt, HasTurn, IsUntold, MayHaveTurn, MayLeave, answer_of}
+use Rattle.hall.specs.Turns.{HasComeAt, HasTurn, IsUntold, MayHaveTurn, answer_of}
 use Rattle.hall.specs.Visits.{ServesVisit, Visit}
 use Rattle.hall.proofs.GuestLemmas.{are_same, first_under, gathered_for, none_in, one_entered, one_left, one_went_on, same_under, with_one}
 use Rattle.hall.proofs.KeptLemmas.{cleans, kept_of, turned_away}
-use Rattle.hall.proofs.LeavingLemmas.{Outs, folds_then, more_then}
+use Rattle.gathering.proofs.ClosingLemmas.{Outs, folds_then, more_then}
 use Rattle.hall.proofs.TurnLemmas.{is_heard}
 
 -- ---- a place

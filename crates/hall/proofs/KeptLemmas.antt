@@ -30,7 +30,6 @@ use Rattle.desk.specs.Pages.{Cut, Page}
 use Rattle.desk.proofs.KeptLemmas.{kept_done}
 use Rattle.desk.proofs.OpenLemmas.{after_next, open_done}
 use Rattle.hall.specs.Handings.{ComesOf, IsFramed, TellsOrder, TellsSo, folder_of}
-use Rattle.codes.specs.Tries.{TriesEntry}
 use Rattle.wire.specs.Gates.{GivenEntry}
 use Rattle.hall.specs.Reads.{AreReadAt, Desk, IsRead, ReadEntry, with_none_kept}
 use Rattle.hall.specs.Terms.{Given}
@@ -326,12 +325,12 @@ module _ {S : Type 0} (given : Given) (state_of : Held S → State) where
       ]
 
   -- the same after earlier requests, where no answer is kept yet
-  pub kept_of : (earlier : List Request) (visits : List Visit) (tries : List TriesEntry) (old : OfficeValue S) (new : Desk S)
-      → FoldsTo (ServesVisit given state_of) (with_none_kept tries old) visits new
+  pub kept_of : (earlier : List Request) (visits : List Visit) (old : OfficeValue S) (new : Desk S)
+      → FoldsTo (ServesVisit given state_of) (with_none_kept old) visits new
       → HasCleanDisk (state_of new.office.held) → old.closed ≡ false → IsAt (after empty_office earlier) (state_of old.held)
       → IsKeptOf state_of given earlier visits new.office.closed (state_of new.office.held)
-  kept_of earlier visits tries old new each clean is_open at =
-      let it = keeps (after empty_office earlier) visits (with_none_kept tries old) new each clean is_open at (none_read given.clients (after empty_office earlier) [] refl) in
+  kept_of earlier visits old new each clean is_open at =
+      let it = keeps (after empty_office earlier) visits (with_none_kept old) new each clean is_open at (none_read given.clients (after empty_office earlier) [] refl) in
       record {
         answered = it.answered;
         last = it.last;

@@ -7,6 +7,4 @@ pub mod KeptLemmas
 pub mod AnswerLemmas
 pub mod TurnLemmas
 pub mod GuestLemmas
-pub mod LeavingLemmas
-pub mod BoundLemmas
 pub mod HallLemmas

@@ -1,12 +1,10 @@
 -- Who goes on, a client or an order that is handed over, and the turn that he has in it.
-use Rattle.std.specs.Prelude.{◌≡◌, ◌≤◌, ◌⊎◌, ⊤, IsSomeAnd, List, [], None, Option, Some, length, option_map, ℕ}
+use Rattle.std.specs.Prelude.{◌≡◌, ◌⊎◌,  List, [], None, Option, Some, option_map, ℕ}
 use Rattle.std.specs.Io.KnownBytes.{IsAtEnd}
 use Rattle.sqlite.specs.Held.{Held}
 use Rattle.sqlite.specs.State.{State}
-use Rattle.gathering.specs.Lines.{Gathers, HasFailed, HasTaken, Line}
+use Rattle.gathering.specs.Lines.{Gathers, HasTaken, Line}
 use Rattle.gathering.specs.declared.client.Client.{Client}
-use Rattle.gathering.specs.declared.leaver.Leaving.{Leaving}
-use Rattle.gathering.specs.declared.leaver.Leaving.TheVariants.{Done, Broken, Unheard, Late, ForRoom, Closing}
 use Rattle.gathering.specs.declared.client.Door.{Door}
 use Rattle.gathering.specs.declared.client.Door.TheVariants.{Clients, Orders}
 use Rattle.wire.specs.Gates.{GivenEntry}
@@ -32,19 +30,6 @@ IsUntold line client = client.answer ≡ None → HasTaken (line.taken client.li
 -- the answer that a client has, if he has one
 abbrev pub answer_of : {L : Type 0} → Client L → Option (List ℕ)
 answer_of client = option_map (λ answer. answer.bytes.items) client.answer
-
--- a client has his answer, and got all of it
-abbrev pub IsToldAll : {L : Type 0} → Client L → Type 0
-IsToldAll client = IsSomeAnd client.answer (λ answer. length answer.bytes.items ≤ answer.sent)
-
--- A client may leave for a reason: as done where it has its whole response, and as broken where a call of its line failed.
-abbrev pub MayLeave : {L : Type 0} → Line L → Leaving → Client L → Type 0
-MayLeave line Done client = IsToldAll client
-MayLeave line Broken client = HasFailed (line.failed client.line)
-MayLeave line Unheard client = ⊤
-MayLeave line Late client = ⊤
-MayLeave line ForRoom client = ⊤
-MayLeave line Closing client = ⊤
 
 -- He is who he was, and his half minute is the same.
 abbrev pub IsSameClient : {L : Type 0} → Client L → Client L → Type 0

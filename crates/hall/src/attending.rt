@@ -27,7 +27,7 @@ use office::Office;
 use sqlite::Alter;
 use std::alloc::Global;
 use votes::Broken;
-use wire::{Given, Lacks, Served, knock_of, lacks, serve_one, tell_to_wait};
+use wire::{Given, Lacks, Served, body_to_come, knock_of, lacks, serve_one, tell_to_wait};
 
 /// How many bytes of a client are heard before it is looked what they lack: as many as the head of a request may have.
 const FRONT: usize = 8192;
@@ -300,6 +300,14 @@ fn tell_more<L: Line>(client: &mut Client<L>) -> Attended
     }
 }
 
+/// Returns how many bytes are still to come of what came in at a door, and has its turn now.
+fn unread_at(door: Door, got: &[u8]) -> usize {
+    match door {
+        Door::Clients => body_to_come(got),
+        Door::Orders => 0,
+    }
+}
+
 /// Who was heard to the end has his turn: he is served, or followed, from that alone, and gets of his answer what he takes now.
 fn take_turn<L: Line, A: Aside, S: Alter>(
     alloc: Global,
@@ -326,6 +334,7 @@ fn take_turn<L: Line, A: Aside, S: Alter>(
         got,
         ..
     } = client;
+    let unread = unread_at(door, got.as_slice());
     let (line, answer) = answer_to(
         alloc,
         terms,
@@ -344,7 +353,7 @@ fn take_turn<L: Line, A: Aside, S: Alter>(
         since,
         got: Vec::new(alloc),
         answer: Some(answer),
-        unread: 0,
+        unread,
     };
     match tell_more(&mut client) {
         Attended::Waits => (client, Attended::Served),

@@ -4,15 +4,15 @@
 //! [`serve_hall`] lets in who comes to the [`Doors`](gathering::Doors), at most 512 at once. [`attend`] hears who goes on as far
 //! as his line lets him now. Once what he asks has come to its end, this is his turn: a client is served from what was
 //! gathered, and an order is followed in the open office. So nobody waits for another's line, and the office does one thing at
-//! a time. A read that is asked for again, while nothing has changed, is answered from memory. Where clerks' codes are asked
-//! for, ten wrong ones under a clerk's number make everyone wait who asks under it, for a minute.
+//! a time. A read that is asked for again, while nothing has changed, is answered from memory. If clerks' codes are asked for, a
+//! request is let in by its clerk's code, and of wrong codes only so many are looked at within a minute.
 //!
 //! `specs/Visits.antt` says what is kept of those who had their turns, and `specs/Handings.antt` what an order asks and what
 //! it prints. `specs/Reads.antt` says which answers and wrong codes are kept, and `specs/Turns.antt` what a turn is.
 //! `specs/Guests.antt` says how it went with each who came, and `specs/Halls.antt` what is promised of them all.
 //!
 //! ```text
-//! serve_hall(alloc, &clock, &mut doors, terms, tries, &aside, connections, &mut office)?    // Broken: the doors or the clock failed
+//! serve_hall(alloc, &mut doors, terms, &aside, connections, &mut office)?    // or why it ended before (`Ended`)
 //! ```
 #![tactic(auto)]
 
@@ -29,7 +29,6 @@ pub mod terms;
 pub mod attending;
 // all that are in
 pub mod ended;
-mod leaving;
 mod serving;
 
 pub use aside::Aside;

@@ -17,7 +17,7 @@ ghost use Rattle.hall.specs.Halls.{GoesOn, GoesOnServing, IsCalled, IsEndedBy, I
 use crate::aside::Aside;
 use crate::attending::{Attended, attend};
 use crate::ended::Ended;
-use crate::leaving::{PATIENCE, close_all, keep_within, let_go_late, make_room, make_way};
+use gathering::closing::{PATIENCE, close_all, keep_within, let_go_late, make_room, make_way};
 use crate::remembered::Remembered;
 use crate::terms::Terms;
 use gathering::room::{longest, place_of};

@@ -1,21 +1,21 @@
 -- Clients that are let go, one after the other.
-use Rattle.std.proofs.Common.{◌≡◌, ◌≤◌, ◌<◌, ◌+◌, ◌-◌, ◌∙◌, ◌⊎◌, ◌∷◌, ◌++◌, ⊤, Bool, false, true, ℕ, List, [], None, Option, Some, ap, append-nil, append_assoc, arith, cond, get_or, inl, inr, length, option_map, refl, remove, subst, sym}
+use Rattle.std.proofs.Common.{◌≡◌, ◌≤◌, ◌<◌, ◌+◌, ◌-◌, ◌∙◌, ◌⊎◌, ◌∷◌, ◌++◌, Bool, false, true, ℕ, List, [], None, Option, Some, ap, append-nil, append_assoc, arith, cond, get_or, inl, inr, length, option_map, refl, remove, subst, sym}
 use Rattle.std.proofs.lemmas.List.{get_or_default, get_or_read, nil_from_length}
 use Rattle.std.proofs.lemmas.List.Edits.{length-remove}
 use Rattle.std.proofs.lemmas.List.Elements.{All-nil, All-weaker}
 use Rattle.std.specs.List.{All, FoldsTo}
 use Rattle.gathering.specs.Leavers.{leaver_of}
 use Rattle.gathering.specs.Lines.{Line}
-use Rattle.gathering.specs.Rooms.{AreUnseen, DoorsEntry, IsLongest, bytes_held, is_among, with_leaver}
+use Rattle.gathering.specs.Rooms.{AreUnseen, DoorsEntry, IsLongest, bytes_held, is_among, most_bytes, with_leaver}
 use Rattle.gathering.specs.declared.client.Client.{Client}
 use Rattle.gathering.specs.declared.client.Door.{Door}
 use Rattle.gathering.specs.declared.client.Door.TheVariants.{Clients, Orders}
 use Rattle.gathering.specs.declared.leaver.Leaver.{Leaver}
 use Rattle.gathering.specs.declared.leaver.Leaving.{Leaving}
+use Rattle.gathering.specs.declared.leaver.Leaving.TheVariants.{Closing}
 use Rattle.gathering.specs.declared.room.Room.{Room}
-use Rattle.hall.specs.Halls.{AreLetGo, IsClosed, IsClosedAt, IsLetGo, IsLetGoForBytes, IsOut, LetsOneGo, OneGoes, for_bytes, for_room_by, late_by, with_leavers}
-use Rattle.hall.specs.Turns.{MayLeave}
-use Rattle.hall.specs.declared.leaving.Rule.{Rule}
+use Rattle.gathering.specs.Closing.{MayLeave, AreLetGo, IsClosed, IsClosedAt, IsLetGo, IsLetGoForBytes, IsOut, LetsOneGo, OneGoes, for_bytes, for_room_by, late_by, patience, with_leavers}
+use Rattle.gathering.specs.declared.closing.Rule.{Rule}
 
 pub folds_then : {P A : Type 0} (R : P → A → P → Type 0) (xs ys : List A) (old mid new : P) → FoldsTo R old xs mid → FoldsTo R mid ys new → FoldsTo R old (xs ++ ys) new
 folds_then {P} R [] ys old mid new same rest = subst (λ (o : P). FoldsTo R o ys new) (sym same) rest
@@ -71,17 +71,17 @@ abbrev pub Outs : {L : Type 0} → (List (Client L) → Leaver L → List (Clien
 Outs {L} Goes = (old : List (Client L)) (leaver : Leaver L) (new : List (Client L)) → Goes old leaver new → Out old leaver new
 
 module _ {L : Type 0} where
-  pub late_outs : (now : ℕ) → Outs {L} (IsLetGo (late_by now))
+  pub late_outs : (now : ℕ) → Outs {L = L} (IsLetGo (late_by now))
   late_outs now old leaver new it = record { why = (late_by now).why; place = it.place; out = it.out; may = λ line client. tt }
 
-  pub room_outs : (now : ℕ) → Outs {L} (IsLetGo (for_room_by now))
+  pub room_outs : (now : ℕ) → Outs {L = L} (IsLetGo (for_room_by now))
   room_outs now old leaver new it = record { why = (for_room_by now).why; place = it.place; out = it.out; may = λ line client. tt }
 
-  pub bytes_outs : Outs {L} IsLetGoForBytes
+  pub bytes_outs : Outs {L = L} IsLetGoForBytes
   bytes_outs old leaver new (over, inl it) = record { why = (for_bytes false).why; place = it.place; out = it.out; may = λ line client. tt }
   bytes_outs old leaver new (over, inr (unseen, it)) = record { why = (for_bytes true).why; place = it.place; out = it.out; may = λ line client. tt }
 
-  pub closed_outs : Outs {L} IsClosed
+  pub closed_outs : Outs {L = L} IsClosed
   closed_outs old leaver new it = record { why = _; place = 0; out = it; may = λ line client. tt }
 
   pub one_fewer : (Goes : List (Client L) → Leaver L → List (Client L) → Type 0) → Outs Goes → (old new : Room L) (before later : DoorsEntry L) → OneGoes Goes before later old new
@@ -142,11 +142,11 @@ none_there [] none = refl
 none_there (c ∷ cs) none = let never = none 0 c (omega arith) (seen_too c.door) in absurd (omega (arith, never))
 
 pub none_unseen : {L : Type 0} (clients : List (Client L)) → All (λ (c : Client L). is_among false c.door ≡ true → 0 - c.since < 0) clients → AreUnseen false clients
-none_unseen {L} clients none = All-weaker (λ (c : Client L). is_among false c.door ≡ true → 0 - c.since < 0) (λ (c : Client L). is_among false c.door ≡ false) (λ c never. unseen c.door never) clients none
+none_unseen {L} clients none = All-weaker (λ (c : Client L). is_among false c.door ≡ true → 0 - c.since < 0) (λ (c : Client L). is_among false c.door ≡ false) (λ c never. unseen c.since c.door never) clients none
   where
-    unseen : (door : Door) → (is_among false door ≡ true → _) → is_among false door ≡ false
-    unseen Clients never = absurd (omega (arith, never refl))
-    unseen Orders never = refl
+    unseen : (since : ℕ) (door : Door) → (is_among false door ≡ true → 0 - since < 0) → is_among false door ≡ false
+    unseen since Clients never = let none = never refl in absurd (omega (arith, none))
+    unseen since Orders never = refl
 
 -- ---- how many are left
 
@@ -158,6 +158,12 @@ pub thinner : {L : Type 0} (first old new : List (Client L)) (turns : ℕ) → l
 thinner {L} first old new turns less (inl so_far) = inl (omega (arith, less, so_far))
 thinner {L} first old new turns less (inr empty) = let zero : length old ≡ 0 = ap (λ (cs : List (Client L)). length cs) empty in absurd (omega (arith, less, zero))
 
+-- one was let go for bytes, or nobody was there
+pub thinner_maybe : {L : Type 0} (first : List (Client L)) (turns : ℕ) (one : Bool) (before later : DoorsEntry L) (old new : Room L) → LetsOneGo IsLetGoForBytes one before later old new → (one ≡ false → old.clients.items ≡ [])
+    → IsThinner first turns old.clients.items → IsThinner first (turns + 1) new.clients.items
+thinner_maybe first turns true before later old new goes none it = thinner first old.clients.items new.clients.items turns (one_fewer IsLetGoForBytes bytes_outs old new before later goes) it
+thinner_maybe first turns false before later old new (same, still) none it = inr (ap (λ (r : Room _). r.clients.items) same ∙ none refl)
+
 -- after as many turns as there were nobody is left
 pub none_left : {L : Type 0} (first last : List (Client L)) (turns : ℕ) → IsThinner first turns last → length first ≤ turns → last ≡ []
 none_left first last turns (inl so_far) few = nil_from_length last (omega (arith, so_far, few))
@@ -165,3 +171,45 @@ none_left first last turns (inr empty) few = empty
 
 pub none_held : {L : Type 0} (last : List (Client L)) (most : ℕ) → last ≡ [] → bytes_held last ≤ most
 none_held {L} last most empty = subst (λ (cs : List (Client L)). bytes_held cs ≤ most) (sym empty) (omega arith)
+
+-- the one at a place is handed back, for a reason
+pub closed_at : {L : Type 0} (why : Leaving) (place : ℕ) (old new : List (Client L)) (client : Client L) (leaver : Leaver L) (before later : DoorsEntry L) → place < length old → client ≡ get_or old place client → new ≡ remove old place
+    → leaver ≡ leaver_of client why → later ≡ with_leaver before leaver → IsClosedAt why place old before new later
+closed_at {L} why place old new client leaver before later within here left is back = (
+  leaver,
+  record { within = within; is = λ d. is ∙ ap (λ (c : Client L). leaver_of c why) (get_or_read old place client within here d); left = left },
+  back,
+)
+
+-- nobody is late any more
+pub none_late : {L : Type 0} (now : ℕ) (clients : List (Client L)) → clients ≡ [] → All (λ (c : Client L). now - c.since < patience) clients
+none_late {L} now clients empty = subst (All (λ (c : Client L). now - c.since < patience)) (sym empty) (All-nil (λ (c : Client L). now - c.since < patience))
+
+-- one goes for bytes: a client, or an order where no client is in
+pub client_for_bytes : {L : Type 0} (rule : Rule) (one : Bool) (before later : DoorsEntry L) (old new : Room L) → rule ≡ for_bytes false → most_bytes < bytes_held old.clients.items → one ≡ true
+    → OneGoes (IsLetGo rule) before later old new → LetsOneGo IsLetGoForBytes one before later old new
+client_for_bytes {L} rule one before later old new is over went it =
+    let goes = subst (λ (r : Rule). OneGoes (IsLetGo r) before later old new) is it in
+    subst (λ (b : Bool). LetsOneGo IsLetGoForBytes b before later old new) (sym went) (record { came = goes.came; counted = goes.counted; leaver = goes.leaver; goes = (over, inl goes.goes); back = goes.back })
+
+pub order_for_bytes : {L : Type 0} (rule : Rule) (one : Bool) (before mid later : DoorsEntry L) (old went new : Room L) → rule ≡ for_bytes true → most_bytes < bytes_held old.clients.items → AreUnseen false old.clients.items
+    → went ≡ old → mid ≡ before → LetsOneGo (IsLetGo rule) one mid later went new → LetsOneGo IsLetGoForBytes one before later old new
+order_for_bytes {L} rule one before mid later old went new is over unseen same still it =
+    by one
+    (subst (λ (d : DoorsEntry L). LetsOneGo (IsLetGo (for_bytes true)) one d later old new) still
+    (subst (λ (o : Room L). LetsOneGo (IsLetGo (for_bytes true)) one mid later o new) same
+    (subst (λ (r : Rule). LetsOneGo (IsLetGo r) one mid later went new) is it)))
+  where
+    by : (b : Bool) → LetsOneGo (IsLetGo (for_bytes true)) b before later old new → LetsOneGo IsLetGoForBytes b before later old new
+    by true goes = record { came = goes.came; counted = goes.counted; leaver = goes.leaver; goes = (over, inr (unseen, goes.goes)); back = goes.back }
+    by false stays = stays
+
+-- the first one is closed
+pub goes_first : {L : Type 0} (why : Leaving) (before later : DoorsEntry L) (old new : Room L) → why ≡ Closing → IsClosedAt why 0 old.clients.items before new.clients.items later → new.came ≡ old.came → new.counted ≡ old.counted → OneGoes IsClosed before later old new
+goes_first why before later old new is (leaver, out, back) came counted = record {
+  came = came;
+  counted = counted;
+  leaver = leaver;
+  goes = subst (λ (w : Leaving). IsOut w 0 old.clients.items leaver new.clients.items) is out;
+  back = back;
+}

@@ -11,8 +11,8 @@ use Rattle.gathering.specs.declared.client.Client.{Client}
 use Rattle.gathering.specs.declared.client.Comer.{Comer}
 use Rattle.gathering.specs.declared.room.Room.{Room}
 use Rattle.gathering.specs.declared.leaver.Leaver.{Leaver}
-use Rattle.hall.specs.Halls.{AreLetGo, IsWithin}
-use Rattle.hall.proofs.LeavingLemmas.{Outs}
+use Rattle.gathering.specs.Closing.{AreLetGo, IsWithin}
+use Rattle.gathering.proofs.ClosingLemmas.{Outs}
 
 module _ {L : Type 0} where
   -- so many clients, and so many bytes of them, at most

@@ -3,10 +3,11 @@
 ghost use Rattle.std.specs.Prelude.{◌≡◌, ◌⊎◌, ◌≤◌, ◌<◌, ◌-◌, [], false, length, true};
 ghost use Rattle.std.specs.List.{All};
 ghost use Rattle.gathering.specs.Rooms.{bytes_held, is_among, most_bytes, most_clients};
-ghost use Rattle.hall.specs.Halls.{AreLetGo, IsClosed, IsClosedAt, IsFull, IsLetGo, IsLetGoForBytes, IsWithin, LetsOneGo, for_bytes, for_room_by, grace, late_by, patience};
+ghost use Rattle.gathering.specs.Closing.{AreLetGo, IsClosed, IsClosedAt, IsFull, IsLetGo, IsLetGoForBytes, IsWithin, LetsOneGo, for_bytes, for_room_by, grace, late_by, patience};
 
-use gathering::room::{bytes_held, longest};
-use gathering::{Doors, Leaving, MAX_BYTES, MAX_CLIENTS, Room};
+use crate::doors::Doors;
+use crate::leaver::Leaving;
+use crate::room::{MAX_BYTES, MAX_CLIENTS, Room, bytes_held, longest};
 
 /// How long a client may take to send what it asks, and as long to take its response, in milliseconds.
 pub const PATIENCE: u64 = 30_000;
@@ -148,7 +149,13 @@ pub fn make_room<D: Doors>(doors: &mut D, room: &mut Room<D::Line>, lets_go: boo
     if !is_full(room) {
         return true;
     }
-    lets_go && make_way(doors, room, now) && room.clients.len() < MAX_CLIENTS
+    if !lets_go {
+        return false;
+    }
+    if !make_way(doors, room, now) {
+        return false;
+    }
+    room.clients.len() < MAX_CLIENTS
 }
 
 /// Closes all that are in.

@@ -1,0 +1,11 @@
+-- What holds each time round the loop of `let_go_late`.
+use Rattle.gathering.specs.Closing.{AreLetGo, IsLetGo, late_by}
+use Rattle.gathering.proofs.ClosingLemmas.{IsThinner}
+use Rattle.gathering.proofs.closing.let_go_late.Given as goal
+
+-- one was closed in each turn, or nobody is left
+abbrev pub invariant-loop-turn : goal.invariant-loop-turn
+invariant-loop-turn g l = record {
+  go : AreLetGo (IsLetGo (late_by l.now)) (g.D.Doors.known l.fn.doors) (g.D.Doors.known l.doors) l.fn.room l.room;
+  thinner : IsThinner l.fn.room.clients.items l.turn l.room.clients.items;
+}
