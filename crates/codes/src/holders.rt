@@ -11,10 +11,11 @@ use base64::engine::general_purpose::STANDARD;
 use sha2::{Digest, Sha256};
 use std::alloc::{AllocError, Global};
 
-/// The codes of clerks, as browsers send them.
+/// The codes of clerks, as browsers send them, and the clerks whose codes are weak.
 #[derive(Drop)]
 pub struct Codes {
     pub all: Vec<Credentials>,
+    pub weak: Vec<u32>,
 }
 
 /// The credentials of a clerk, as a text.
@@ -93,5 +94,13 @@ impl Codes {
         ensures { result ≡ is_of (holders_of self.now) clerk text.now }
     {
         is_of(self.all.as_slice(), clerk, text)
+    }
+
+    /// Returns the clerks whose codes are weak, in the order of the file: such a code has fewer than 12 bytes other than hyphens,
+    /// and may be guessed.
+    pub fn weak_clerks(&self) -> &[u32]
+        ensures { result.now ≡ self.now.weak.items }
+    {
+        self.weak.as_slice()
     }
 }

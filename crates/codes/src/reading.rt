@@ -3,7 +3,7 @@
 ghost use Rattle.std.specs.Prelude.{◌≡◌, ◌≤◌, ◌⊎◌, ◌*◌, ◌+◌, ◌==◌, [], IfErr, IfOk, IfSome, List, Ok, Err, bytes_eq, length, map, option_and_then, option_map, ℕ};
 ghost use Rattle.std.specs.List.{list_all, list_any, prefix_len};
 ghost use Rattle.codes.specs.Codes.{holders_of};
-ghost use Rattle.codes.specs.Files.{CodeEntry, clerk_in, code_entry, codes_in, digit_in, entries_from, entry_behind, entry_in, holders_by, is_code, is_no_blank, is_visible, lines_from, without_return};
+ghost use Rattle.codes.specs.Files.{CodeEntry, clerk_in, code_entry, codes_in, digit_in, entries_from, entry_behind, entry_in, holders_by, is_code, is_no_blank, is_visible, is_no_hyphen, is_strong, lines_from, weak_clerks, without_return};
 ghost use Rattle.codes.specs.declared.fault.ReadError.TheVariants as read_error;
 
 use crate::fault::{CodesFault, Flaw, ReadError};
@@ -16,6 +16,9 @@ const FEWEST_BYTES: usize = 8;
 
 /// The most bytes of a code.
 const MOST_BYTES: usize = 64;
+
+/// The fewest bytes of a strong code, hyphens left out.
+const FEWEST_STRONG_BYTES: usize = 12;
 
 /// A line of a file of codes: a clerk, and his code.
 #[derive(Clone, Copy)]
@@ -80,6 +83,26 @@ fn is_code(text: &[u8]) -> bool
     ensures { result ≡ is_code text.now }
 {
     text.len() >= FEWEST_BYTES && text.len() <= MOST_BYTES && all_visible(text)
+}
+
+/// Returns whether a code is strong: it has at least twelve bytes other than hyphens.
+fn is_strong(code: &[u8]) -> bool
+    ensures { result ≡ is_strong code.now }
+{
+    code.iter().filter(|byte| **byte != b'-').count() >= FEWEST_STRONG_BYTES
+}
+
+/// Returns the clerks whose codes aren't strong.
+fn weak_clerks(alloc: Global, lines: &[CodeLine<'_>]) -> Result<Vec<u32>, AllocError>
+    ensures { IfOk result (λ weak. weak.items ≡ weak_clerks (map code_entry lines.now)) }
+{
+    let mut weak = Vec::new(alloc);
+    for line in lines {
+        if !is_strong(line.code) {
+            weak.push(line.clerk)?;
+        }
+    }
+    Ok(weak)
 }
 
 /// How many bytes stand before the first blank of a line.
@@ -204,15 +227,16 @@ pub(crate) fn entries_of(alloc: Global, lines: &[Vec<u8>]) -> Result<Vec<CodeLin
 }
 
 impl Codes {
-    /// The codes that stand in a text; or want of memory, or the first line that is wrong.
+    /// Reads the codes of a file's text. The errors are that an allocation failed, and the first line that is wrong.
     pub fn read(alloc: Global, text: &[u8]) -> Result<Codes, ReadError>
-        ensures ok { IfOk result (λ own. (entries : List CodeEntry) × (codes_in text.now ≡ Ok entries) × (holders_of own ≡ holders_by entries)) }
+        ensures ok { IfOk result (λ own. (entries : List CodeEntry) × (codes_in text.now ≡ Ok entries) × (holders_of own ≡ holders_by entries) × (own.weak.items ≡ weak_clerks entries)) }
         ensures err { IfErr result (λ why. (why ≡ read_error.Memory) ⊎ ((fault : CodesFault) × (why ≡ read_error.Fault fault) × (codes_in text.now ≡ Err fault))) }
     {
         let lines = lines_of(alloc, text)?;
         let entries = entries_of(alloc, lines.as_slice())?;
         Ok(Codes {
             all: credentials_by(alloc, entries.as_slice())?,
+            weak: weak_clerks(alloc, entries.as_slice())?,
         })
     }
 }
