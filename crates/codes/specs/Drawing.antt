@@ -23,7 +23,7 @@ letters_for clerks = code_letters * length (clerks_of clerks)
 
 -- ---- files
 
--- bytes draw just the letters for these clerks, but what they make is no file of codes: a code stands in it twice
+-- bytes draw just the letters for these clerks, but their text is no file of codes, such as where a code stands in it twice
 abbrev pub is_vain : Clerks → List ℕ → Bool
 is_vain clerks bytes = (length (letters_drawn bytes) == letters_for clerks) && not (is_file_for clerks (codes_in (text_of (clerks_of clerks) (letters_drawn bytes))))
 

@@ -14,7 +14,7 @@ use crate::range::Clerks;
 use crate::reading::{CodeLine, entries_of, lines_of};
 use std::alloc::Global;
 
-/// How many files are drawn at most, in each of which a code stands twice.
+/// How many files are drawn at most.
 const MOST_FILES: u32 = 100;
 
 /// How many bytes a code has.

@@ -165,7 +165,7 @@ fn warn_of_weak(rt: &HostRuntime, porter: &Option<Porter>) {
         let mut told = rt.stderr();
         let _ = writeln!(
             told,
-            "codes of clerks {clerks} are short, and may be guessed: make new ones with 'count-office DB codes FILE CLERKS'"
+            "codes of clerks {clerks} are short, and may be guessed: make new ones with 'count-office DB codes FILE 1-40'"
         );
     }
 }
