@@ -150,13 +150,14 @@ pub unmade : (clerks : Clerks) (failed failed_mid failed_then : ℕ) (old mid ne
     → HasDrawn clerks old mid left → failed_mid ≡ failed → IsUnwritten clerks failed_mid failed_then mid new why → IsUnmade clerks failed failed_then old new why
 unmade clerks failed failed_mid failed_then old mid new left Memory it same is = is ∙ same
 unmade clerks failed failed_mid failed_then old mid new left (Fault NoRandom) it same is = is ∙ ap (λ n. n + 1) same
-unmade clerks failed failed_mid failed_then old mid new left (Fault BadRandom) it same is =
-    (is.0 ∙ same,
-        record {
-          earlier = it.earlier;
-          own = is.1.own;
-          drew = known_more old mid new (concat it.earlier) is.1.own it.drew is.1.drew;
-          vain = it.vain;
-          ends = inr is.1.few;
-        })
+unmade clerks failed failed_mid failed_then old mid new left (Fault BadRandom) it same is = (
+  is.0 ∙ same,
+  record {
+    earlier = it.earlier;
+    own = is.1.own;
+    drew = known_more old mid new (concat it.earlier) is.1.own it.drew is.1.drew;
+    vain = it.vain;
+    ends = inr is.1.few;
+  },
+)
 unmade clerks failed failed_mid failed_then old mid new left (Fault other) it same is = absurd is

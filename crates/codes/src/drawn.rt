@@ -97,12 +97,7 @@ fn push_letters(text: &mut String, letters: &[u8]) -> Result<(), AllocError>
 
 /// Appends the line of a clerk: his number, a blank, and his code of these letters.
 #[tactic(auto, using(crate::proofs::NumberLemmas::joined))]
-fn push_line(
-    alloc: Global,
-    text: &mut String,
-    clerk: u32,
-    letters: &[u8],
-) -> Result<(), AllocError>
+fn push_line(alloc: Global, text: &mut String, clerk: u32, letters: &[u8]) -> Result<(), AllocError>
     requires enough { length letters.now ≡ 12 }
     requires ascii { EachIndex letters.now (λ k. slice_index letters.now k < 128) }
     ensures { OnOk result (string_bytes text.new ≡ string_bytes text.old ++ line_of clerk letters.now) }

@@ -1,13 +1,12 @@
 //! The codes of clerks: read from a file, compared with what a browser sends (`Authorization: Basic`), and made.
 //!
-//! [`Codes::read`](Codes) reads a file's text, a line a clerk. [`Codes::admits`](Codes) compares a text with a clerk's
-//! credentials: by their digests first, so that the time shows nothing of how much of it is right. [`RateLimit`] counts wrong
-//! codes, by the times of a clock that it is given. [`make`] makes the text of a new file, of the bytes that
-//! a source of random bytes draws ([`Draws`]).
+//! [`Codes::read`](Codes) reads a file's text, a line for each clerk. [`Codes::admits`](Codes) compares a text with a clerk's
+//! credentials, by their digests first, so that the time doesn't show how much of it is right. [`RateLimit`] counts wrong codes,
+//! by the times of a clock that it is given. [`make`] returns the text of a new file, made of random bytes ([`Draws`]).
 //!
-//! `specs/Codes.antt` says what the credentials of a clerk are, and whose a text is; `specs/Files.antt` what a file of codes
-//! says, `specs/RateLimits.antt` how many wrong codes are answered, `specs/Making.antt` what is made, and `specs/Drawing.antt` of
-//! which bytes. Nothing guarantees that the system's bytes are random.
+//! `specs/Codes.antt` defines the credentials of a clerk, `specs/Files.antt` what a file of codes says, `specs/RateLimits.antt`
+//! the limit of wrong codes, `specs/Making.antt` the text of a new file, and `specs/Drawing.antt` of which bytes it is made.
+//! Nothing guarantees that the system's bytes are random.
 //!
 //! ```text
 //! let codes = Codes::read(alloc, text)?;

@@ -20,14 +20,14 @@ const MOST_BYTES: usize = 64;
 /// The fewest bytes of a strong code, hyphens left out.
 const FEWEST_STRONG_BYTES: usize = 12;
 
-/// A line of a file of codes: a clerk, and his code.
+/// A line of a file of codes: a clerk and his code.
 #[derive(Clone, Copy)]
 pub struct CodeLine<'a> {
     pub clerk: u32,
     pub code: &'a [u8],
 }
 
-/// What a digit counts.
+/// Returns the value of a digit.
 fn digit_in(byte: u8) -> Option<u32>
     ensures is { result ≡ digit_in byte }
     ensures bound { IfSome result (λ digit. digit ≤ 9) }
@@ -39,7 +39,7 @@ fn digit_in(byte: u8) -> Option<u32>
     }
 }
 
-/// The number that a digit writes behind others, if these and it are digits.
+/// Returns the number that a digit makes after others, if all are digits.
 fn with_digit(value: Option<u32>, byte: u8) -> Option<u32>
     requires { IfSome value (λ v. v ≤ 99) }
     ensures is { result ≡ option_and_then (λ v. option_map (λ d. v * 10 + d) (digit_in byte)) value }
@@ -51,7 +51,7 @@ fn with_digit(value: Option<u32>, byte: u8) -> Option<u32>
     }
 }
 
-/// The clerk's number that some bytes write: 1 to 3 digits, the first not 0.
+/// Parses a clerk's number: 1 to 3 digits, the first not 0.
 pub(crate) fn clerk_in(text: &[u8]) -> Option<u32>
     ensures { result ≡ clerk_in text.now }
 {
@@ -64,21 +64,21 @@ pub(crate) fn clerk_in(text: &[u8]) -> Option<u32>
     }
 }
 
-/// Whether a byte is a letter, a digit or a sign.
+/// Returns whether a byte is a letter, a digit or a sign.
 fn is_visible(byte: u8) -> bool
     ensures { result ≡ is_visible byte }
 {
     byte > b' ' && byte < 127
 }
 
-/// Whether bytes are letters, digits and signs alone.
+/// Returns whether bytes are letters, digits and signs alone.
 fn all_visible(text: &[u8]) -> bool
     ensures { result ≡ list_all is_visible text.now }
 {
     text.iter().all(|byte| is_visible(*byte))
 }
 
-/// Whether a text is a code.
+/// Returns whether a text is a code.
 fn is_code(text: &[u8]) -> bool
     ensures { result ≡ is_code text.now }
 {
@@ -105,7 +105,7 @@ fn weak_clerks(alloc: Global, lines: &[CodeLine<'_>]) -> Result<Vec<u32>, AllocE
     Ok(weak)
 }
 
-/// How many bytes stand before the first blank of a line.
+/// Returns how many bytes come before the first blank of a line.
 fn front_length(line: &[u8]) -> usize
     ensures bound { result ≤ length line.now }
     ensures is { result ≡ prefix_len is_no_blank line.now }
@@ -120,7 +120,7 @@ fn front_length(line: &[u8]) -> usize
     length
 }
 
-/// What a line says: a clerk's number, a blank, and a code.
+/// Parses a line: a clerk's number, a blank, and a code.
 fn entry_in(line: &[u8]) -> Result<CodeLine<'_>, Flaw>
     ensures ok { IfOk result (λ found. entry_in line.now ≡ Ok (code_entry found)) }
     ensures err { IfErr result (λ flaw. entry_in line.now ≡ Err flaw) }
@@ -137,7 +137,7 @@ fn entry_in(line: &[u8]) -> Result<CodeLine<'_>, Flaw>
     }
 }
 
-/// A line without the carriage return at its end.
+/// Returns a line without the carriage return at its end.
 fn without_return(line: &[u8]) -> &[u8]
     ensures { result.now ≡ without_return line.now }
 {
@@ -148,7 +148,7 @@ fn without_return(line: &[u8]) -> &[u8]
     }
 }
 
-/// Whether a clerk stands in some lines.
+/// Returns whether some line has a clerk.
 fn has_clerk(before: &[CodeLine<'_>], clerk: u32) -> bool
     ensures { result ≡ list_any (λ (other : CodeEntry). other.clerk == clerk) (map code_entry before.now) }
 {
@@ -160,7 +160,7 @@ fn has_clerk(before: &[CodeLine<'_>], clerk: u32) -> bool
     false
 }
 
-/// Whether a code stands in some lines.
+/// Returns whether some line has a code.
 fn has_code(before: &[CodeLine<'_>], code: &[u8]) -> bool
     ensures { result ≡ list_any (λ (other : CodeEntry). bytes_eq other.code code.now) (map code_entry before.now) }
 {
@@ -172,7 +172,7 @@ fn has_code(before: &[CodeLine<'_>], code: &[u8]) -> bool
     false
 }
 
-/// What a line says behind others: no clerk stands there twice, and no code.
+/// Parses a line after others, of which none may have its clerk or its code.
 fn entry_behind<'a>(before: &[CodeLine<'_>], line: &'a [u8]) -> Result<CodeLine<'a>, Flaw>
     ensures ok { IfOk result (λ found. entry_behind (map code_entry before.now) (entry_in line.now) ≡ Ok (code_entry found)) }
     ensures err { IfErr result (λ flaw. entry_behind (map code_entry before.now) (entry_in line.now) ≡ Err flaw) }
@@ -187,7 +187,7 @@ fn entry_behind<'a>(before: &[CodeLine<'_>], line: &'a [u8]) -> Result<CodeLine<
     Ok(found)
 }
 
-/// The lines of a text.
+/// Splits a text into lines.
 pub(crate) fn lines_of(alloc: Global, text: &[u8]) -> Result<Vec<Vec<u8>>, AllocError>
     ensures { IfOk result (λ lines. map (λ line. line.items) lines.items ≡ lines_from [] text.now) }
 {
@@ -204,7 +204,7 @@ pub(crate) fn lines_of(alloc: Global, text: &[u8]) -> Result<Vec<Vec<u8>>, Alloc
     Ok(lines)
 }
 
-/// What all lines say; or want of memory, or the first line that is wrong.
+/// Parses all lines. The errors are that an allocation failed, and the first line that is wrong.
 pub(crate) fn entries_of(alloc: Global, lines: &[Vec<u8>]) -> Result<Vec<CodeLine<'_>>, ReadError>
     ensures ok { IfOk result (λ found. entries_from 1 [] (map (λ line. line.items) lines.now) ≡ Ok (map code_entry found.items)) }
     ensures err { IfErr result (λ why. (why ≡ read_error.Memory) ⊎ ((fault : CodesFault) × (why ≡ read_error.Fault fault) × (entries_from 1 [] (map (λ line. line.items) lines.now) ≡ Err fault))) }

@@ -10,5 +10,5 @@ loop-letters-preserved g c =
     record {
       drawing = drawing_next _ _ _ _ _ _ _ c.loop-letters.invariant.drawing c.in_ok-draw_letter.ensures.ok some;
       failed = c.in_ok-draw_letter.ensures.failed ∙ c.loop-letters.invariant.failed;
-      bound = omega (arith, grows, c.loop-letters-test.true, c.as_slice.ensures.value, c.as_slice.ensures.len);
+      bound = omega (arith, grows, c.loop-letters-test.true);
     }
