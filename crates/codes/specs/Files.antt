@@ -1,5 +1,6 @@
 -- A file of codes: a line a clerk, his number, a blank, and his code.
-use Rattle.std.specs.Prelude.{◌∷◌, ◌++◌, ◌+◌, ◌-◌, ◌*◌, ◌==◌, ◌&&◌, ◌||◌, Bool, List, [], Option, Some, None, Result, Ok, Err, bytes_eq, count_by, drop, if◌then◌else◌, length, map, nat_le, nat_lt, not, option_and_then, option_map, slice_index, take, ℕ}
+use Rattle.std.specs.Prelude.{◌∷◌, ◌++◌, ◌+◌, ◌-◌, ◌*◌, ◌==◌, ◌&&◌, ◌||◌, Bool, List, [], Option, Some, None, Result, Ok, Err}
+use Rattle.std.specs.Prelude.{bytes_eq, count_by, drop, if◌then◌else◌, length, map, nat_le, nat_lt, not, option_and_then, option_map, slice_index, take, ℕ}
 use Rattle.std.specs.Char.{is_ascii_digit}
 use Rattle.std.specs.List.{list_all, list_any, prefix_len}
 use Rattle.codes.specs.Codes.{Holder, credentials_of}

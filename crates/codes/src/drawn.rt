@@ -1,9 +1,8 @@
 //! Letters that are drawn, and the text that they make.
 
 ghost use Rattle.std.specs.Prelude.{◌≡◌, ◌++◌, ◌-◌, ◌^◌, ◌<◌, ◌≤◌, EachIndex, IfErr, IfOk, OnOk, length, slice_index, string_bytes};
-ghost use Rattle.codes.specs.Drawing.{AreDrawn, IsDraw, IsDrawn, IsUndrawn, IsUnwritten};
+ghost use Rattle.codes.specs.Drawing.{AreDrawn, IsDraw, IsDrawn, IsUndrawn, IsUnwritten, letters_for};
 ghost use Rattle.codes.specs.Making.{clerks_of, letter_of, line_of, text_of};
-ghost use Rattle.codes.specs.Drawing.{letters_for};
 
 use crate::drawing::Draws;
 use crate::fault::{CodesFault, ReadError};

@@ -3,7 +3,8 @@
 ghost use Rattle.std.specs.Prelude.{◌≡◌, ◌≤◌, ◌⊎◌, ◌*◌, ◌+◌, ◌==◌, [], IfErr, IfOk, IfSome, List, Ok, Err, bytes_eq, length, map, option_and_then, option_map, ℕ};
 ghost use Rattle.std.specs.List.{list_all, list_any, prefix_len};
 ghost use Rattle.codes.specs.Codes.{holders_of};
-ghost use Rattle.codes.specs.Files.{CodeEntry, clerk_in, code_entry, codes_in, digit_in, entries_from, entry_behind, entry_in, holders_by, is_code, is_no_blank, is_visible, is_no_hyphen, is_strong, lines_from, weak_clerks, without_return};
+ghost use Rattle.codes.specs.Files.{CodeEntry, clerk_in, code_entry, codes_in, digit_in, entries_from, entry_behind, entry_in, holders_by, is_code, is_no_blank, is_strong, is_visible};
+ghost use Rattle.codes.specs.Files.{lines_from, weak_clerks, without_return};
 ghost use Rattle.codes.specs.declared.fault.ReadError.TheVariants as read_error;
 
 use crate::fault::{CodesFault, Flaw, ReadError};
