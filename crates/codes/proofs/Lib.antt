@@ -1,3 +1,5 @@
 -- Lemmas.
+pub mod DrawingLemmas
 pub mod LetterLemmas
+pub mod MakingLemmas
 pub mod NumberLemmas

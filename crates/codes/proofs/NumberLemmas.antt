@@ -1,19 +1,90 @@
--- Numbers in a row.
-use Rattle.std.proofs.Common.{◌≡◌, ◌∙◌, ◌+◌, ◌++◌, ◌∷◌, [], List, ap, arith, suc, zero, ℕ}
-use Rattle.codes.specs.Making.{numbers}
+-- Clerks in a row, and their lines.
+use Rattle.std.proofs.Common.{◌≡◌, ◌∙◌, ◌+◌, ◌-◌, ◌<◌, ◌≤◌, ◌++◌, ◌∷◌, ◌&&◌, ◌==◌, true, [], List, ap, append-nil, append_assoc, arith, drop, length, map, refl, sym, suc, take, zero, ℕ}
+use Rattle.std.proofs.lemmas.Bool.{and_parts}
+use Rattle.std.proofs.lemmas.Bool.Decides.{nat_tests}
+use Rattle.codes.specs.Files.{CodeEntry}
+use Rattle.codes.specs.Making.{are_from, code_letters, line_of, numbers, text_of}
 
-pub one_number : (m n : ℕ) → m ≡ n → m ∷ [] ≡ n ∷ []
-one_number m n same = ap (λ x. x ∷ []) same
+pub length_numbers : (first n : ℕ) → length (numbers first n) ≡ n
+length_numbers first zero = refl
+length_numbers first (suc n) = ap (λ k. suc k) (length_numbers (first + 1) n)
 
--- one number more
-next_number : (first n : ℕ) → numbers first (suc n) ≡ numbers first n ++ (first + n) ∷ []
-next_number first zero = one_number first (first + 0) (omega arith)
-next_number first (suc n) =
-    ap (λ (ns : List ℕ). first ∷ ns) (next_number (first + 1) n)
-    ∙ ap (λ m. first ∷ (numbers (first + 1) n ++ m ∷ [])) (omega arith)
+numbers_first : (first n : ℕ) → 0 < n → numbers first n ≡ first ∷ numbers (first + 1) (n - 1)
+numbers_first first zero some = absurd (omega arith)
+numbers_first first (suc n) some =
+    let same : n ≡ suc n - 1 = omega arith in
+    ap (λ k. first ∷ numbers (first + 1) k) same
 
-one_more : (n : ℕ) → n + 1 ≡ suc n
-one_more n = omega arith
+-- ---- lines
 
-pub numbers_more : (first n : ℕ) → numbers first (n + 1) ≡ numbers first n ++ (first + n) ∷ []
-numbers_more first n = ap (numbers first) (one_more n) ∙ next_number first n
+pub lines_begin : (first count : ℕ) (letters : List ℕ) → text_of (numbers (first + 0) (count - 0)) letters ≡ text_of (numbers first count) letters
+lines_begin first count letters =
+    let one : first + 0 ≡ first = omega arith in
+    let all : count - 0 ≡ count = omega arith in
+    ap (λ n. text_of (numbers n (count - 0)) letters) one ∙ ap (λ n. text_of (numbers first n) letters) all
+
+lines_next : (first index count : ℕ) (letters : List ℕ) → index < count
+    → text_of (numbers (first + index) (count - index)) letters
+    ≡ line_of (first + index) (take code_letters letters) ++ text_of (numbers (first + (index + 1)) (count - (index + 1))) (drop code_letters letters)
+lines_next first index count letters there =
+    let some : 0 < count - index = omega (arith, there) in
+    let next : first + index + 1 ≡ first + (index + 1) = omega arith in
+    let fewer : count - index - 1 ≡ count - (index + 1) = omega arith in
+    ap (λ (ns : List ℕ). text_of ns letters) (numbers_first (first + index) (count - index) some)
+    ∙ ap (λ n. line_of (first + index) (take code_letters letters) ++ text_of (numbers n (count - index - 1)) (drop code_letters letters)) next
+    ∙ ap (λ n. line_of (first + index) (take code_letters letters) ++ text_of (numbers (first + (index + 1)) n) (drop code_letters letters)) fewer
+
+lines_end : (first index count : ℕ) (letters : List ℕ) → count ≤ index → text_of (numbers (first + index) (count - index)) letters ≡ []
+lines_end first index count letters done =
+    let none : count - index ≡ 0 = omega (arith, done) in
+    ap (λ n. text_of (numbers (first + index) n) letters) none
+
+-- a line more was written
+pub one_line : (first index count : ℕ) (before after all rest own others : List ℕ) → index < count → own ≡ take code_letters rest → others ≡ drop code_letters rest
+    → after ≡ before ++ line_of (first + index) own → before ++ text_of (numbers (first + index) (count - index)) rest ≡ all
+    → after ++ text_of (numbers (first + (index + 1)) (count - (index + 1))) others ≡ all
+one_line first index count before after all rest own others there is behind grown it =
+    let text = λ (ls : List ℕ). text_of (numbers (first + (index + 1)) (count - (index + 1))) ls in
+    ap (λ (ls : List ℕ). ls ++ text others) grown
+    ∙ append_assoc before (line_of (first + index) own) (text others)
+    ∙ ap (λ (ls : List ℕ). before ++ (line_of (first + index) ls ++ text others)) is
+    ∙ ap (λ (ls : List ℕ). before ++ (line_of (first + index) (take code_letters rest) ++ text ls)) behind
+    ∙ ap (λ (ls : List ℕ). before ++ ls) (sym (lines_next first index count rest there))
+    ∙ it
+
+-- all lines were written
+pub all_lines : (first index count : ℕ) (text all rest : List ℕ) → count ≤ index → text ++ text_of (numbers (first + index) (count - index)) rest ≡ all → text ≡ all
+all_lines first index count text all rest done it =
+    sym (append-nil text) ∙ ap (λ (ls : List ℕ). text ++ ls) (sym (lines_end first index count rest done)) ∙ it
+
+-- the pieces of a line, one behind the other
+pub joined : (text front a hyphen b c end : List ℕ) → ((((((text ++ front) ++ a) ++ hyphen) ++ b) ++ hyphen) ++ c) ++ end ≡ text ++ ((((((front ++ a) ++ hyphen) ++ b) ++ hyphen) ++ c) ++ end)
+joined text front a hyphen b c end = simp append_assoc refl
+
+-- ---- clerks of entries
+
+same_number : (m n : ℕ) → (m == n) ≡ true → m ≡ n
+same_number m n is = grind (arith, nat_tests)
+
+from_below : (next end : ℕ) (entries : List CodeEntry) → are_from next end entries ≡ true → next ≤ end
+from_below next end [] is = let same : next ≡ end = same_number next end is in omega (arith, same)
+from_below next end (e ∷ entries) is =
+    let parts = and_parts (e.clerk == next) (are_from (next + 1) end entries) is in
+    let later : next + 1 ≤ end = from_below (next + 1) end entries parts.1 in
+    omega (arith, later)
+
+-- entries are of the clerks from one on to the one before another
+pub from_numbers : (next end : ℕ) (entries : List CodeEntry) → are_from next end entries ≡ true → map (λ (e : CodeEntry). e.clerk) entries ≡ numbers next (end - next)
+from_numbers next end [] is =
+    let same : next ≡ end = same_number next end is in
+    let none : 0 ≡ end - next = omega (arith, same) in
+    ap (numbers next) none
+from_numbers next end (e ∷ entries) is =
+    let parts = and_parts (e.clerk == next) (are_from (next + 1) end entries) is in
+    let later : next + 1 ≤ end = from_below (next + 1) end entries parts.1 in
+    let some : 0 < end - next = omega (arith, later) in
+    let fewer : end - (next + 1) ≡ end - next - 1 = omega arith in
+    ap (λ (ns : List ℕ). e.clerk ∷ ns) (from_numbers (next + 1) end entries parts.1)
+    ∙ ap (λ n. n ∷ numbers (next + 1) (end - (next + 1))) (same_number e.clerk next parts.0)
+    ∙ ap (λ n. next ∷ numbers (next + 1) n) fewer
+    ∙ sym (numbers_first next (end - next) some)

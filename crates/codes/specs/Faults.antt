@@ -1,7 +1,7 @@
 -- Why codes aren't taken, or not made: a number, in words, and of which line.
 use Rattle.std.specs.Prelude.{List, Option, Some, None, codes, ℕ}
 use Rattle.codes.specs.declared.fault.CodesFault.{CodesFault}
-use Rattle.codes.specs.declared.fault.CodesFault.TheVariants.{Line, NoClerks, NoRandom, OpenToOthers, Unmade, Unread}
+use Rattle.codes.specs.declared.fault.CodesFault.TheVariants.{BadRandom, Line, NoClerks, NoRandom, OpenToOthers, Unmade, Unread}
 use Rattle.codes.specs.declared.fault.Flaw.{Flaw}
 use Rattle.codes.specs.declared.fault.Flaw.TheVariants.{BadCode, ClerkTwice, CodeTwice, NoEntry}
 
@@ -24,6 +24,7 @@ fault_number Unread = 6
 fault_number Unmade = 7
 fault_number NoRandom = 8
 fault_number NoClerks = 9
+fault_number BadRandom = 10
 
 abbrev pub fault_text : CodesFault → List ℕ
 fault_text (Line number flaw) = flaw_text flaw
@@ -32,6 +33,7 @@ fault_text Unread = codes "file not read"
 fault_text Unmade = codes "file not made"
 fault_text NoRandom = codes "no random bytes"
 fault_text NoClerks = codes "no clerks, as 1-40"
+fault_text BadRandom = codes "random bytes make no codes"
 
 -- the number of its line, where it is of one
 abbrev pub fault_line : CodesFault → Option ℕ

@@ -1,5 +1,6 @@
 -- A file of codes: a line a clerk, his number, a blank, and his code.
-use Rattle.std.specs.Prelude.{◌∷◌, ◌++◌, ◌+◌, ◌-◌, ◌*◌, ◌==◌, ◌&&◌, ◌||◌, Bool, List, [], Option, Some, None, Result, Ok, Err, bytes_eq, drop, if◌then◌else◌, length, map, nat_le, nat_lt, not, option_and_then, option_map, slice_index, take, ℕ}
+use Rattle.std.specs.Prelude.{◌∷◌, ◌++◌, ◌+◌, ◌-◌, ◌*◌, ◌==◌, ◌&&◌, ◌||◌, Bool, List, [], Option, Some, None, Result, Ok, Err}
+use Rattle.std.specs.Prelude.{bytes_eq, count_by, drop, if◌then◌else◌, length, map, nat_le, nat_lt, not, option_and_then, option_map, slice_index, take, ℕ}
 use Rattle.std.specs.Char.{is_ascii_digit}
 use Rattle.std.specs.List.{list_all, list_any, prefix_len}
 use Rattle.codes.specs.Codes.{Holder, credentials_of}
@@ -25,6 +26,18 @@ is_visible byte = nat_lt 32 byte && nat_lt byte 127
 -- 8 to 64 of these
 abbrev pub is_code : List ℕ → Bool
 is_code text = nat_le fewest_code_bytes (length text) && (nat_le (length text) most_code_bytes && list_all is_visible text)
+
+-- it is no hyphen
+abbrev pub is_no_hyphen : ℕ → Bool
+is_no_hyphen byte = not (byte == 45)
+
+-- the fewest bytes of a strong code, hyphens left out
+abbrev pub fewest_strong_bytes : ℕ
+fewest_strong_bytes = 12
+
+-- a code is strong: it has at least so many bytes other than hyphens
+abbrev pub is_strong : List ℕ → Bool
+is_strong code = nat_le fewest_strong_bytes (count_by is_no_hyphen code)
 
 -- ---- a clerk's number
 
@@ -98,6 +111,11 @@ entries_from number before (line ∷ lines) =
 -- the entries of a file's text, or the first line that is wrong
 abbrev pub codes_in : List ℕ → Result (List CodeEntry) CodesFault
 codes_in text = entries_from 1 [] (lines_from [] text)
+
+-- the clerks whose codes aren't strong, in order
+abbrev pub weak_clerks : List CodeEntry → List ℕ
+weak_clerks [] = []
+weak_clerks (entry ∷ entries) = if is_strong entry.code then weak_clerks entries else entry.clerk ∷ weak_clerks entries
 
 -- who holds the codes of some entries
 abbrev pub holders_by : List CodeEntry → List Holder

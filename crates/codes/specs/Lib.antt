@@ -1,5 +1,6 @@
 -- Clerks' codes.
 pub mod Codes
+pub mod Drawing
 pub mod Faults
 pub mod Files
 pub mod Making

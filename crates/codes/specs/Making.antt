@@ -1,10 +1,9 @@
 -- New codes, and the clerks for whom they are made.
-use Rattle.std.specs.Prelude.{◌≡◌, ◌⊎◌, ◌∷◌, ◌+◌, ◌-◌, ◌==◌, ◌&&◌, ◌%◌, Bool, true, zero, suc, List, [], Option, Some, None, Ok, codes, drop, if◌then◌else◌, length, map, nat_le, nat_lt, not, slice_index, take, ℕ}
-use Rattle.std.specs.List.{list_all, list_any, prefix_len}
-use Rattle.codes.specs.Files.{CodeEntry, clerk_in, codes_in}
-use Rattle.codes.specs.declared.fault.CodesFault.TheVariants.{NoRandom}
-use Rattle.codes.specs.declared.fault.ReadError.{ReadError}
-use Rattle.codes.specs.declared.fault.ReadError.TheVariants as read_error
+use Rattle.std.specs.Prelude.{◌≡◌, ◌∷◌, ◌++◌, ◌+◌, ◌-◌, ◌==◌, ◌&&◌, ◌%◌, Bool, true, false, zero, suc, List, [], Option, Some, None, Result, Ok, Err}
+use Rattle.std.specs.Prelude.{codes, decimal, drop, if◌then◌else◌, length, map, nat_le, nat_lt, not, slice_index, slice_range, take, ℕ}
+use Rattle.std.specs.List.{filter_map, list_all, list_any, prefix_len}
+use Rattle.codes.specs.Files.{CodeEntry, clerk_in, codes_in, is_no_hyphen}
+use Rattle.codes.specs.declared.fault.CodesFault.{CodesFault}
 use Rattle.codes.specs.declared.range.Clerks.{Clerks}
 
 -- ---- codes
@@ -25,9 +24,20 @@ drawing_bytes = 240
 abbrev pub letter_of : ℕ → Option ℕ
 letter_of byte = if nat_lt byte drawing_bytes then Some (slice_index letters (byte % length letters)) else None
 
--- four letters, a hyphen, and four letters
+-- the letters that bytes draw: in order, and each by a byte of its own
+abbrev pub letters_drawn : List ℕ → List ℕ
+letters_drawn bytes = filter_map letter_of bytes
+
+-- how many letters a code has
+abbrev pub code_letters : ℕ
+code_letters = 12
+
+-- a code of twelve letters: in fours, with a hyphen between
 abbrev pub is_made : List ℕ → Bool
-is_made code = (length code == 9) && ((slice_index code 4 == 45) && (list_all is_letter (take 4 code) && list_all is_letter (drop 5 code)))
+is_made code =
+    (length code == 14)
+    && ((slice_index code 4 == 45)
+    && ((slice_index code 9 == 45) && (list_all is_letter (take 4 code) && (list_all is_letter (slice_range code 5 9) && list_all is_letter (drop 10 code)))))
 
 -- ---- clerks
 
@@ -53,23 +63,37 @@ clerks_between None last = None
 clerks_between (Some first) None = None
 clerks_between (Some first) (Some last) = if nat_le first last then Some (record { first = first; last = last }) else None
 
--- it is no hyphen
-abbrev pub is_no_hyphen : ℕ → Bool
-is_no_hyphen byte = not (byte == 45)
-
 -- the clerks that a text names: the first one, a hyphen, and the last
 abbrev pub clerks_in : List ℕ → Option ClerksEntry
 clerks_in text = clerks_between (clerk_in (take (prefix_len is_no_hyphen text) text)) (clerk_in (drop (prefix_len is_no_hyphen text + 1) text))
 
 -- ---- a file of new codes
 
--- a text is a file of codes, one for each of these clerks, in their sequence, and each is four letters, a hyphen, and four letters
+-- a text is a file of codes, one for each of these clerks, in order, and each has twelve letters
 pub record IsMadeFor (clerks : List ℕ) (text : List ℕ) : Type 0 where
   pub entries : List CodeEntry
   pub is : codes_in text ≡ Ok entries
   pub each : map (λ (e : CodeEntry). e.clerk) entries ≡ clerks
   pub made : list_all (λ (e : CodeEntry). is_made e.code) entries ≡ true
 
--- why none are made: memory was wanting, or the system gives no random bytes
-abbrev pub IsUnmade : ReadError → Type 0
-IsUnmade why = (why ≡ read_error.Memory) ⊎ (why ≡ read_error.Fault NoRandom)
+-- entries are of the clerks from one on to the one before another
+abbrev pub are_from : ℕ → ℕ → List CodeEntry → Bool
+are_from next end [] = next == end
+are_from next end (entry ∷ entries) = (entry.clerk == next) && are_from (next + 1) end entries
+
+-- the same test of what was read of a text
+abbrev pub is_file_for : Clerks → Result (List CodeEntry) CodesFault → Bool
+is_file_for clerks (Err fault) = false
+is_file_for clerks (Ok entries) = are_from clerks.first (clerks.last + 1) entries && list_all (λ (e : CodeEntry). is_made e.code) entries
+
+-- ---- its text
+
+-- the line of a clerk: his number, a blank, and his code of these letters
+abbrev pub line_of : ℕ → List ℕ → List ℕ
+line_of clerk own =
+    ((((((decimal clerk ++ codes " ") ++ take 4 own) ++ codes "-") ++ slice_range own 4 8) ++ codes "-") ++ drop 8 own) ++ codes "\n"
+
+-- the lines of clerks, with twelve letters for each, in order
+abbrev pub text_of : List ℕ → List ℕ → List ℕ
+text_of [] own = []
+text_of (clerk ∷ clerks) own = line_of clerk (take code_letters own) ++ text_of clerks (drop code_letters own)

@@ -1,4 +1,4 @@
--- How many wrong codes are answered within a minute, whoever sends them.
+-- The limit on wrong codes, whoever sends them.
 use Rattle.std.specs.Prelude.{◌+◌, ◌-◌, ◌&&◌, Bool, if◌then◌else◌, min, nat_le, nat_lt, ℕ}
 use Rattle.codes.specs.declared.rate_limit.RateLimit.{RateLimit}
 

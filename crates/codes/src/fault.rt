@@ -1,28 +1,26 @@
-//! Why a text is no file of codes.
+//! What can be wrong with a file of codes.
 
 ghost use Rattle.std.specs.Prelude.{◌≡◌};
 ghost use Rattle.codes.specs.Faults.{fault_line, fault_number, fault_text, flaw_number, flaw_text};
 ghost use Rattle.codes.specs.declared.fault.ReadError.TheVariants.{Memory};
 
 use std::alloc::AllocError;
-use thiserror::Error;
 
 /// What is wrong with a line.
 #[derive(Clone, Copy, Debug, PartialEq, Eq, Drop)]
 pub enum Flaw {
-    /// What stands before its first blank is no clerk's number, 1 to 999.
+    /// The line doesn't begin with a clerk's number, 1 to 999, and a blank.
     NoEntry,
-    /// What stands behind the blank is no code: 8 to 64 letters, digits and signs.
+    /// The rest of the line is no code: 8 to 64 letters, digits and signs.
     BadCode,
-    /// Its clerk stands in a line before.
+    /// An earlier line has the same clerk.
     ClerkTwice,
-    /// Its code stands in a line before.
+    /// An earlier line has the same code.
     CodeTwice,
 }
 
-/// Why codes aren't taken, or not made.
-#[derive(Clone, Copy, Debug, PartialEq, Eq, Drop, Error)]
-#[error("{}", self.text())]
+/// Why codes weren't read or made.
+#[derive(Clone, Copy, Debug, PartialEq, Eq, Drop)]
 pub enum CodesFault {
     /// This is wrong with the line of this number.
     Line(usize, Flaw),
@@ -30,16 +28,18 @@ pub enum CodesFault {
     OpenToOthers,
     /// The file can't be read, or it is too long.
     Unread,
-    /// A file is there already, or none can be made.
+    /// The file exists already, or can't be created.
     Unmade,
-    /// The system gives no random bytes.
+    /// The system returned no random bytes.
     NoRandom,
-    /// The word for the clerks names none, as 1-40 does.
+    /// The order doesn't name clerks such as 1-40.
     NoClerks,
+    /// The random bytes drew too few letters, or the same code twice in each of a hundred files.
+    BadRandom,
 }
 
 impl Flaw {
-    /// Its number.
+    /// Returns its number.
     fn number(self) -> u32
         ensures { result ≡ flaw_number self }
     {
@@ -51,7 +51,7 @@ impl Flaw {
         }
     }
 
-    /// It in words.
+    /// Returns it in words.
     fn text(self) -> &'static str
         ensures { result.now ≡ flaw_text self }
     {
@@ -65,7 +65,7 @@ impl Flaw {
 }
 
 impl CodesFault {
-    /// Its number.
+    /// Returns its number.
     pub fn number(&self) -> u32
         ensures { result ≡ fault_number self.now }
     {
@@ -76,10 +76,11 @@ impl CodesFault {
             CodesFault::Unmade => 7,
             CodesFault::NoRandom => 8,
             CodesFault::NoClerks => 9,
+            CodesFault::BadRandom => 10,
         }
     }
 
-    /// It in words.
+    /// Returns it in words.
     pub fn text(&self) -> &'static str
         ensures { result.now ≡ fault_text self.now }
     {
@@ -90,10 +91,11 @@ impl CodesFault {
             CodesFault::Unmade => "file not made",
             CodesFault::NoRandom => "no random bytes",
             CodesFault::NoClerks => "no clerks, as 1-40",
+            CodesFault::BadRandom => "random bytes make no codes",
         }
     }
 
-    /// The number of its line, if it is that of one.
+    /// Returns the number of its line, if it is about a line.
     pub fn line(&self) -> Option<usize>
         ensures { result ≡ fault_line self.now }
     {
@@ -107,7 +109,7 @@ impl CodesFault {
 /// Why no codes were read or made.
 #[derive(Clone, Copy, Debug, PartialEq, Eq, Drop)]
 pub enum ReadError {
-    /// Memory was wanting.
+    /// An allocation failed.
     Memory,
     /// This is wrong.
     Fault(CodesFault),

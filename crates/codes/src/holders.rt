@@ -1,4 +1,4 @@
-//! Who holds a code.
+//! The clerks who hold codes.
 
 ghost use Rattle.std.specs.Prelude.{◌≡◌, ◌&&◌, ◌==◌, IfOk, bytes_eq, map, string_bytes};
 ghost use Rattle.sha2.specs.Sha256.{sha256};
@@ -11,13 +11,14 @@ use base64::engine::general_purpose::STANDARD;
 use sha2::{Digest, Sha256};
 use std::alloc::{AllocError, Global};
 
-/// The codes of clerks, as browsers send them.
+/// The codes of clerks, as browsers send them, and the clerks whose codes are weak.
 #[derive(Drop)]
 pub struct Codes {
     pub all: Vec<Credentials>,
+    pub weak: Vec<u32>,
 }
 
-/// The credentials of a clerk, as a text.
+/// Returns the credentials of a clerk, as a text.
 fn credentials_text(alloc: Global, clerk: u32, code: &[u8]) -> Result<String, AllocError>
     ensures { IfOk result (λ text. string_bytes text ≡ credentials_of clerk code.now) }
 {
@@ -28,7 +29,7 @@ fn credentials_text(alloc: Global, clerk: u32, code: &[u8]) -> Result<String, Al
     Ok(text)
 }
 
-/// The digest of a text.
+/// Returns the digest of a text.
 fn digest_of(text: &[u8]) -> [u8; 32]
     ensures { result ≡ sha256 text.now }
 {
@@ -36,7 +37,7 @@ fn digest_of(text: &[u8]) -> [u8; 32]
 }
 
 impl Credentials {
-    /// The credentials of a clerk who has a code.
+    /// Returns the credentials of a clerk with a code.
     fn new(alloc: Global, clerk: u32, code: &[u8]) -> Result<Credentials, AllocError>
         ensures { IfOk result (λ its. (its.clerk ≡ clerk) × (string_bytes its.text ≡ credentials_of clerk code.now)) }
     {
@@ -49,8 +50,8 @@ impl Credentials {
         })
     }
 
-    /// A text is these credentials. Two digests are compared, and only where they are equal the texts: how long that
-    /// takes shows nothing of how much of the text is right.
+    /// Returns whether a text is these credentials. It compares digests first, and the texts only if these are equal, so that
+    /// the time doesn't show how much of the text is right.
     fn are(&self, text: &[u8], digest: &[u8; 32]) -> bool
         requires { digest.now ≡ sha256 text.now }
         ensures { result ≡ bytes_eq text.now (string_bytes self.now.text) }
@@ -59,7 +60,7 @@ impl Credentials {
     }
 }
 
-/// A text is the credentials of this clerk.
+/// Returns whether a text is the credentials of this clerk.
 fn is_of(all: &[Credentials], clerk: u32, text: &[u8]) -> bool
     ensures { result ≡ is_of (map holder all.now) clerk text.now }
 {
@@ -72,7 +73,7 @@ fn is_of(all: &[Credentials], clerk: u32, text: &[u8]) -> bool
     false
 }
 
-/// The credentials of those whose codes stand in some lines.
+/// Returns the credentials of the clerks of some lines.
 pub(crate) fn credentials_by(
     alloc: Global,
     lines: &[CodeLine<'_>],
@@ -87,11 +88,19 @@ pub(crate) fn credentials_by(
 }
 
 impl Codes {
-    /// A text is the credentials of this clerk, and of nobody else. How long the answer takes shows nothing of how much of the
-    /// text is right: it is hashed whole, and digests are compared first.
+    /// Returns whether a text is the credentials of this clerk. It hashes the whole text and compares digests first, so that
+    /// the time doesn't show how much of the text is right.
     pub fn admits(&self, clerk: u32, text: &[u8]) -> bool
         ensures { result ≡ is_of (holders_of self.now) clerk text.now }
     {
         is_of(self.all.as_slice(), clerk, text)
+    }
+
+    /// Returns the clerks whose codes are weak, in the order of the file: such a code has fewer than 12 bytes other than hyphens,
+    /// and may be guessed.
+    pub fn weak_clerks(&self) -> &[u32]
+        ensures { result.now ≡ self.now.weak.items }
+    {
+        self.weak.as_slice()
     }
 }

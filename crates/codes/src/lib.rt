@@ -1,11 +1,12 @@
 //! The codes of clerks: read from a file, compared with what a browser sends (`Authorization: Basic`), and made.
 //!
-//! [`Codes::read`](Codes) reads a file's text, a line a clerk. [`Codes::admits`](Codes) compares a text with a clerk's
-//! credentials: by their digests first, so that the time shows nothing of how much of it is right. [`RateLimit`] counts wrong
-//! codes, by the times of a clock that it is given. [`make`] makes the text of a new file.
+//! [`Codes::read`](Codes) reads a file's text, a line for each clerk. [`Codes::admits`](Codes) compares a text with a clerk's
+//! credentials, by their digests first, so that the time doesn't show how much of it is right. [`RateLimit`] counts wrong codes,
+//! by the times of a clock that it is given. [`make`] returns the text of a new file, made of random bytes ([`Draws`]).
 //!
-//! `specs/Codes.antt` says what the credentials of a clerk are, and whose a text is; `specs/Files.antt` what a file of codes
-//! says, `specs/RateLimits.antt` how many wrong codes are answered, and `specs/Making.antt` what is made. Nothing is said of how likely a code is.
+//! `specs/Codes.antt` defines the credentials of a clerk, `specs/Files.antt` what a file of codes says, `specs/RateLimits.antt`
+//! the limit of wrong codes, `specs/Making.antt` the text of a new file, and `specs/Drawing.antt` of which bytes it is made.
+//! Nothing guarantees that the system's bytes are random.
 //!
 //! ```text
 //! let codes = Codes::read(alloc, text)?;
@@ -16,14 +17,18 @@
 mod credentials;
 mod fault;
 mod holders;
-// a file
+// new codes
+mod drawing;
+mod drawn;
 mod making;
 mod range;
+// a file
 mod reading;
 // wrong codes
 mod rate_limit;
 
 pub use credentials::Credentials;
+pub use drawing::{DrawFailed, Draws};
 pub use fault::{CodesFault, Flaw, ReadError};
 pub use holders::Codes;
 pub use making::make;

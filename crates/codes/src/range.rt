@@ -1,8 +1,9 @@
 //! The clerks for whom codes are made.
 
-ghost use Rattle.std.specs.Prelude.{◌≡◌, ◌≤◌, length, option_map};
+ghost use Rattle.std.specs.Prelude.{◌≡◌, ◌≤◌, ◌+◌, ◌-◌, ◌^◌, length, option_map};
 ghost use Rattle.std.specs.List.{prefix_len};
-ghost use Rattle.codes.specs.Making.{clerks_entry, clerks_in, is_no_hyphen};
+ghost use Rattle.codes.specs.Files.{is_no_hyphen};
+ghost use Rattle.codes.specs.Making.{clerks_entry, clerks_in, clerks_of};
 
 use crate::reading::clerk_in;
 
@@ -13,7 +14,7 @@ pub struct Clerks {
     pub last: u32,
 }
 
-/// How many bytes stand before the first hyphen of a text.
+/// Returns how many bytes come before the first hyphen of a text.
 fn front_length(text: &[u8]) -> usize
     ensures bound { result ≤ length text.now }
     ensures is { result ≡ prefix_len is_no_hyphen text.now }
@@ -29,7 +30,17 @@ fn front_length(text: &[u8]) -> usize
 }
 
 impl Clerks {
-    /// The clerks that a text names, as `1-40`; None, where it names none.
+    /// Returns how many they are.
+    #[tactic(auto, using(crate::proofs::NumberLemmas::length_numbers))]
+    pub fn count(self) -> usize
+        ensures is { result ≡ length (clerks_of self) }
+        ensures span { result ≡ self.last + 1 - self.first }
+        ensures bound { result ≤ 2 ^ 32 }
+    {
+        (self.last as usize + 1).saturating_sub(self.first as usize)
+    }
+
+    /// Returns the clerks that a text such as `1-40` names, or None if it names none.
     pub fn parse(text: &str) -> Option<Clerks>
         ensures { option_map clerks_entry result ≡ clerks_in text.now }
     {

@@ -3,7 +3,8 @@
 ghost use Rattle.std.specs.Prelude.{◌≡◌, ◌≤◌, ◌⊎◌, ◌*◌, ◌+◌, ◌==◌, [], IfErr, IfOk, IfSome, List, Ok, Err, bytes_eq, length, map, option_and_then, option_map, ℕ};
 ghost use Rattle.std.specs.List.{list_all, list_any, prefix_len};
 ghost use Rattle.codes.specs.Codes.{holders_of};
-ghost use Rattle.codes.specs.Files.{CodeEntry, clerk_in, code_entry, codes_in, digit_in, entries_from, entry_behind, entry_in, holders_by, is_code, is_no_blank, is_visible, lines_from, without_return};
+ghost use Rattle.codes.specs.Files.{CodeEntry, clerk_in, code_entry, codes_in, digit_in, entries_from, entry_behind, entry_in, holders_by, is_code, is_no_blank, is_strong, is_visible};
+ghost use Rattle.codes.specs.Files.{lines_from, weak_clerks, without_return};
 ghost use Rattle.codes.specs.declared.fault.ReadError.TheVariants as read_error;
 
 use crate::fault::{CodesFault, Flaw, ReadError};
@@ -17,14 +18,17 @@ const FEWEST_BYTES: usize = 8;
 /// The most bytes of a code.
 const MOST_BYTES: usize = 64;
 
-/// A line of a file of codes: a clerk, and his code.
+/// The fewest bytes of a strong code, hyphens left out.
+const FEWEST_STRONG_BYTES: usize = 12;
+
+/// A line of a file of codes: a clerk and his code.
 #[derive(Clone, Copy)]
 pub struct CodeLine<'a> {
     pub clerk: u32,
     pub code: &'a [u8],
 }
 
-/// What a digit counts.
+/// Returns the value of a digit.
 fn digit_in(byte: u8) -> Option<u32>
     ensures is { result ≡ digit_in byte }
     ensures bound { IfSome result (λ digit. digit ≤ 9) }
@@ -36,7 +40,7 @@ fn digit_in(byte: u8) -> Option<u32>
     }
 }
 
-/// The number that a digit writes behind others, if these and it are digits.
+/// Returns the number that a digit makes after others, if all are digits.
 fn with_digit(value: Option<u32>, byte: u8) -> Option<u32>
     requires { IfSome value (λ v. v ≤ 99) }
     ensures is { result ≡ option_and_then (λ v. option_map (λ d. v * 10 + d) (digit_in byte)) value }
@@ -48,7 +52,7 @@ fn with_digit(value: Option<u32>, byte: u8) -> Option<u32>
     }
 }
 
-/// The clerk's number that some bytes write: 1 to 3 digits, the first not 0.
+/// Parses a clerk's number: 1 to 3 digits, the first not 0.
 pub(crate) fn clerk_in(text: &[u8]) -> Option<u32>
     ensures { result ≡ clerk_in text.now }
 {
@@ -61,28 +65,48 @@ pub(crate) fn clerk_in(text: &[u8]) -> Option<u32>
     }
 }
 
-/// Whether a byte is a letter, a digit or a sign.
+/// Returns whether a byte is a letter, a digit or a sign.
 fn is_visible(byte: u8) -> bool
     ensures { result ≡ is_visible byte }
 {
     byte > b' ' && byte < 127
 }
 
-/// Whether bytes are letters, digits and signs alone.
+/// Returns whether bytes are letters, digits and signs alone.
 fn all_visible(text: &[u8]) -> bool
     ensures { result ≡ list_all is_visible text.now }
 {
     text.iter().all(|byte| is_visible(*byte))
 }
 
-/// Whether a text is a code.
+/// Returns whether a text is a code.
 fn is_code(text: &[u8]) -> bool
     ensures { result ≡ is_code text.now }
 {
     text.len() >= FEWEST_BYTES && text.len() <= MOST_BYTES && all_visible(text)
 }
 
-/// How many bytes stand before the first blank of a line.
+/// Returns whether a code is strong: it has at least twelve bytes other than hyphens.
+fn is_strong(code: &[u8]) -> bool
+    ensures { result ≡ is_strong code.now }
+{
+    code.iter().filter(|byte| **byte != b'-').count() >= FEWEST_STRONG_BYTES
+}
+
+/// Returns the clerks whose codes aren't strong.
+fn weak_clerks(alloc: Global, lines: &[CodeLine<'_>]) -> Result<Vec<u32>, AllocError>
+    ensures { IfOk result (λ weak. weak.items ≡ weak_clerks (map code_entry lines.now)) }
+{
+    let mut weak = Vec::new(alloc);
+    for line in lines {
+        if !is_strong(line.code) {
+            weak.push(line.clerk)?;
+        }
+    }
+    Ok(weak)
+}
+
+/// Returns how many bytes come before the first blank of a line.
 fn front_length(line: &[u8]) -> usize
     ensures bound { result ≤ length line.now }
     ensures is { result ≡ prefix_len is_no_blank line.now }
@@ -97,7 +121,7 @@ fn front_length(line: &[u8]) -> usize
     length
 }
 
-/// What a line says: a clerk's number, a blank, and a code.
+/// Parses a line: a clerk's number, a blank, and a code.
 fn entry_in(line: &[u8]) -> Result<CodeLine<'_>, Flaw>
     ensures ok { IfOk result (λ found. entry_in line.now ≡ Ok (code_entry found)) }
     ensures err { IfErr result (λ flaw. entry_in line.now ≡ Err flaw) }
@@ -114,7 +138,7 @@ fn entry_in(line: &[u8]) -> Result<CodeLine<'_>, Flaw>
     }
 }
 
-/// A line without the carriage return at its end.
+/// Returns a line without the carriage return at its end.
 fn without_return(line: &[u8]) -> &[u8]
     ensures { result.now ≡ without_return line.now }
 {
@@ -125,7 +149,7 @@ fn without_return(line: &[u8]) -> &[u8]
     }
 }
 
-/// Whether a clerk stands in some lines.
+/// Returns whether some line has a clerk.
 fn has_clerk(before: &[CodeLine<'_>], clerk: u32) -> bool
     ensures { result ≡ list_any (λ (other : CodeEntry). other.clerk == clerk) (map code_entry before.now) }
 {
@@ -137,7 +161,7 @@ fn has_clerk(before: &[CodeLine<'_>], clerk: u32) -> bool
     false
 }
 
-/// Whether a code stands in some lines.
+/// Returns whether some line has a code.
 fn has_code(before: &[CodeLine<'_>], code: &[u8]) -> bool
     ensures { result ≡ list_any (λ (other : CodeEntry). bytes_eq other.code code.now) (map code_entry before.now) }
 {
@@ -149,7 +173,7 @@ fn has_code(before: &[CodeLine<'_>], code: &[u8]) -> bool
     false
 }
 
-/// What a line says behind others: no clerk stands there twice, and no code.
+/// Parses a line after others, of which none may have its clerk or its code.
 fn entry_behind<'a>(before: &[CodeLine<'_>], line: &'a [u8]) -> Result<CodeLine<'a>, Flaw>
     ensures ok { IfOk result (λ found. entry_behind (map code_entry before.now) (entry_in line.now) ≡ Ok (code_entry found)) }
     ensures err { IfErr result (λ flaw. entry_behind (map code_entry before.now) (entry_in line.now) ≡ Err flaw) }
@@ -164,7 +188,7 @@ fn entry_behind<'a>(before: &[CodeLine<'_>], line: &'a [u8]) -> Result<CodeLine<
     Ok(found)
 }
 
-/// The lines of a text.
+/// Splits a text into lines.
 pub(crate) fn lines_of(alloc: Global, text: &[u8]) -> Result<Vec<Vec<u8>>, AllocError>
     ensures { IfOk result (λ lines. map (λ line. line.items) lines.items ≡ lines_from [] text.now) }
 {
@@ -181,7 +205,7 @@ pub(crate) fn lines_of(alloc: Global, text: &[u8]) -> Result<Vec<Vec<u8>>, Alloc
     Ok(lines)
 }
 
-/// What all lines say; or want of memory, or the first line that is wrong.
+/// Parses all lines. The errors are that an allocation failed, and the first line that is wrong.
 pub(crate) fn entries_of(alloc: Global, lines: &[Vec<u8>]) -> Result<Vec<CodeLine<'_>>, ReadError>
     ensures ok { IfOk result (λ found. entries_from 1 [] (map (λ line. line.items) lines.now) ≡ Ok (map code_entry found.items)) }
     ensures err { IfErr result (λ why. (why ≡ read_error.Memory) ⊎ ((fault : CodesFault) × (why ≡ read_error.Fault fault) × (entries_from 1 [] (map (λ line. line.items) lines.now) ≡ Err fault))) }
@@ -204,15 +228,16 @@ pub(crate) fn entries_of(alloc: Global, lines: &[Vec<u8>]) -> Result<Vec<CodeLin
 }
 
 impl Codes {
-    /// The codes that stand in a text; or want of memory, or the first line that is wrong.
+    /// Reads the codes of a file's text. The errors are that an allocation failed, and the first line that is wrong.
     pub fn read(alloc: Global, text: &[u8]) -> Result<Codes, ReadError>
-        ensures ok { IfOk result (λ own. (entries : List CodeEntry) × (codes_in text.now ≡ Ok entries) × (holders_of own ≡ holders_by entries)) }
+        ensures ok { IfOk result (λ own. (entries : List CodeEntry) × (codes_in text.now ≡ Ok entries) × (holders_of own ≡ holders_by entries) × (own.weak.items ≡ weak_clerks entries)) }
         ensures err { IfErr result (λ why. (why ≡ read_error.Memory) ⊎ ((fault : CodesFault) × (why ≡ read_error.Fault fault) × (codes_in text.now ≡ Err fault))) }
     {
         let lines = lines_of(alloc, text)?;
         let entries = entries_of(alloc, lines.as_slice())?;
         Ok(Codes {
             all: credentials_by(alloc, entries.as_slice())?,
+            weak: weak_clerks(alloc, entries.as_slice())?,
         })
     }
 }

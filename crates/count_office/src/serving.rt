@@ -8,7 +8,7 @@ use crate::Place;
 use crate::aside::Machine;
 use crate::beside::{Beside, closed_streams, reason_of};
 use crate::slips::{read_codes, tell_untaken};
-use codes::{Codes, ReadError, Tries};
+use codes::{Codes, RateLimit, ReadError};
 use desk::{Failure, tell_failure};
 use hall::{FileNumbers, Terms, serve_hall};
 use keying_page::{POLICY, page_text};
@@ -16,7 +16,7 @@ use mio::net::{TcpListener, UnixListener};
 use office::Office;
 use sockets::Watch;
 use sqlite::{Alter, Connection};
-use std::alloc::AllocError;
+use std::alloc::{AllocError, Global};
 use std::io;
 use std::io::{ErrorKind, Write};
 use std::net::{Ipv4Addr, SocketAddr};
@@ -72,14 +72,6 @@ fn gate_of(porter: &Option<Porter>) -> Option<Gate<'_>>
     }
 }
 
-/// The wrong codes that came: none, of any holder.
-fn tries_of(rt: &HostRuntime, porter: &Option<Porter>) -> Result<Tries, AllocError> {
-    match porter {
-        Some(porter) => Tries::new(rt.alloc(), &porter.codes),
-        None => Ok(Tries::of_nobody(rt.alloc())),
-    }
-}
-
 /// The doors of an office: a port of this machine, and the socket beside its database, if there is one.
 fn listen(rt: &HostRuntime, port: u32, orders: Option<UnixListener>) -> io::Result<Watch> {
     let Ok(port) = u16::try_from(port) else {
@@ -114,9 +106,6 @@ fn serve_at<S: Alter>(
     let Ok((device, inode)) = place.held.numbers() else {
         return Err(Failure::Office(Fault::Store));
     };
-    let Ok(tries) = tries_of(rt, porter) else {
-        return Err(Failure::Office(Fault::Memory));
-    };
     let terms = Terms {
         given: Given {
             origin: serving.origin,
@@ -134,7 +123,7 @@ fn serve_at<S: Alter>(
         rt,
         &mut doors,
         terms,
-        tries,
+        RateLimit::new(),
         &aside,
         most,
         office,
@@ -149,6 +138,36 @@ fn say_no_socket(rt: &HostRuntime, error: &io::Error) {
     let mut told = rt.stderr();
     let why = reason_of(error);
     let _ = writeln!(told, "no socket for orders beside the database: {why}");
+}
+
+/// Returns numbers in a row, with commas between.
+fn list_of(alloc: Global, numbers: &[u32]) -> Result<String, AllocError> {
+    let mut list = String::new(alloc);
+    for number in numbers {
+        if !list.is_empty() {
+            list.push_str(", ")?;
+        }
+        list.push_str(format!(in alloc; "{number}")?.as_str())?;
+    }
+    Ok(list)
+}
+
+/// Prints a line on standard error if codes of clerks are weak. If it can't be printed, the office serves all the same.
+fn warn_of_weak(rt: &HostRuntime, porter: &Option<Porter>) {
+    let Some(porter) = porter else {
+        return;
+    };
+    let weak = porter.codes.weak_clerks();
+    if weak.is_empty() {
+        return;
+    }
+    if let Ok(clerks) = list_of(rt.alloc(), weak) {
+        let mut told = rt.stderr();
+        let _ = writeln!(
+            told,
+            "codes of clerks {clerks} are short, and may be guessed: make new ones with 'count-office DB codes FILE 1-40'"
+        );
+    }
 }
 
 /// Serves an open office, with the socket beside its database meanwhile. Where there can't be one, that is said on the error
@@ -193,6 +212,7 @@ pub fn serve<S: Alter, E: Sink>(
         Ok(porter) => porter,
         Err(why) => return (tell_untaken(why, err), conn),
     };
+    warn_of_weak(rt, &porter);
     let mut office = match Office::open_from(rt.alloc(), conn) {
         Ok(office) => office,
         Err((fault, conn)) => return (tell_failure(Failure::Office(fault), err), conn),

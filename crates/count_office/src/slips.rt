@@ -1,12 +1,13 @@
 //! A file of clerks' codes: read, where its rights let nobody else read it; or made anew, to be cut into slips.
 
-ghost use Rattle.std.specs.Prelude.{◌-◌, ◌^◌, ◌<◌};
+ghost use Rattle.std.specs.Prelude.{◌-◌, ◌^◌, ◌<◌, None};
 
-use codes::{Clerks, Codes, CodesFault, ReadError, make};
+use codes::{Clerks, Codes, CodesFault, DrawFailed, Draws, ReadError, make};
 use desk::{Failure, tell_codes_fault, tell_codes_made, tell_failure};
 use std::fs::{self, File, OpenOptions};
 use std::io::{self, Read, Write};
 use std::os::unix::fs::{OpenOptionsExt, PermissionsExt};
+use std::random::RandomSource;
 use store::Fault;
 use votes::Sink;
 
@@ -18,6 +19,29 @@ const RIGHTS_OF_OTHERS: u32 = 0o077;
 
 /// The rights of a file that only its owner may read.
 const RIGHTS_OF_ITS_OWNER: u32 = 0o600;
+
+/// The random bytes of the system, of which nothing is known.
+struct SystemBytes<'a> {
+    rt: &'a HostRuntime,
+    failures: u64,
+}
+
+impl Draws for SystemBytes<'_> {
+    ghost drawn = { λ _. None };
+
+    ghost failed = { λ bytes. bytes.failures };
+
+    fn draw(&mut self) -> Result<u8, DrawFailed> {
+        let mut byte = [0];
+        match self.rt.fill_bytes(&mut byte) {
+            Ok(()) => Ok(byte[0]),
+            Err(_) => {
+                self.failures += 1;
+                Err(DrawFailed)
+            }
+        }
+    }
+}
 
 /// Whether nobody but its owner has any right to a file.
 fn is_its_owners(file: &File) -> io::Result<bool> {
@@ -97,7 +121,8 @@ pub fn make_codes<O: Sink, E: Sink>(
     let Some(clerks) = Clerks::parse(clerks) else {
         return tell_codes_fault(CodesFault::NoClerks, err);
     };
-    let text = match make(rt.alloc(), rt, clerks) {
+    let mut bytes = SystemBytes { rt, failures: 0 };
+    let text = match make(rt.alloc(), &mut bytes, clerks) {
         Ok(text) => text,
         Err(why) => return tell_untaken(why, err),
     };

@@ -1,12 +1,12 @@
-//! Clerks' codes: their file, who is let in, and who must wait.
+//! Clerks' codes: their file, who is let in, how many wrong codes reach the limit, and which codes are made.
+
+ghost use Rattle.std.specs.Prelude.{Some, take};
 
 use super::asked::asks_of;
 use crate::printed::is_text;
-use codes::{Clerks, Codes, ReadError, Tries, make};
+use codes::{Clerks, Codes, CodesFault, DrawFailed, Draws, RateLimit, ReadError, make};
 use std::alloc::{AllocError, Global};
-use std::io;
 use std::process::Abort;
-use std::random::RandomSource;
 use std::test::Fail;
 use wire::{Gate, Given, Page, knock_of};
 
@@ -111,17 +111,26 @@ const BESIDE: [(&str, &str, &str); 5] = [
     ),
 ];
 
-/// What is knocked with under clerk 4's number, how often, and when; and whether clerk 4 must wait at that moment then.
-const KNOCKS: [(&str, u32, u64, bool); 8] = [
-    (FOUR, 20, 0, false),
-    (NINE, 9, 1_000, false),
-    (NINE, 1, 60_999, true),
-    (NINE, 0, 120_998, true),
-    (NINE, 0, 120_999, false),
-    (NINE, 9, 200_000, false),
-    (NINE, 1, 260_000, false),
-    (NINE, 0, 260_001, false),
+/// What is knocked with under clerk 4's number, how often, and when; and whether the limit is reached then.
+const KNOCKS: [(&str, u32, u64, bool); 9] = [
+    (FOUR, 6_001, 0, false),
+    (NINE, 5_999, 100_000, false),
+    (NINE, 1, 159_999, true),
+    (FOUR, 1, 159_999, true),
+    (NINE, 0, 90_000, true),
+    (NINE, 0, 160_000, false),
+    (NINE, 5_999, 160_000, false),
+    (NINE, 2, 160_000, true),
+    (NINE, 1, 220_000, false),
 ];
+
+/// Bytes that draw the codes of clerks 4 and 5: the seventh and the eleventh draw no letter.
+const DRAWN: [u8; 26] = [
+    0, 1, 2, 3, 24, 239, 240, 5, 6, 20, 255, 21, 22, 23, 8, 9, 10, 11, 12, 13, 14, 15, 16, 17, 18, 19,
+];
+
+/// The codes that these bytes draw.
+const MADE: &str = "4 abcd-a7fg-2347\n5 jkmn-prst-uwxy\n";
 
 /// What is reported of a text that is a file of codes, or isn't.
 fn fault_in(alloc: Global, text: &str) -> Result<String, AllocError> {
@@ -147,11 +156,11 @@ fn asks_at(
     asks_of(rt, given, request.as_bytes(), asked)
 }
 
-/// Knocks under clerk 4's number, with this value of `Authorization`, as often, at this moment; whether he must wait then.
-fn waits_behind(
+/// Knocks under clerk 4's number, with this value of `Authorization`, as often, at this time; whether the limit is reached then.
+fn is_reached_after(
     alloc: Global,
     given: Given<'_>,
-    tries: &mut Tries,
+    limit: &mut RateLimit,
     value: &str,
     times: u32,
     now: u64,
@@ -159,19 +168,34 @@ fn waits_behind(
     let request = format!(in alloc; "PUT /clerks/4/x HTTP/1.1\r\nauthorization: {value}\r\n\r\n")?;
     for _ in 0..times {
         match knock_of(given, request.as_bytes()) {
-            Some(knock) if knock.is_wrong => tries.note(knock.clerk, now),
+            Some(knock) if knock.is_wrong => limit.count_wrong(now),
             _ => {}
         }
     }
-    Ok(tries.waits(4, now))
+    Ok(limit.is_reached(now))
 }
 
-/// A system that gives no random bytes.
-struct Dry;
+/// Draws these bytes, one after the other. Then it fails.
+struct Known<'a> {
+    bytes: &'a [u8],
+    at: usize,
+    failures: u64,
+}
 
-impl RandomSource for Dry {
-    fn fill_bytes(&self, _: &mut [u8]) -> io::Result<()> {
-        Err(io::Error::from(io::ErrorKind::BrokenPipe))
+impl Draws for Known<'_> {
+    ghost drawn = { λ known. Some (take known.at known.bytes.now) };
+
+    ghost failed = { λ known. known.failures };
+
+    fn draw(&mut self) -> Result<u8, DrawFailed> {
+        if self.at < self.bytes.len() {
+            let byte = self.bytes[self.at];
+            self.at += 1;
+            Ok(byte)
+        } else {
+            self.failures += 1;
+            Err(DrawFailed)
+        }
     }
 }
 
@@ -226,15 +250,15 @@ fn asks_beside(rt: &(impl Abort + AllocGlobal), given: Given<'_>) -> Result<(), 
     Ok(())
 }
 
-/// Who must wait, and until when.
-fn who_waits(
+/// When the limit of wrong codes is reached, and until when.
+fn limits_wrong_codes(
     rt: &(impl Abort + AllocGlobal),
     given: Given<'_>,
-    tries: &mut Tries,
 ) -> Result<(), Fail> {
     let alloc = rt.alloc();
-    for (value, times, now, waits) in &KNOCKS {
-        assert!(rt; waits_behind(alloc, given, tries, *value, *times, *now)? == *waits);
+    let mut limit = RateLimit::new();
+    for (value, times, now, is_reached) in &KNOCKS {
+        assert!(rt; is_reached_after(alloc, given, &mut limit, *value, *times, *now)? == *is_reached);
     }
     Ok(())
 }
@@ -247,28 +271,47 @@ fn codes_of_clerks(rt: HostRuntime) -> Result<(), Fail> {
     };
     asks_all(&rt, gate_of(&held))?;
     asks_beside(&rt, gate_of(&held))?;
-    let mut tries = Tries::new(rt.alloc(), &held)?;
-    who_waits(&rt, gate_of(&held), &mut tries)?;
-    assert!(rt; !tries.waits(9, 60_999));
-    Ok(())
+    assert_eq!(rt; held.weak_clerks(), [4, 9].as_slice());
+    limits_wrong_codes(&rt, gate_of(&held))
 }
 
-/// Codes for clerks 1 to 40 stand in 40 lines; a system that gives no random bytes makes none.
-fn makes_codes(rt: &(impl Abort + AllocGlobal + RandomSource), clerks: Clerks) -> Result<(), Fail> {
-    let made = make(rt.alloc(), rt, clerks);
-    assert!(rt;
-        made.is_ok_and(|text| text.as_str().lines().count() == 40 && text.len() == 9 * 12 + 31 * 13)
-    );
-    assert!(rt; make(rt.alloc(), &Dry, clerks).is_err());
+/// What is made for clerks 4 and 5 of these bytes: the text, or why there is none.
+fn made_of(alloc: Global, bytes: &[u8]) -> Result<String, AllocError> {
+    let clerks = Clerks { first: 4, last: 5 };
+    let mut known = Known {
+        bytes,
+        at: 0,
+        failures: 0,
+    };
+    match make(alloc, &mut known, clerks) {
+        Ok(text) => Ok(text),
+        Err(ReadError::Fault(CodesFault::NoRandom)) => format!(in alloc; "fails at {}", known.at),
+        Err(ReadError::Fault(fault)) => format!(in alloc; "{} at {}", fault.number(), known.at),
+        Err(ReadError::Memory) => Err(AllocError),
+    }
+}
+
+/// Codes are made of just the bytes that are drawn; behind such a file there is none with the same code twice.
+fn makes_codes(rt: &(impl Abort + AllocGlobal)) -> Result<(), Fail> {
+    let alloc = rt.alloc();
+    is_text(rt, made_of(alloc, &DRAWN)?.as_str(), MADE);
+    let mut twice = vec![in alloc; 0; 24]?;
+    twice.extend_from_slice(&DRAWN)?;
+    is_text(rt, made_of(alloc, twice.as_slice())?.as_str(), MADE);
+    is_text(rt, made_of(alloc, &DRAWN[..25])?.as_str(), "fails at 25");
+    is_text(rt, made_of(alloc, &[])?.as_str(), "fails at 0");
+    let none = vec![in alloc; 255; 2_400]?;
+    is_text(rt, made_of(alloc, none.as_slice())?.as_str(), "10 at 2400");
     Ok(())
 }
 
 #[test]
 fn codes_are_made(rt: HostRuntime) -> Result<(), Fail> {
+    makes_codes(&rt)?;
     let Some(clerks) = Clerks::parse("1-40") else {
         return Err(Fail::from("no clerks"));
     };
-    makes_codes(&rt, clerks)?;
+    assert!(rt; clerks.count() == 40);
     for text in &["40-1", "0-4", "1-1000", "4", "1-", "-4", "1-4-5", "1 - 4"] {
         assert!(rt; Clerks::parse(*text).is_none());
     }

@@ -1,11 +1,11 @@
--- What holds each time round the loop of `are_of`.
-use Rattle.std.proofs.Common.{◌≡◌, ◌+◌, map, take}
-use Rattle.codes.specs.Files.{CodeEntry, code_entry}
-use Rattle.codes.specs.Making.{numbers}
+-- What holds each time round the loop of `are_of`: what the test says of the lines that are left is what it says of all.
+use Rattle.std.proofs.Common.{◌≡◌, ◌+◌, drop, map}
+use Rattle.codes.specs.Files.{code_entry}
+use Rattle.codes.specs.Making.{are_from}
 use Rattle.codes.proofs.making.are_of.Given as goal
 
 abbrev pub invariant-loop-one : goal.invariant-loop-one
 invariant-loop-one l = record {
   at : l.next ≡ l.clerks.first + l.one-index;
-  are : map (λ (e : CodeEntry). e.clerk) (map code_entry (take l.one-index l.all)) ≡ numbers l.clerks.first l.one-index;
+  are : are_from l.next (l.clerks.last + 1) (map code_entry (drop l.one-index l.all)) ≡ are_from l.clerks.first (l.clerks.last + 1) (map code_entry l.all);
 }

@@ -1,7 +1,7 @@
 -- What holds each time round the loop of `front_length`.
 use Rattle.std.proofs.Common.{◌≡◌, ◌+◌, drop}
 use Rattle.std.specs.List.{prefix_len}
-use Rattle.codes.specs.Making.{is_no_hyphen}
+use Rattle.codes.specs.Files.{is_no_hyphen}
 use Rattle.codes.proofs.range.front_length.Given as goal
 
 abbrev pub invariant-loop-byte : goal.invariant-loop-byte

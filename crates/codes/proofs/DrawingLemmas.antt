@@ -1,0 +1,163 @@
+-- What was drawn, one draw after the other.
+use Rattle.std.proofs.Common.{◌≡◌, ◌∙◌, ◌+◌, ◌-◌, ◌*◌, ◌<◌, ◌≤◌, ◌++◌, ◌∷◌, Bool, true, false, List, [], None, Option, Some, ap, append-nil, append_assoc, arith, inl, inr, length, length-append, not, refl, sym, ℕ}
+use Rattle.std.specs.List.{concat, cons_option, list_all}
+use Rattle.std.specs.Io.KnownBytes.{append_known}
+use Rattle.std.proofs.lemmas.Bool.{and_from, eq-eqb}
+use Rattle.std.proofs.lemmas.List.Elements.{filter_map-append}
+use Rattle.std.proofs.lemmas.List.Folds.{concat-append, list_all-append}
+use Rattle.codes.specs.Drawing.{AreDrawn, AreTooFew, IsDraw, IsDrawn, IsInVain, IsMadeOf, IsShort, IsUndrawn, IsUnmade, IsUnwritten, is_vain, letters_for, most_bytes, most_files}
+use Rattle.codes.specs.Files.{codes_in}
+use Rattle.codes.specs.Making.{clerks_of, is_file_for, letter_of, letters_drawn, text_of}
+use Rattle.codes.specs.declared.fault.CodesFault.TheVariants.{BadRandom, NoRandom}
+use Rattle.codes.specs.declared.fault.ReadError.{ReadError}
+use Rattle.codes.specs.declared.fault.ReadError.TheVariants.{Fault, Memory}
+use Rattle.codes.specs.declared.range.Clerks.{Clerks}
+use Rattle.codes.proofs.LetterLemmas.{one_letter}
+
+-- ---- known bytes
+
+known_none : (a : Option (List ℕ)) → a ≡ append_known a []
+known_none None = refl
+known_none (Some xs) = ap (λ (ys : List ℕ). let o : Option (List ℕ) = Some ys in o) (sym (append-nil xs))
+
+known_then : (a : Option (List ℕ)) (bs cs : List ℕ) → append_known (append_known a bs) cs ≡ append_known a (bs ++ cs)
+known_then None bs cs = refl
+known_then (Some xs) bs cs = ap (λ (ys : List ℕ). let o : Option (List ℕ) = Some ys in o) (append_assoc xs bs cs)
+
+-- bytes that were drawn, and others behind them
+known_more : (a b c : Option (List ℕ)) (bs cs : List ℕ) → b ≡ append_known a bs → c ≡ append_known b cs → c ≡ append_known a (bs ++ cs)
+known_more a b c bs cs first second = second ∙ ap (λ (o : Option (List ℕ)). append_known o cs) first ∙ known_then a bs cs
+
+-- ---- letters
+
+pub draw_some : (old new : Option (List ℕ)) (byte letter : ℕ) (before after : List ℕ)
+    → new ≡ append_known old (byte ∷ []) → Some letter ≡ letter_of byte → after ≡ before ++ letter ∷ [] → IsDraw old new before after
+draw_some old new byte letter before after drew is put =
+    record { byte = byte; drew = drew; letters = put ∙ ap (λ (o : Option ℕ). before ++ cons_option o []) is }
+
+pub draw_none : (old new : Option (List ℕ)) (byte : ℕ) (before : List ℕ)
+    → new ≡ append_known old (byte ∷ []) → None ≡ letter_of byte → IsDraw old new before before
+draw_none old new byte before drew is =
+    record { byte = byte; drew = drew; letters = sym (append-nil before) ∙ ap (λ (o : Option ℕ). before ++ cons_option o []) is }
+
+-- so many bytes were drawn of those that may be, and these letters by them
+pub record IsDrawing (old new : Option (List ℕ)) (letters : List ℕ) (most left : ℕ) : Type 0 where
+  pub own : List ℕ
+  pub drew : new ≡ append_known old own
+  pub are : letters ≡ letters_drawn own
+  pub spent : length own + left ≡ most
+
+pub drawing_none : (old : Option (List ℕ)) (most : ℕ) → IsDrawing old old [] most most
+drawing_none old most = record { own = []; drew = known_none old; are = refl; spent = omega arith }
+
+pub drawing_next : (old mid new : Option (List ℕ)) (before after : List ℕ) (most left : ℕ)
+    → IsDrawing old mid before most left → IsDraw mid new before after → 0 < left → IsDrawing old new after most (left - 1)
+drawing_next old mid new before after most left it one some =
+    let longer : length (it.own ++ one.byte ∷ []) ≡ length it.own + 1 = length-append it.own (one.byte ∷ []) in
+    record {
+      own = it.own ++ one.byte ∷ [];
+      drew = known_more old mid new it.own (one.byte ∷ []) it.drew one.drew;
+      are = one.letters ∙ ap (λ (ls : List ℕ). ls ++ letters_drawn (one.byte ∷ [])) it.are ∙ sym (filter_map-append letter_of it.own (one.byte ∷ []));
+      spent = omega (arith, longer, it.spent, some);
+    }
+
+pub draw_grows : (old new : Option (List ℕ)) (before after : List ℕ) → IsDraw old new before after → length after ≤ length before + 1
+draw_grows old new before after one =
+    let longer : length after ≡ length before + length (letters_drawn (one.byte ∷ [])) =
+    ap (λ (ls : List ℕ). length ls) one.letters ∙ length-append before (letters_drawn (one.byte ∷ [])) in
+    omega (arith, longer, one_letter one.byte)
+
+pub all_drawn : (clerks : Clerks) (old new : Option (List ℕ)) (letters : List ℕ) (most left : ℕ)
+    → IsDrawing old new letters most left → length letters ≡ letters_for clerks → AreDrawn clerks old new letters
+all_drawn clerks old new letters most left it enough = record { own = it.own; drew = it.drew; are = it.are; enough = enough }
+
+pub too_few : (clerks : Clerks) (old new : Option (List ℕ)) (letters : List ℕ) (most left : ℕ)
+    → IsDrawing old new letters most left → left ≡ 0 → most ≡ most_bytes * letters_for clerks → length letters < letters_for clerks → IsShort clerks old new
+too_few clerks old new letters most left it none all few =
+    let same : length letters ≡ length (letters_drawn it.own) = ap (λ (ls : List ℕ). length ls) it.are in
+    let many : length it.own ≡ most = omega (arith, it.spent, none) in
+    record { own = it.own; drew = it.drew; few = record { many = many ∙ all; few = omega (arith, same, few) } }
+
+-- ---- texts
+
+pub text_drawn : (clerks : Clerks) (old new : Option (List ℕ)) (letters text : List ℕ)
+    → AreDrawn clerks old new letters → text ≡ text_of (clerks_of clerks) letters → IsDrawn clerks old new text
+text_drawn clerks old new letters text it is =
+    record {
+      own = it.own;
+      drew = it.drew;
+      enough = ap (λ (ls : List ℕ). length ls) (sym it.are) ∙ it.enough;
+      is = is ∙ ap (text_of (clerks_of clerks)) it.are;
+    }
+
+-- so many texts were drawn of those that may be, and none of them is a file of codes
+pub record HasDrawn (clerks : Clerks) (old new : Option (List ℕ)) (left : ℕ) : Type 0 where
+  pub earlier : List (List ℕ)
+  pub drew : new ≡ append_known old (concat earlier)
+  pub vain : list_all (is_vain clerks) earlier ≡ true
+  pub many : length earlier + left ≡ most_files
+
+pub none_drawn : (clerks : Clerks) (old : Option (List ℕ)) → HasDrawn clerks old old most_files
+none_drawn clerks old = record { earlier = []; drew = known_none old; vain = refl; many = refl }
+
+is_not : (clerks : Clerks) (text own : List ℕ) → length (letters_drawn own) ≡ letters_for clerks → text ≡ text_of (clerks_of clerks) (letters_drawn own)
+    → is_file_for clerks (codes_in text) ≡ false → is_vain clerks own ≡ true
+is_not clerks text own enough is bad =
+    and_from _ _ (eq-eqb (length (letters_drawn own)) (letters_for clerks) enough)
+    (ap not (ap (λ (t : List ℕ). is_file_for clerks (codes_in t)) (sym is) ∙ bad))
+
+pub one_more : (clerks : Clerks) (old mid new : Option (List ℕ)) (text : List ℕ) (left : ℕ)
+    → HasDrawn clerks old mid left → IsDrawn clerks mid new text → is_file_for clerks (codes_in text) ≡ false → 0 < left → HasDrawn clerks old new (left - 1)
+one_more clerks old mid new text left it one bad some =
+    let joined : concat (it.earlier ++ one.own ∷ []) ≡ concat it.earlier ++ one.own =
+    concat-append it.earlier (one.own ∷ []) ∙ ap (λ (bs : List ℕ). concat it.earlier ++ bs) (append-nil one.own) in
+    let longer : length (it.earlier ++ one.own ∷ []) ≡ length it.earlier + 1 = length-append it.earlier (one.own ∷ []) in
+    record {
+      earlier = it.earlier ++ one.own ∷ [];
+      drew = known_more old mid new (concat it.earlier) one.own it.drew one.drew ∙ ap (append_known old) (sym joined);
+      vain =
+          list_all-append (is_vain clerks) it.earlier (one.own ∷ [])
+          ∙ and_from _ _ it.vain (and_from _ _ (is_not clerks text one.own one.enough one.is bad) refl);
+      many = omega (arith, longer, it.many, some);
+    }
+
+pub made_of : (clerks : Clerks) (old mid new : Option (List ℕ)) (text : List ℕ) (left : ℕ)
+    → HasDrawn clerks old mid left → IsDrawn clerks mid new text → IsMadeOf clerks old new text
+made_of clerks old mid new text left it one =
+    record {
+      earlier = it.earlier;
+      own = one.own;
+      drew = known_more old mid new (concat it.earlier) one.own it.drew one.drew;
+      vain = it.vain;
+      enough = one.enough;
+      is = one.is;
+    }
+
+pub all_vain : (clerks : Clerks) (old new : Option (List ℕ)) (left : ℕ) → HasDrawn clerks old new left → left ≤ 0 → IsInVain clerks old new
+all_vain clerks old new left it none =
+    let many : length it.earlier ≡ most_files = omega (arith, it.many, none) in
+    record { earlier = it.earlier; own = []; drew = it.drew ∙ ap (append_known old) (sym (append-nil (concat it.earlier))); vain = it.vain; ends = inl (many, refl) }
+
+-- ---- errors
+
+pub undrawn : (clerks : Clerks) (failed failed_mid failed_then : ℕ) (old new : Option (List ℕ)) (why : ReadError)
+    → failed_mid ≡ failed → IsUndrawn failed_mid failed_then why → IsUnwritten clerks failed failed_then old new why
+undrawn clerks failed failed_mid failed_then old new Memory same is = is ∙ same
+undrawn clerks failed failed_mid failed_then old new (Fault NoRandom) same is = is ∙ ap (λ n. n + 1) same
+undrawn clerks failed failed_mid failed_then old new (Fault other) same is = absurd is
+
+pub unmade : (clerks : Clerks) (failed failed_mid failed_then : ℕ) (old mid new : Option (List ℕ)) (left : ℕ) (why : ReadError)
+    → HasDrawn clerks old mid left → failed_mid ≡ failed → IsUnwritten clerks failed_mid failed_then mid new why → IsUnmade clerks failed failed_then old new why
+unmade clerks failed failed_mid failed_then old mid new left Memory it same is = is ∙ same
+unmade clerks failed failed_mid failed_then old mid new left (Fault NoRandom) it same is = is ∙ ap (λ n. n + 1) same
+unmade clerks failed failed_mid failed_then old mid new left (Fault BadRandom) it same is = (
+  is.0 ∙ same,
+  record {
+    earlier = it.earlier;
+    own = is.1.own;
+    drew = known_more old mid new (concat it.earlier) is.1.own it.drew is.1.drew;
+    vain = it.vain;
+    ends = inr is.1.few;
+  },
+)
+unmade clerks failed failed_mid failed_then old mid new left (Fault other) it same is = absurd is

@@ -1,0 +1,25 @@
+//! Where random bytes come from.
+
+ghost use Rattle.std.specs.Prelude.{◌≡◌, ◌+◌, ◌-◌, ◌^◌, ◌<◌, ◌∷◌, [], IfOk, List, OnErr, OnOk, Option, ℕ};
+ghost use Rattle.std.specs.Io.KnownBytes.{append_known};
+
+/// A draw failed.
+#[derive(Clone, Copy, Debug, PartialEq, Eq, Drop)]
+pub struct DrawFailed;
+
+/// Draws random bytes, and counts the draws that failed.
+pub trait Draws {
+    /// The bytes drawn so far, as far as they are known.
+    ghost drawn: { Self → Option (List ℕ) };
+
+    /// How many draws failed.
+    ghost failed: { Self → ℕ };
+
+    /// Draws a byte. After `DrawFailed`, none was drawn.
+    fn draw(&mut self) -> Result<u8, DrawFailed>
+        requires { failed self.old < 2 ^ 64 - 1 }
+        ensures drew { IfOk result (λ byte. drawn self.new ≡ append_known (drawn self.old) (byte ∷ [])) }
+        ensures ok { OnOk result (failed self.new ≡ failed self.old) }
+        ensures kept { OnErr result (drawn self.new ≡ drawn self.old) }
+        ensures err { OnErr result (failed self.new ≡ failed self.old + 1) };
+}

@@ -1,0 +1,146 @@
+//! Letters that are drawn, and the text that they make.
+
+ghost use Rattle.std.specs.Prelude.{◌≡◌, ◌++◌, ◌-◌, ◌^◌, ◌<◌, ◌≤◌, EachIndex, IfErr, IfOk, OnOk, length, slice_index, string_bytes};
+ghost use Rattle.codes.specs.Drawing.{AreDrawn, IsDraw, IsDrawn, IsUndrawn, IsUnwritten, letters_for};
+ghost use Rattle.codes.specs.Making.{clerks_of, letter_of, line_of, text_of};
+
+use crate::drawing::Draws;
+use crate::fault::{CodesFault, ReadError};
+use crate::range::Clerks;
+use std::alloc::{AllocError, Global};
+
+/// The letters of codes, none of which looks like another.
+pub(crate) const LETTERS: &[u8; 24] = b"abcdefghjkmnprstuwxy2347";
+
+/// How many bytes draw a letter, each letter as many. Any other byte draws none.
+const DRAWING_BYTES: u8 = 240;
+
+/// How many bytes are drawn at most, for each letter.
+const MOST_BYTES: usize = 100;
+
+/// How many letters a code has.
+const CODE_LETTERS: usize = 12;
+
+/// How many of them come before its first hyphen.
+const FRONT_LETTERS: usize = 4;
+
+/// How many of them come before its second hyphen.
+const MIDDLE_LETTERS: usize = 8;
+
+/// Returns the letter that a byte draws, if it draws one.
+fn letter_of(byte: u8) -> Option<u8>
+    ensures { result ≡ letter_of byte }
+{
+    if byte < DRAWING_BYTES {
+        Some(LETTERS[usize::from(byte) % LETTERS.len()])
+    } else {
+        None
+    }
+}
+
+/// Draws a byte, and appends the letter that it draws, if it draws one.
+fn draw_letter<D: Draws>(draws: &mut D, letters: &mut Vec<u8>) -> Result<(), ReadError>
+    requires { D.failed draws.old < 2 ^ 64 - 1 }
+    ensures ok { OnOk result (IsDraw (D.drawn draws.old) (D.drawn draws.new) letters.old.items letters.new.items) }
+    ensures failed { OnOk result (D.failed draws.new ≡ D.failed draws.old) }
+    ensures err { IfErr result (IsUndrawn (D.failed draws.old) (D.failed draws.new)) }
+{
+    let Ok(byte) = draws.draw() else {
+        return Err(ReadError::Fault(CodesFault::NoRandom));
+    };
+    match letter_of(byte) {
+        Some(letter) => {
+            if letters.push(letter).is_err() {
+                return Err(ReadError::Memory);
+            }
+            Ok(())
+        }
+        None => Ok(()),
+    }
+}
+
+/// Draws the letters of codes for some clerks.
+fn draw_letters<D: Draws>(
+    alloc: Global,
+    draws: &mut D,
+    clerks: Clerks,
+) -> Result<Vec<u8>, ReadError>
+    requires { D.failed draws.old < 2 ^ 64 - 1 }
+    ensures ok { IfOk result (λ letters. AreDrawn clerks (D.drawn draws.old) (D.drawn draws.new) letters.items) }
+    ensures failed { OnOk result (D.failed draws.new ≡ D.failed draws.old) }
+    ensures err { IfErr result (IsUnwritten clerks (D.failed draws.old) (D.failed draws.new) (D.drawn draws.old) (D.drawn draws.new)) }
+{
+    let count = CODE_LETTERS * clerks.count();
+    let mut left = MOST_BYTES * count;
+    let mut letters = Vec::new(alloc);
+    while letters.as_slice().len() < count {
+        if left == 0 {
+            return Err(ReadError::Fault(CodesFault::BadRandom));
+        }
+        draw_letter(draws, &mut letters)?;
+        left -= 1;
+    }
+    Ok(letters)
+}
+
+/// Appends letters to a text.
+fn push_letters(text: &mut String, letters: &[u8]) -> Result<(), AllocError>
+    requires { EachIndex letters.now (λ k. slice_index letters.now k < 128) }
+    ensures { OnOk result (string_bytes text.new ≡ string_bytes text.old ++ letters.now) }
+{
+    for letter in letters {
+        text.push(char::from(*letter))?;
+    }
+    Ok(())
+}
+
+/// Appends the line of a clerk: his number, a blank, and his code of these letters.
+#[tactic(auto, using(crate::proofs::NumberLemmas::joined))]
+fn push_line(alloc: Global, text: &mut String, clerk: u32, letters: &[u8]) -> Result<(), AllocError>
+    requires enough { length letters.now ≡ 12 }
+    requires ascii { EachIndex letters.now (λ k. slice_index letters.now k < 128) }
+    ensures { OnOk result (string_bytes text.new ≡ string_bytes text.old ++ line_of clerk letters.now) }
+{
+    let front = format!(in alloc; "{clerk} ")?;
+    text.push_str(front.as_str())?;
+    push_letters(text, &letters[..FRONT_LETTERS])?;
+    text.push('-')?;
+    push_letters(text, &letters[FRONT_LETTERS..MIDDLE_LETTERS])?;
+    text.push('-')?;
+    push_letters(text, &letters[MIDDLE_LETTERS..])?;
+    text.push('\n')?;
+    Ok(())
+}
+
+/// Returns the lines of some clerks, with twelve of these letters for each.
+fn lines_by(alloc: Global, clerks: Clerks, letters: &[u8]) -> Result<String, AllocError>
+    requires enough { length letters.now ≡ letters_for clerks }
+    requires ascii { EachIndex letters.now (λ k. slice_index letters.now k < 128) }
+    ensures { IfOk result (λ text. string_bytes text ≡ text_of (clerks_of clerks) letters.now) }
+{
+    let count = clerks.count();
+    let mut text = String::new(alloc);
+    let mut rest = letters;
+    for index in 0..count {
+        let (own, others) = rest.split_at(CODE_LETTERS);
+        push_line(alloc, &mut text, clerks.first + index as u32, own)?;
+        rest = others;
+    }
+    Ok(text)
+}
+
+/// Draws the codes of some clerks, and returns their lines. `NoRandom` comes from the source, and `BadRandom` where 100 bytes for
+/// each letter draw too few.
+pub(crate) fn draw_lines<D: Draws>(
+    alloc: Global,
+    draws: &mut D,
+    clerks: Clerks,
+) -> Result<String, ReadError>
+    requires { D.failed draws.old < 2 ^ 64 - 1 }
+    ensures ok { IfOk result (λ text. IsDrawn clerks (D.drawn draws.old) (D.drawn draws.new) (string_bytes text)) }
+    ensures failed { OnOk result (D.failed draws.new ≡ D.failed draws.old) }
+    ensures err { IfErr result (IsUnwritten clerks (D.failed draws.old) (D.failed draws.new) (D.drawn draws.old) (D.drawn draws.new)) }
+{
+    let letters = draw_letters(alloc, draws, clerks)?;
+    Ok(lines_by(alloc, clerks, letters.as_slice())?)
+}
