@@ -1,6 +1,6 @@
-//! How the page looks, from 400 pixels on. All of it can be told in grey, and nothing comes from elsewhere.
+//! The style of the page, a sheet of CSS: for widths from 400 pixels, with nothing that colour alone tells.
 
-/// The page's style.
+/// The style.
 pub(crate) const STYLE: &str = r#"
 * { box-sizing: border-box; }
 body { margin: 0 auto; max-width: 68rem; padding: 0 .75rem 2rem; font: 1rem/1.4 sans-serif; color: #000; background: #fff; }
