@@ -11,12 +11,12 @@ FORMAT = re.compile(r'format!\(in alloc;\s*"(.*?)"\s*\)', re.DOTALL)
 
 def constants():
     """{name: text} of each text constant."""
-    return {name: text for path in sorted(SOURCES.rglob("*.rt")) for name, text in CONSTANT.findall(path.read_text())}
+    return {name: text for path in sorted(SOURCES.rglob("*.rt")) for name, text in CONSTANT.findall(path.read_text("utf-8"))}
 
 
 def made_by(function, texts):
     """Returns the text that a function makes by its `format!`, from the texts that it names."""
-    source = next(text for text in (path.read_text() for path in sorted(SOURCES.rglob("*.rt"))) if f"fn {function}(" in text)
+    source = next(text for text in (path.read_text("utf-8") for path in sorted(SOURCES.rglob("*.rt"))) if f"fn {function}(" in text)
     form = FORMAT.search(source, source.index(f"fn {function}(")).group(1)
     return re.sub(r"\{(\w+)\}", lambda found: texts[found[1]], re.sub(r"\\\n\s*", "", form))
 
