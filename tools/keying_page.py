@@ -1,46 +1,47 @@
-"""The page on which a clerk keys, as it stands in crates/keying_page, and what its header has to name."""
+"""The page on which a clerk keys and its policy, as crates/keying_page has them: its functions put constants together by `format!`."""
 import base64
 import hashlib
-import os
+import pathlib
 import re
 
-ROOT = os.path.dirname(os.path.dirname(os.path.abspath(__file__)))
-FOLDER = os.path.join(ROOT, "crates", "keying_page", "src")
-SCRIPT = (("drafts", "DRAFTS"), ("keys", "KEYS"), ("office", "OFFICE"), ("showing", "SHOWING"), ("views", "VIEWS"))
+SOURCES = pathlib.Path(__file__).resolve().parent.parent / "crates/keying_page/src"
+CONSTANT = re.compile(r'const (\w+): &str = r#"(.*?)"#;', re.DOTALL)
+FORMAT = re.compile(r'format!\(in alloc;\s*"(.*?)"\s*\)', re.DOTALL)
 
 
-def text_of(file, name):
-    """The text of a constant."""
-    with open(os.path.join(FOLDER, file)) as source:
-        found = re.search(rf'const {name}: &str = r#"(.*?)"#;', source.read(), re.DOTALL)
-    return found.group(1)
+def constants():
+    """{name: text} of each text constant."""
+    return {name: text for path in sorted(SOURCES.rglob("*.rt")) for name, text in CONSTANT.findall(path.read_text("utf-8"))}
+
+
+def made_by(function, texts):
+    """Returns the text that a function makes by its `format!`, from the texts that it names."""
+    source = next(text for text in (path.read_text("utf-8") for path in sorted(SOURCES.rglob("*.rt"))) if f"fn {function}(" in text)
+    form = FORMAT.search(source, source.index(f"fn {function}(")).group(1)
+    return re.sub(r"\{(\w+)\}", lambda found: texts[found[1]], re.sub(r"\\\n\s*", "", form))
 
 
 def style():
-    return text_of("style.rt", "STYLE")
+    return constants()["STYLE"]
 
 
 def script():
-    return "".join(text_of(f"{file}.rt", name) for file, name in SCRIPT)
+    return made_by("script_text", constants())
 
 
 def page():
-    """The page, byte for byte."""
-    return text_of("markup.rt", "HEAD") + style() + text_of("markup.rt", "BODY") + script() + text_of("markup.rt", "END")
+    """Returns the page, byte for byte."""
+    return made_by("page_around", {**constants(), "style": style(), "script": script()})
 
 
-def hash_of(text):
-    """How a policy names a text that may run."""
+def hash_source(text):
+    """Returns how a policy names a text that may be used."""
     return "'sha256-" + base64.b64encode(hashlib.sha256(text.encode()).digest()).decode() + "'"
 
 
 def policy():
-    """What the page may do, as lib.rt says it, and with the hashes of the texts as they stand."""
-    with open(os.path.join(FOLDER, "lib.rt")) as source:
-        found = re.search(r'const POLICY: &str =\s*"(.*?)";', source.read(), re.DOTALL).group(1)
-    text = re.sub(r"\\\n\s*", "", found)
-    text = re.sub(r"script-src '[^']*'", f"script-src {hash_of(script())}", text)
-    return re.sub(r"style-src '[^']*'", f"style-src {hash_of(style())}", text)
+    """Returns the policy of the page."""
+    return made_by("policy_text", {"script": hash_source(script()), "style": hash_source(style())})
 
 
 HEADERS = (

@@ -1,8 +1,7 @@
 //! The office is served: on a port of this machine, and by the socket beside its database.
 
 ghost use Rattle.std.specs.Prelude.{◌≡◌, ◌-◌, ◌^◌, ◌<◌, IfOk, IfSome, IsSomeAnd, None, string_bytes};
-ghost use Rattle.keying_page.specs.Page.{page_text};
-ghost use Rattle.keying_page.specs.declared.TheConstants.{POLICY};
+ghost use Rattle.keying_page.specs.Page.{page_text, policy_text};
 
 use crate::Place;
 use crate::aside::Machine;
@@ -11,7 +10,7 @@ use crate::slips::{read_codes, tell_untaken};
 use codes::{Codes, RateLimit, ReadError};
 use desk::{Failure, tell_failure};
 use hall::{FileNumbers, Terms, serve_hall};
-use keying_page::{POLICY, page_text};
+use keying_page::{page_text, policy_text};
 use mio::net::{TcpListener, UnixListener};
 use office::Office;
 use sockets::Watch;
@@ -34,38 +33,44 @@ pub struct Serving<'a> {
     pub codes: Option<&'a str>,
 }
 
-/// What stands at the gate: clerks' codes, and their page.
+/// What stands at the gate: clerks' codes, their page, and its policy.
 #[derive(Drop)]
 struct Porter {
     codes: Codes,
     page: String,
+    policy: String,
 }
 
 /// Reads what stands at the gate; none, where no file of codes is given.
 fn porter_of(rt: &HostRuntime, path: Option<&str>) -> Result<Option<Porter>, ReadError>
     ensures none { path.entry ≡ None → IfOk result (λ porter. porter ≡ None) }
-    ensures some { IfSome path.entry (λ _. IfOk result (λ porter. IsSomeAnd porter (λ p. string_bytes p.page ≡ page_text))) }
+    ensures some { IfSome path.entry (λ _. IfOk result (λ porter. IsSomeAnd porter (λ p. (string_bytes p.page ≡ page_text) × (string_bytes p.policy ≡ policy_text)))) }
 {
     let Some(path) = path else {
         return Ok(None);
     };
     let codes = read_codes(rt, path)?;
     let page = page_text(rt.alloc())?;
-    Ok(Some(Porter { codes, page }))
+    let policy = policy_text(rt.alloc())?;
+    Ok(Some(Porter {
+        codes,
+        page,
+        policy,
+    }))
 }
 
-/// The gate, if there is one: with the porter's codes and page.
+/// The gate, if there is one: with the porter's codes, page and policy.
 fn gate_of(porter: &Option<Porter>) -> Option<Gate<'_>>
     ensures none { porter.now ≡ None → result ≡ None }
     ensures some { IfSome porter.now
-        (λ p. IsSomeAnd result (λ gate. (gate.codes.now ≡ p.codes) × (gate.page.text.now ≡ string_bytes p.page) × (gate.page.policy.now ≡ POLICY.now))) }
+        (λ p. IsSomeAnd result (λ gate. (gate.codes.now ≡ p.codes) × (gate.page.text.now ≡ string_bytes p.page) × (gate.page.policy.now ≡ string_bytes p.policy))) }
 {
     match porter {
         Some(porter) => Some(Gate {
             codes: &porter.codes,
             page: Page {
                 text: porter.page.as_str(),
-                policy: POLICY,
+                policy: porter.policy.as_str(),
             },
         }),
         None => None,

@@ -1,2 +1,3 @@
--- The page on which a clerk keys.
+-- The page on which a clerk keys, and its policy.
+pub mod Policies
 pub mod Page

@@ -1,17 +1,38 @@
--- The page on which a clerk keys.
-use Rattle.std.specs.Prelude.{List, ◌++◌, ℕ}
-use Rattle.keying_page.specs.declared.drafts.TheConstants.{DRAFTS}
-use Rattle.keying_page.specs.declared.keys.TheConstants.{KEYS}
-use Rattle.keying_page.specs.declared.markup.TheConstants.{BODY, END, HEAD}
-use Rattle.keying_page.specs.declared.office.TheConstants.{OFFICE}
-use Rattle.keying_page.specs.declared.showing.TheConstants.{SHOWING}
+-- The page on which a clerk keys. Its texts are the constants of this crate: the definitions say how they are put together.
+use Rattle.std.specs.Prelude.{List, ◌++◌, codes, ℕ}
+use Rattle.keying_page.specs.Policies.{policy_of}
+use Rattle.keying_page.specs.declared.markup.TheConstants.{BODY, HEAD, TAIL}
+use Rattle.keying_page.specs.declared.script.batches.TheConstants.{BATCHES}
+use Rattle.keying_page.specs.declared.script.drafts.TheConstants.{DRAFTS}
+use Rattle.keying_page.specs.declared.script.events.TheConstants.{EVENTS}
+use Rattle.keying_page.specs.declared.script.keys.TheConstants.{KEYS}
+use Rattle.keying_page.specs.declared.script.requests.TheConstants.{REQUESTS}
+use Rattle.keying_page.specs.declared.script.rows.TheConstants.{ROWS}
+use Rattle.keying_page.specs.declared.script.sending.TheConstants.{SENDING}
+use Rattle.keying_page.specs.declared.script.views.TheConstants.{VIEWS}
 use Rattle.keying_page.specs.declared.style.TheConstants.{STYLE}
-use Rattle.keying_page.specs.declared.views.TheConstants.{VIEWS}
 
--- the script of the page: what is kept, the keys, what is asked, what is shown
-abbrev pub script : List ℕ
-script = DRAFTS.now ++ (KEYS.now ++ (OFFICE.now ++ (SHOWING.now ++ VIEWS.now)))
+-- the script of the page: what its parts declare, and the last one, which starts it
+unfoldable pub script : List ℕ
+script = DRAFTS.now ++ (KEYS.now ++ (REQUESTS.now ++ (ROWS.now ++ (VIEWS.now ++ (SENDING.now ++ (BATCHES.now ++ EVENTS.now))))))
 
--- the page: markup around a style and a script; one text for every clerk, at every state of an office
-unfoldable pub page_text : List ℕ
-page_text = HEAD.now ++ (STYLE.now ++ (BODY.now ++ (script ++ END.now)))
+-- the style of the page
+abbrev pub style : List ℕ
+style = STYLE.now
+
+-- a page that has one style and one script: markup around the two
+unfoldable pub page_of : List ℕ → List ℕ → List ℕ
+page_of its_style its_script =
+    HEAD.now
+    ++ (codes "<style>" ++ (its_style ++ (codes "</style>"
+    ++ (BODY.now
+    ++ (codes "<script>" ++ (its_script ++ (codes "</script>"
+    ++ TAIL.now)))))))
+
+-- the page, the same text for every clerk
+abbrev pub page_text : List ℕ
+page_text = page_of style script
+
+-- the policy of the page: it lets a browser use the style and the script that the page has
+abbrev pub policy_text : List ℕ
+policy_text = policy_of style script

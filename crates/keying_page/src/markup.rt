@@ -1,17 +1,22 @@
-//! The page's markup, around its style and its script.
+//! The markup of the page, around its style and its script.
 
-/// What comes before the style.
-pub(crate) const HEAD: &str = r#"<!DOCTYPE html>
+ghost use Rattle.std.specs.Prelude.{◌≡◌, IfOk, string_bytes};
+ghost use Rattle.keying_page.specs.Page.{page_of};
+
+use std::alloc::{AllocError, Global};
+
+/// What precedes the style.
+const HEAD: &str = r#"<!DOCTYPE html>
 <html lang="en">
 <head>
 <meta charset="utf-8">
 <meta name="viewport" content="width=device-width, initial-scale=1">
 <title>Keying</title>
 <link rel="icon" href="data:,">
-<style>"#;
+"#;
 
-/// What comes between the style and the script.
-pub(crate) const BODY: &str = r#"</style>
+/// What stands between the style and the script.
+const BODY: &str = r#"
 </head>
 <body>
 <header><h1>Keying: <span id="who"></span></h1>
@@ -87,10 +92,18 @@ pub(crate) const BODY: &str = r#"</style>
 </section>
 
 </main>
-<script>"#;
+"#;
 
-/// What comes behind the script.
-pub(crate) const END: &str = r#"</script>
+/// What follows the script.
+const TAIL: &str = r#"
 </body>
 </html>
 "#;
+
+#[tactic(auto, unfolding(crate::specs::Page::page_of))]
+/// Returns the page that has this style and this script. The only error is that an allocation failed.
+pub(crate) fn page_around(alloc: Global, style: &str, script: &str) -> Result<String, AllocError>
+    ensures { IfOk result (λ text. string_bytes text ≡ page_of style.now script.now) }
+{
+    format!(in alloc; "{HEAD}<style>{style}</style>{BODY}<script>{script}</script>{TAIL}")
+}

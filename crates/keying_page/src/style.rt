@@ -1,6 +1,6 @@
-//! How the page looks, from 400 pixels on. All of it can be told in grey, and nothing comes from elsewhere.
+//! The style of the page, a sheet of CSS: for widths from 400 pixels, with nothing that colour alone tells.
 
-/// The page's style.
+/// The style.
 pub(crate) const STYLE: &str = r#"
 * { box-sizing: border-box; }
 body { margin: 0 auto; max-width: 68rem; padding: 0 .75rem 2rem; font: 1rem/1.4 sans-serif; color: #000; background: #fff; }
@@ -43,8 +43,8 @@ table .end { --field: 4rem; border-color: transparent; }
 thead th { padding-top: .15rem; vertical-align: top; border-top-width: 1px; font-weight: normal; font-size: .85rem; }
 thead th b { display: block; }
 thead th span { display: block; overflow: hidden; text-overflow: ellipsis; }
-.few thead th span { display: -webkit-box; -webkit-box-orient: vertical; -webkit-line-clamp: 2; padding: 0 .2rem; overflow-wrap: anywhere; }
-.some thead th span, .many thead th span { writing-mode: vertical-rl; height: 8rem; margin: 0 auto; white-space: nowrap; }
+.few thead th span { display: -webkit-box; -webkit-box-orient: vertical; -webkit-line-clamp: 4; padding: 0 .2rem; overflow-wrap: anywhere; }
+.some thead th span, .many thead th span { writing-mode: vertical-rl; max-height: 14rem; margin: 0 auto; white-space: nowrap; }
 thead .here { background: #1b4f91; color: #fff; }
 tbody td { color: #444; }
 tbody .now th { font-size: 1.35rem; background: #ffe9a8; }
@@ -70,7 +70,7 @@ dialog { max-width: 30rem; border: 3px solid #8a1500; }
 @media (max-width: 640px) {
 .few { --field: 3.2rem; }
 .some { --field: 2.2rem; }
-.few thead th span { display: block; writing-mode: vertical-rl; height: 8rem; margin: 0 auto; white-space: nowrap; }
+.few thead th span { display: block; writing-mode: vertical-rl; max-height: 10rem; margin: 0 auto; white-space: nowrap; }
 .where b { font-size: 1.8rem; }
 table .number { --field: 2.8rem; }
 dl { grid-template-columns: 1fr; gap: 0; }

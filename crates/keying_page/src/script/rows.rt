@@ -1,7 +1,7 @@
-//! The page's script, fourth part: how the papers of a batch are shown.
+//! Part of the script: the rows in which papers are shown.
 
-/// Papers stand a row each, with the one that is keyed always at the same height. No markup is made of a name.
-pub(crate) const SHOWING: &str = r#"// ---- how papers are shown
+/// Declares how papers are drawn: a row each, with the current one always at the same height. No markup is made of a name.
+pub(crate) const ROWS: &str = r#"// ---- how papers are shown
 
 const ABOVE = 3, BELOW = 2;
 const DASH = '\u2013';

@@ -1,6 +1,6 @@
-//! The page's script, first part: what a browser keeps of a keying.
+//! Part of the script: the drafts that the browser stores. A draft is what a clerk has keyed of a batch in a round.
 
-/// A draft is what a clerk has keyed of a batch in a round. Each key that is taken is kept at once.
+/// Declares drafts, and how they are stored, checked and removed.
 pub(crate) const DRAFTS: &str = r#"'use strict';
 
 // ---- what this browser keeps

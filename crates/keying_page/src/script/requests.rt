@@ -1,7 +1,7 @@
-//! The page's script, third part: what the office is asked, and what its answers mean.
+//! Part of the script: the requests to the office, and what its responses mean.
 
-/// A keying is sent under an id of its own. It is sent again as it was until the office has answered.
-pub(crate) const OFFICE: &str = r#"// ---- what the office is asked
+/// Declares the requests. A keying is sent under an id of its own, and repeated unchanged until the office has replied.
+pub(crate) const REQUESTS: &str = r#"// ---- what the office is asked
 
 const PATIENCE = 120;
 const WAITS = [5, 10, 20, 30];
@@ -33,9 +33,9 @@ const AFTER_REFUSAL = {
   18: 'Look at that paper, and mend it.',
 };
 const AFTER_STATUS = {
-  401: 'The office wants your number and your code. Load the page again, and type them.',
+  401: 'The code is wrong, or none was sent. Try again, and type your number and your code when the browser asks for them.',
   403: 'This page was opened by an address that the office doesn\u2019t know. Open it by the one you were given.',
-  429: 'Too many wrong codes came for your number. Wait a minute, and try again.',
+  429: 'The code is wrong, and very many wrong codes were sent to the office. Wait a minute, try again, and type your number and your code when the browser asks for them.',
 };
 const TELL = 'Tell the returning officer what stands here.';
 const NOBODY = 'The office doesn\u2019t answer.';
@@ -92,7 +92,7 @@ const send = async () => {
   if (isRefusal(answer) && answer.says.refusal === 2) sent.id = newId(sent.batch, sent.round);
   save(sent);
   const why = answer ? explained(answer) : [NOBODY];
-  return {why, isOpen, waits: isUnknown(answer), mustWait: answer?.status === 429, refusal: isRefusal(answer) ? answer.says.refusal : 0};
+  return {why, isOpen, waits: isUnknown(answer), refusal: isRefusal(answer) ? answer.says.refusal : 0};
 };
 
 "#;

@@ -1,6 +1,6 @@
-//! The page's script, second part: a paper, key by key.
+//! Part of the script: the effect of each key on the draft.
 
-/// What each key makes of the draft. A key that isn't taken gives the words that say why; nothing is put right.
+/// Declares what each key does. A key that has no effect returns the message that says why; nothing is corrected.
 pub(crate) const KEYS: &str = r#"// ---- a paper, key by key
 
 // The draft that is keyed, and the candidates of its columns.

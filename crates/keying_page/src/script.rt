@@ -1,0 +1,34 @@
+//! The script of the page, as one text.
+//!
+//! A browser runs it as a classic script: all parts share their names. Each part but the last only declares, and each may use
+//! what any other declares. [`events`] comes last, and starts the page.
+
+ghost use Rattle.std.specs.Prelude.{◌≡◌, IfOk, string_bytes};
+ghost use Rattle.keying_page.specs.Page.{script};
+
+mod batches;
+mod drafts;
+mod events;
+mod keys;
+mod requests;
+mod rows;
+mod sending;
+mod views;
+
+use crate::script::batches::BATCHES;
+use crate::script::drafts::DRAFTS;
+use crate::script::events::EVENTS;
+use crate::script::keys::KEYS;
+use crate::script::requests::REQUESTS;
+use crate::script::rows::ROWS;
+use crate::script::sending::SENDING;
+use crate::script::views::VIEWS;
+use std::alloc::{AllocError, Global};
+
+#[tactic(auto, unfolding(crate::specs::Page::script))]
+/// Returns the script. The only error is that an allocation failed.
+pub(crate) fn script_text(alloc: Global) -> Result<String, AllocError>
+    ensures { IfOk result (λ text. string_bytes text ≡ script) }
+{
+    format!(in alloc; "{DRAFTS}{KEYS}{REQUESTS}{ROWS}{VIEWS}{SENDING}{BATCHES}{EVENTS}")
+}
