@@ -8,7 +8,7 @@ use Rattle.gathering.specs.declared.client.Comer.{Comer}
 use Rattle.gathering.specs.declared.client.Door.{Door}
 use Rattle.gathering.specs.declared.client.Door.TheVariants.{Clients, Orders}
 use Rattle.gathering.specs.declared.doors.Admitted.{Admitted}
-use Rattle.gathering.specs.declared.doors.Admitted.TheVariants.{One, Nobody, NotNow}
+use Rattle.gathering.specs.declared.doors.Admitted.TheVariants.{One, Nobody, NotNow, Full}
 
 -- the bytes of an answer, if there is one
 abbrev pub answer_bytes : Option Answer → ℕ
@@ -45,6 +45,7 @@ abbrev pub IsFresh : {L : Type 0} → (L → Option (List ℕ)) → Admitted L �
 IsFresh taken (One comer) = HasTaken (taken comer.line) []
 IsFresh taken Nobody = ⊤
 IsFresh taken NotNow = ⊤
+IsFresh taken Full = ⊤
 
 -- whoever comes at a door may come there: an order always, and a client where he is wanted
 abbrev pub MayCome : Bool → Door → Type 0
@@ -56,9 +57,11 @@ abbrev pub IsWanted : {L : Type 0} → Bool → Admitted L → Type 0
 IsWanted clients_too (One comer) = MayCome clients_too comer.door
 IsWanted clients_too Nobody = ⊤
 IsWanted clients_too NotNow = ⊤
+IsWanted clients_too Full = ⊤
 
 -- those who came in grow by whoever is let in
 abbrev pub LetsIn : {L : Type 0} → Option (List (Comer L)) → Option (List (Comer L)) → Admitted L → Type 0
 LetsIn old new (One comer) = new ≡ option_map (λ comers. comers ++ comer ∷ []) old
 LetsIn old new Nobody = new ≡ old
 LetsIn old new NotNow = new ≡ old
+LetsIn old new Full = new ≡ old

@@ -16,8 +16,10 @@ pub enum Admitted<L> {
     One(Comer<L>),
     /// Nobody waits who may come in.
     Nobody,
-    /// Somebody may wait, and can't be let in now.
+    /// This connection failed before it was let in. Another may be waiting.
     NotNow,
+    /// The system has no descriptor or memory left for one more connection. Closing one makes room, and somebody may be waiting.
+    Full,
 }
 
 /// Where clients and orders come in, and what says who may go on. That is no promise: who can't go on is tried in vain.

@@ -5,7 +5,7 @@ use Rattle.votes.specs.declared.streams.Broken.{Broken}
 use Rattle.gathering.specs.declared.line.Came.{Came}
 use Rattle.gathering.specs.declared.line.Came.TheVariants.{Bytes, Nothing, End}
 use Rattle.gathering.specs.declared.doors.Admitted.{Admitted}
-use Rattle.gathering.specs.declared.doors.Admitted.TheVariants.{One, Nobody, NotNow}
+use Rattle.gathering.specs.declared.doors.Admitted.TheVariants.{One, Nobody, NotNow, Full}
 use Rattle.gathering.specs.Lines.{Gives, Takes}
 use Rattle.gathering.specs.Rooms.{IsFresh, IsWanted, LetsIn, MayCome}
 use Rattle.gathering.specs.declared.client.Comer.{Comer}
@@ -35,27 +35,32 @@ pub fresh_untold : {L : Type 0} (a : Admitted L) → IsFresh (λ (l : L). None) 
 fresh_untold (One comer) = tt
 fresh_untold Nobody = tt
 fresh_untold NotNow = tt
+fresh_untold Full = tt
 
 -- orders may always come
 pub order_wanted : (clients_too : Bool) (a : Admitted Socket) → IsAtDoor Orders a → IsWanted clients_too a
 order_wanted clients_too (One comer) at = subst (MayCome clients_too) (sym at.0) tt
 order_wanted clients_too Nobody at = tt
 order_wanted clients_too NotNow at = tt
+order_wanted clients_too Full at = tt
 
 -- and clients, where they are wanted
 pub client_wanted : (clients_too : Bool) (a : Admitted Socket) → IsAtDoor Clients a → clients_too ≡ true → IsWanted clients_too a
 client_wanted clients_too (One comer) at wanted = subst (MayCome clients_too) (sym at.0) wanted
 client_wanted clients_too Nobody at wanted = tt
 client_wanted clients_too NotNow at wanted = tt
+client_wanted clients_too Full at wanted = tt
 
 -- whoever came at a door came over a socket of its kind
 pub comes_by_door : (door : Door) (a : Admitted Socket) → IsAtDoor door a → ComesByDoor a
 comes_by_door door (One comer) at = subst (λ d. FitsDoor d comer.line) (sym at.0) at.1
 comes_by_door door Nobody at = tt
 comes_by_door door NotNow at = tt
+comes_by_door door Full at = tt
 
 -- where nothing is told of those who came in, it goes on so
 pub lets_in_untold : {L : Type 0} (a : Admitted L) → LetsIn None None a
 lets_in_untold (One comer) = refl
 lets_in_untold Nobody = refl
 lets_in_untold NotNow = refl
+lets_in_untold Full = refl

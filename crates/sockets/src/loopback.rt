@@ -1,0 +1,77 @@
+//! The listeners at one port of this machine's loopback addresses.
+
+ghost use Rattle.std.specs.Prelude.{◌≡◌};
+ghost use Rattle.sockets.specs.Errors.{has_no_ipv6, loopback_of};
+
+use crate::refusal::errno;
+use mio::net::{TcpListener, TcpStream};
+use std::io;
+use std::io::ErrorKind;
+use std::net::{Ipv4Addr, Ipv6Addr, Net, SocketAddr};
+
+/// A loopback address: 127.0.0.1 or [::1].
+#[derive(Clone, Copy)]
+pub(crate) enum Address {
+    Ipv4,
+    Ipv6,
+}
+
+/// The listeners at a port: at 127.0.0.1 and, if the machine has that address, at [::1].
+#[derive(Drop)]
+pub struct Loopback {
+    pub ipv4: TcpListener,
+    pub ipv6: Option<TcpListener>,
+}
+
+impl Address {
+    /// Returns the other one.
+    pub(crate) fn other(self) -> Address {
+        match self {
+            Address::Ipv4 => Address::Ipv6,
+            Address::Ipv6 => Address::Ipv4,
+        }
+    }
+}
+
+/// Returns whether binding [::1] failed because the machine has no such address: the kernel has no IPv6 (EAFNOSUPPORT), or its loopback
+/// interface hasn't (EADDRNOTAVAIL). Then nobody else can bind it either. A service manager that keeps this program alone from IPv6 makes
+/// the first error, too: our service file doesn't.
+fn has_no_ipv6(error: &io::Error) -> bool
+    ensures { result ≡ has_no_ipv6 error.now }
+{
+    matches!(errno(error), 97 | 99)
+}
+
+impl Loopback {
+    /// Returns the listeners of a port, of which 127.0.0.1 is bound, by what came of binding [::1]. An error other than that the
+    /// machine has no such address is returned, and both listeners are closed.
+    pub fn new(ipv4: TcpListener, ipv6: io::Result<TcpListener>) -> io::Result<Loopback>
+        ensures { result ≡ loopback_of ipv4 ipv6 }
+    {
+        match ipv6 {
+            Ok(ipv6) => Ok(Loopback {
+                ipv4,
+                ipv6: Some(ipv6),
+            }),
+            Err(error) if has_no_ipv6(&error) => Ok(Loopback { ipv4, ipv6: None }),
+            Err(error) => Err(error),
+        }
+    }
+
+    /// Binds a port at both addresses, and fails if one of them is taken: a browser that opens `http://localhost` may try either, and
+    /// would send a clerk's code to whoever holds the other one. A socket at [::1] takes no connection of IPv4, so it needs no option.
+    pub fn bind(net: &impl Net, port: u16) -> io::Result<Loopback> {
+        let ipv4 = TcpListener::bind(net, SocketAddr::from((Ipv4Addr::LOCALHOST, port)))?;
+        let ipv6 = TcpListener::bind(net, SocketAddr::from((Ipv6Addr::LOCALHOST, port)));
+        Loopback::new(ipv4, ipv6)
+    }
+
+    /// Returns the next connection at an address, or `WouldBlock` if none waits there.
+    pub(crate) fn accept(&self, address: Address) -> io::Result<(TcpStream, SocketAddr)> {
+        match (address, &self.ipv6) {
+            (Address::Ipv4, _) => self.ipv4.accept(),
+            (Address::Ipv6, Some(ipv6)) => ipv6.accept(),
+            (Address::Ipv6, None) => Err(io::Error::from_raw_os_error(11)),
+        }
+    }
+}
