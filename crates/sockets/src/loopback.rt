@@ -1,12 +1,12 @@
 //! The listeners at one port of this machine's loopback addresses.
 
-ghost use Rattle.std.specs.Prelude.{◌≡◌};
+ghost use Rattle.std.specs.Prelude.{◌≡◌, Some, option_map};
+ghost use Rattle.sockets.specs.declared.loopback.Address.{Address};
 ghost use Rattle.sockets.specs.Errors.{has_no_ipv6, loopback_of};
 
-use crate::refusal::errno;
-use mio::net::{TcpListener, TcpStream};
+use crate::refusal::{EADDRNOTAVAIL, EAFNOSUPPORT, errno};
+use mio::net::TcpListener;
 use std::io;
-use std::io::ErrorKind;
 use std::net::{Ipv4Addr, Ipv6Addr, Net, SocketAddr};
 
 /// A loopback address: 127.0.0.1 or [::1].
@@ -33,13 +33,13 @@ impl Address {
     }
 }
 
-/// Returns whether binding [::1] failed because the machine has no such address: the kernel has no IPv6 (EAFNOSUPPORT), or its loopback
-/// interface hasn't (EADDRNOTAVAIL). Then nobody else can bind it either. A service manager that keeps this program alone from IPv6 makes
-/// the first error, too: our service file doesn't.
+/// Returns whether binding [::1] failed because the machine has no such address: its kernel has no IPv6 (EAFNOSUPPORT), or its loopback
+/// interface has no address of it (EADDRNOTAVAIL). Then nobody else can bind it either. A service manager that keeps this program alone
+/// from IPv6 causes the first error too, and then it isn't so: our service file doesn't.
 fn has_no_ipv6(error: &io::Error) -> bool
     ensures { result ≡ has_no_ipv6 error.now }
 {
-    matches!(errno(error), 97 | 99)
+    matches!(errno(error), EAFNOSUPPORT | EADDRNOTAVAIL)
 }
 
 impl Loopback {
@@ -66,12 +66,14 @@ impl Loopback {
         Loopback::new(ipv4, ipv6)
     }
 
-    /// Returns the next connection at an address, or `WouldBlock` if none waits there.
-    pub(crate) fn accept(&self, address: Address) -> io::Result<(TcpStream, SocketAddr)> {
-        match (address, &self.ipv6) {
-            (Address::Ipv4, _) => self.ipv4.accept(),
-            (Address::Ipv6, Some(ipv6)) => ipv6.accept(),
-            (Address::Ipv6, None) => Err(io::Error::from_raw_os_error(11)),
+    /// Returns the listener at an address, if there is one.
+    pub(crate) fn at(&self, address: Address) -> Option<&TcpListener>
+        ensures ipv4 { address ≡ Address.Ipv4 → option_map (λ l. l.now) result ≡ Some self.now.ipv4 }
+        ensures ipv6 { address ≡ Address.Ipv6 → option_map (λ l. l.now) result ≡ self.now.ipv6 }
+    {
+        match address {
+            Address::Ipv4 => Some(&self.ipv4),
+            Address::Ipv6 => self.ipv6.as_ref(),
         }
     }
 }

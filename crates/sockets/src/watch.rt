@@ -151,7 +151,10 @@ impl Watch {
     fn client_at(&self, address: Address, number: u64) -> Admitted<Socket>
         ensures { IsAtDoor Door.Clients result }
     {
-        let accepted = match self.clients.accept(address) {
+        let Some(clients) = self.clients.at(address) else {
+            return Admitted::Nobody;
+        };
+        let accepted = match clients.accept() {
             Ok((stream, _)) => self.watched(stream, number),
             Err(error) => Err(error),
         };
