@@ -34,16 +34,20 @@ pub(crate) fn errno(error: &io::Error) -> u32
     }
 }
 
-/// Returns whether the system has no descriptor or memory left for one more connection: the machine's files (ENFILE) or this process's
-/// (EMFILE), memory (ENOMEM, ENOBUFS), or what may be watched at once (ENOSPC).
+/// Returns whether the system has no descriptor or memory left for one more connection.
+///
+/// The machine is out of files (ENFILE), this process is (EMFILE), memory is out (ENOMEM, ENOBUFS), or no more sockets may be watched
+/// (ENOSPC).
 fn is_out_of_room(error: &io::Error) -> bool
     ensures { result ≡ is_out_of_room error.now }
 {
     matches!(errno(error), ENOMEM | ENFILE | EMFILE | ENOSPC | ENOBUFS)
 }
 
-/// Returns what an error of a listener means: nobody waits (EAGAIN); the system has no room for one more connection, and closing one
-/// makes some; or, for any other error, such as ECONNABORTED, the one connection that was next failed.
+/// Returns what an error of a listener means.
+///
+/// Nobody waits (EAGAIN); the system has no room for one more connection, and closing one makes some; or, for any other error, such as
+/// ECONNABORTED, the one connection that was next failed.
 pub(crate) fn refusal(error: &io::Error) -> Admitted<Socket>
     ensures { result ≡ refusal_of error.now }
 {
