@@ -11,17 +11,17 @@ guide=$here/../docs/ELECTION.md
 port=8080
 
 is_answered() {
-    (exec 4<>"/dev/tcp/127.0.0.1/$port") 2>/dev/null
+    (exec 4<>"/dev/tcp/$1/$port") 2>/dev/null
 }
 
-while is_answered; do
+while is_answered 127.0.0.1 || is_answered ::1; do
     port=$((20000 + RANDOM % 20000))
 done
 
 # Waits until the office answers. The connection that tries the port is one of those that are answered.
 await_office() {
     local tries=0
-    until is_answered; do
+    until is_answered 127.0.0.1; do
         tries=$((tries + 1))
         [[ $tries -lt 200 ]] || { echo "no office answers on port $port" >&2; return 1; }
         sleep 0.05

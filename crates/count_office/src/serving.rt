@@ -11,14 +11,13 @@ use codes::{Codes, RateLimit, ReadError};
 use desk::{Failure, tell_failure};
 use hall::{FileNumbers, Terms, serve_hall};
 use keying_page::{page_text, policy_text};
-use mio::net::{TcpListener, UnixListener};
+use mio::net::UnixListener;
 use office::Office;
-use sockets::Watch;
+use sockets::{Loopback, Watch};
 use sqlite::{Alter, Connection};
 use std::alloc::{AllocError, Global};
 use std::io;
 use std::io::{ErrorKind, Write};
-use std::net::{Ipv4Addr, SocketAddr};
 use store::Fault;
 use votes::{Broken, Sink};
 use wire::{Gate, Given, Origin, Page};
@@ -77,14 +76,14 @@ fn gate_of(porter: &Option<Porter>) -> Option<Gate<'_>>
     }
 }
 
-/// The doors of an office: a port of this machine, and the socket beside its database, if there is one.
+/// Listens on a port of this machine's loopback addresses and, if there is one, on the socket for orders beside the database. Fails if
+/// one of the addresses is taken: no clause can say which are bound, and `tools/both-addresses` tries it.
 fn listen(rt: &HostRuntime, port: u32, orders: Option<UnixListener>) -> io::Result<Watch> {
     let Ok(port) = u16::try_from(port) else {
         return Err(io::Error::from(ErrorKind::InvalidInput));
     };
-    let address = SocketAddr::from((Ipv4Addr::LOCALHOST, port));
-    let listener = TcpListener::bind(rt, address)?;
-    Watch::new(rt, rt.alloc(), listener, orders)
+    let clients = Loopback::bind(rt, port)?;
+    Watch::new(rt, rt.alloc(), clients, orders)
 }
 
 /// Why the doors can't be opened.

@@ -16,9 +16,9 @@ pub enum Admitted<L> {
     One(Comer<L>),
     /// Nobody waits who may come in.
     Nobody,
-    /// Somebody may wait, and can't be let in now.
+    /// This connection failed before it was let in. Another may be waiting.
     NotNow,
-    /// Somebody may wait, and can't be let in before one of those that are in leaves.
+    /// The system has no descriptor or memory left for one more connection. Closing one makes room, and somebody may be waiting.
     Full,
 }
 

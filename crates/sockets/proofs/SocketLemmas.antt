@@ -1,17 +1,17 @@
 -- What a line gives and takes that tells none of its bytes.
-use Rattle.std.proofs.Common.{◌≡◌, ◌⊎◌, inl, inr, ◌<◌, ◌≤◌, ℕ, Bool, List, None, Ok, Err, Result, length, refl, subst, sym, true, arith}
+use Rattle.std.proofs.Common.{◌≡◌, ◌⊎◌, inl, inr, ◌<◌, ◌≤◌, ℕ, Bool, List, None, Ok, Err, Result, length, refl, subst, suc, sym, true, arith, zero}
 use Rattle.std.specs.Prelude.{IfOk}
 use Rattle.votes.specs.declared.streams.Broken.{Broken}
 use Rattle.gathering.specs.declared.line.Came.{Came}
 use Rattle.gathering.specs.declared.line.Came.TheVariants.{Bytes, Nothing, End}
 use Rattle.gathering.specs.declared.doors.Admitted.{Admitted}
-use Rattle.gathering.specs.declared.doors.Admitted.TheVariants.{One, Nobody, NotNow}
-use Rattle.gathering.specs.Lines.{Gives, Takes}
-use Rattle.gathering.specs.Rooms.{IsFresh, IsWanted, LetsIn, MayCome}
+use Rattle.gathering.specs.declared.doors.Admitted.TheVariants.{One, Nobody, NotNow, Full}
+use Rattle.gathering.specs.Lines.{Gives, Takes, failed_after, idle_after_read, idle_after_write}
+use Rattle.gathering.specs.Rooms.{IsFresh, IsWanted, MayCome, after_admit, after_call, after_wait}
 use Rattle.gathering.specs.declared.client.Comer.{Comer}
 use Rattle.gathering.specs.declared.client.Door.{Door}
 use Rattle.gathering.specs.declared.client.Door.TheVariants.{Clients, Orders}
-use Rattle.sockets.specs.Watches.{ComesByDoor, FitsDoor, IsAtDoor}
+use Rattle.sockets.specs.Watches.{ComesByDoor, FitsDoor, IsAtDoor, unknown}
 use Rattle.sockets.specs.declared.socket.Socket.{Socket}
 
 -- what was read is within the room
@@ -35,27 +35,56 @@ pub fresh_untold : {L : Type 0} (a : Admitted L) → IsFresh (λ (l : L). None) 
 fresh_untold (One comer) = tt
 fresh_untold Nobody = tt
 fresh_untold NotNow = tt
+fresh_untold Full = tt
 
 -- orders may always come
 pub order_wanted : (clients_too : Bool) (a : Admitted Socket) → IsAtDoor Orders a → IsWanted clients_too a
 order_wanted clients_too (One comer) at = subst (MayCome clients_too) (sym at.0) tt
 order_wanted clients_too Nobody at = tt
 order_wanted clients_too NotNow at = tt
+order_wanted clients_too Full at = tt
 
 -- and clients, where they are wanted
 pub client_wanted : (clients_too : Bool) (a : Admitted Socket) → IsAtDoor Clients a → clients_too ≡ true → IsWanted clients_too a
 client_wanted clients_too (One comer) at wanted = subst (MayCome clients_too) (sym at.0) wanted
 client_wanted clients_too Nobody at wanted = tt
 client_wanted clients_too NotNow at wanted = tt
+client_wanted clients_too Full at wanted = tt
 
 -- whoever came at a door came over a socket of its kind
 pub comes_by_door : (door : Door) (a : Admitted Socket) → IsAtDoor door a → ComesByDoor a
 comes_by_door door (One comer) at = subst (λ d. FitsDoor d comer.line) (sym at.0) at.1
 comes_by_door door Nobody at = tt
 comes_by_door door NotNow at = tt
+comes_by_door door Full at = tt
 
--- where nothing is told of those who came in, it goes on so
-pub lets_in_untold : {L : Type 0} (a : Admitted L) → LetsIn None None a
-lets_in_untold (One comer) = refl
-lets_in_untold Nobody = refl
-lets_in_untold NotNow = refl
+-- of what isn't known nothing is known later
+
+pub still_unknown_in : {L : Type 0} (a : Admitted L) → unknown ≡ after_admit a unknown
+still_unknown_in (One comer) = refl
+still_unknown_in Nobody = refl
+still_unknown_in NotNow = refl
+still_unknown_in Full = refl
+
+pub still_unknown_now : {L A : Type 0} (result : Result A Broken) → unknown {L = L} ≡ after_call result unknown
+still_unknown_now (Ok value) = refl
+still_unknown_now (Err broken) = refl
+
+pub still_unknown_then : {L : Type 0} (result : Result (Unit {0}) Broken) → unknown {L = L} ≡ after_wait result unknown
+still_unknown_then (Ok value) = refl
+still_unknown_then (Err broken) = refl
+
+pub still_none : {A : Type 0} (result : Result A Broken) → None ≡ failed_after result None
+still_none (Ok value) = refl
+still_none (Err broken) = refl
+
+pub still_idle_read : (result : Result Came Broken) → None ≡ idle_after_read result None
+still_idle_read (Ok (Bytes n)) = refl
+still_idle_read (Ok Nothing) = refl
+still_idle_read (Ok End) = refl
+still_idle_read (Err broken) = refl
+
+pub still_idle_write : (result : Result ℕ Broken) → None ≡ idle_after_write result None
+still_idle_write (Ok zero) = refl
+still_idle_write (Ok (suc n)) = refl
+still_idle_write (Err broken) = refl

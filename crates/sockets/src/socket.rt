@@ -1,4 +1,4 @@
-//! A socket as a line, of which no call waits.
+//! A socket as a line: no call on it blocks.
 
 ghost use Rattle.std.specs.Prelude.{◌≡◌, ◌⊎◌, ◌<◌, ℕ, None, Ok, IfOk};
 
@@ -8,14 +8,14 @@ use std::io;
 use std::io::{ErrorKind, Read, Write};
 use votes::Broken;
 
-/// A client's socket, or that of an order.
+/// The socket of a client's connection, or of an order's.
 #[derive(Drop)]
 pub enum Socket {
     Client(TcpStream),
     Order(UnixStream),
 }
 
-/// What a read came to.
+/// Returns what a read gave. A read that would block gave nothing yet.
 fn came(read: io::Result<usize>) -> Result<Came, Broken>
     ensures { (n : ℕ) → result ≡ Ok (Came.Bytes n) → (0 < n) × (read ≡ Ok n) }
 {
@@ -27,7 +27,7 @@ fn came(read: io::Result<usize>) -> Result<Came, Broken>
     }
 }
 
-/// What a write came to.
+/// Returns how many bytes a write accepted; 0 if it would block.
 fn took(written: io::Result<usize>) -> Result<usize, Broken>
     ensures { IfOk result (λ n. (n ≡ 0) ⊎ (written ≡ Ok n)) }
 {
@@ -42,6 +42,10 @@ impl Line for Socket {
     ghost held = { λ _. None };
 
     ghost taken = { λ _. None };
+
+    ghost failed = { λ _. None };
+
+    ghost idle = { λ _. None };
 
     fn fetch(&mut self, room: &mut [u8]) -> Result<Came, Broken> {
         match self {

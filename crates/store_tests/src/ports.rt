@@ -6,7 +6,7 @@ use super::disks::Disks;
 use super::machine::{Machine, hear, play_acts};
 use super::steps::Step;
 use mio::net::TcpListener;
-use sockets::Watch;
+use sockets::{Loopback, Watch};
 use std::cell::RefCell;
 use std::io::{Read, Write};
 use std::net::{Ipv4Addr, SocketAddr, TcpStream};
@@ -39,8 +39,12 @@ fn serve<M: Machine + Drop>(rt: &(impl Abort + AllocGlobal), port: &Port) -> Res
 fn connections_are_answered_side_by_side(rt: HostRuntime) -> Result<(), Fail> {
     let listener = TcpListener::bind(&rt, SocketAddr::from((Ipv4Addr::LOCALHOST, 0)))?;
     let office = listener.local_addr()?;
+    let clients = Loopback {
+        ipv4: listener,
+        ipv6: None,
+    };
     let port = Port {
-        watch: RefCell::new(Watch::new(&rt, rt.alloc(), listener, None)?),
+        watch: RefCell::new(Watch::new(&rt, rt.alloc(), clients, None)?),
         connections: 3,
     };
     let silent = connected(&rt, office, "")?;

@@ -1,0 +1,83 @@
+//! The listeners at one port of this machine's loopback addresses.
+
+ghost use Rattle.std.specs.Prelude.{◌≡◌, Some, option_map};
+ghost use Rattle.sockets.specs.declared.loopback.Address.{Address};
+ghost use Rattle.sockets.specs.Errors.{has_no_ipv6, loopback_of};
+
+use crate::refusal::{EADDRNOTAVAIL, EAFNOSUPPORT, errno};
+use mio::net::TcpListener;
+use std::io;
+use std::net::{Ipv4Addr, Ipv6Addr, Net, SocketAddr};
+
+/// A loopback address: 127.0.0.1 or [::1].
+#[derive(Clone, Copy)]
+pub(crate) enum Address {
+    Ipv4,
+    Ipv6,
+}
+
+/// The listeners at a port: at 127.0.0.1 and, if the machine has that address, at [::1].
+#[derive(Drop)]
+pub struct Loopback {
+    pub ipv4: TcpListener,
+    pub ipv6: Option<TcpListener>,
+}
+
+impl Address {
+    /// Returns the other one.
+    pub(crate) fn other(self) -> Address {
+        match self {
+            Address::Ipv4 => Address::Ipv6,
+            Address::Ipv6 => Address::Ipv4,
+        }
+    }
+}
+
+/// Returns whether binding [::1] failed because the machine has no such address. Then nobody else can bind it either.
+///
+/// Its kernel has no IPv6 (EAFNOSUPPORT), or its loopback interface has no address of it (EADDRNOTAVAIL). A service manager that keeps
+/// this program alone from IPv6 causes the first error too, and then somebody else can bind it: our service file doesn't.
+fn has_no_ipv6(error: &io::Error) -> bool
+    ensures { result ≡ has_no_ipv6 error.now }
+{
+    matches!(errno(error), EAFNOSUPPORT | EADDRNOTAVAIL)
+}
+
+impl Loopback {
+    /// Returns the listeners of a port, of which 127.0.0.1 is bound, by the result of binding [::1].
+    ///
+    /// If the machine has no such address, there is one listener. Any other error is returned, and the listener at 127.0.0.1 is closed.
+    pub fn new(ipv4: TcpListener, ipv6: io::Result<TcpListener>) -> io::Result<Loopback>
+        ensures { result ≡ loopback_of ipv4 ipv6 }
+    {
+        match ipv6 {
+            Ok(ipv6) => Ok(Loopback {
+                ipv4,
+                ipv6: Some(ipv6),
+            }),
+            Err(error) if has_no_ipv6(&error) => Ok(Loopback { ipv4, ipv6: None }),
+            Err(error) => Err(error),
+        }
+    }
+
+    /// Binds a port at both addresses. Fails if one of them is taken.
+    ///
+    /// A browser that opens `http://localhost` may try either, and would send a clerk's code to whoever holds the other one. A socket
+    /// at [::1] accepts no connection of IPv4, so it needs no option.
+    pub fn bind(net: &impl Net, port: u16) -> io::Result<Loopback> {
+        let ipv4 = TcpListener::bind(net, SocketAddr::from((Ipv4Addr::LOCALHOST, port)))?;
+        let ipv6 = TcpListener::bind(net, SocketAddr::from((Ipv6Addr::LOCALHOST, port)));
+        Loopback::new(ipv4, ipv6)
+    }
+
+    /// Returns the listener at an address, if there is one.
+    pub(crate) fn at(&self, address: Address) -> Option<&TcpListener>
+        ensures ipv4 { address ≡ Address.Ipv4 → option_map (λ l. l.now) result ≡ Some self.now.ipv4 }
+        ensures ipv6 { address ≡ Address.Ipv6 → option_map (λ l. l.now) result ≡ self.now.ipv6 }
+    {
+        match address {
+            Address::Ipv4 => Some(&self.ipv4),
+            Address::Ipv6 => self.ipv6.as_ref(),
+        }
+    }
+}
