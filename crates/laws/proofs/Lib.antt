@@ -1,0 +1,3 @@
+pub mod ObservationLemmas
+pub mod AwayLemmas
+pub mod SealedLemmas
