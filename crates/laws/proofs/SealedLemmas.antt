@@ -1,5 +1,5 @@
 -- A sealed ward stays sealed, with its papers, whatever request comes.
-use Rattle.std.proofs.Common.{◌≡◌, ℕ, zero, suc, Bool, true, false, cond, not, ◌==◌, List, [], ◌∷◌, ◌++◌, map, get_or, Option, Some, None, is_some, string_bytes, refl, sym, ap, subst, ◌∙◌, append_assoc}
+use Rattle.std.proofs.Common.{◌≡◌, ℕ, Bool, true, false, cond, ◌==◌, List, [], ◌∷◌, ◌++◌, map, Option, Some, None, string_bytes, refl, sym, ap, subst, ◌∙◌, append_assoc}
 use Rattle.std.specs.List.Sorted.{IsPermutation}
 use Rattle.std.specs.Cmp.{IsTotalOrder, unsigned_tied}
 use Rattle.std.specs.Option.{option_map}
@@ -24,8 +24,7 @@ use Rattle.register.specs.declared.wards.WardCommand.TheVariants as ward_command
 use Rattle.register.specs.declared.candidates.CandidateCommand.TheVariants as candidate_command
 use Rattle.register.specs.declared.batches.BatchCommand.TheVariants as batch_command
 use Rattle.register.specs.declared.counts.CountCommand.TheVariants as count_command
-use Rattle.register.specs.Phases.{phase_number}
-use Rattle.register.specs.Reasons.{first_reason, objection}
+use Rattle.register.specs.Reasons.{first_reason}
 use Rattle.register.specs.Ranges.{is_id}
 use Rattle.register.specs.Offices.{BatchEntry, CandidateEntry, LotEntry, OfficeState, ReceiptEntry, WardEntry, batch_at, candidates_of, changed, empty_office, entry_at, lot_cmp, lots_of, put}
 use Rattle.register.specs.Offices.{receipt_at, ward_at, ward_compared}
@@ -34,7 +33,6 @@ use Rattle.register.specs.Polls.{Pile, ballots_in, piles_of}
 use Rattle.register.specs.Elections.{ElectionEntry, contest_of, election_of, is_counted, is_declared, lot_pair, stages_of}
 use Rattle.register.specs.Items.{IsState}
 use Rattle.register.specs.Effects.{EffectEntry, at_stage, in_phase, lot_drawn, paper_judged, papers_keyed, stage_counted, third_set, ward_moved, with_effect, with_receipt}
-use Rattle.register.specs.Parts.{is_in_phase}
 use Rattle.register.specs.Batches.{next_round, ward_for}
 use Rattle.register.specs.Keyings.{papers_from, texts_of}
 use Rattle.register.specs.Verdicts.{judged_as}
@@ -45,55 +43,8 @@ use Rattle.register.proofs.ListLaws.{after_stays, empty_is_a_state}
 use Rattle.register.proofs.MachineLemmas.{advances, step_stays}
 use Rattle.register.proofs.MapLemmas.{changed_at, filter_put, filter_put_in, found_put_still, put_same}
 use Rattle.laws.specs.Sealed.{PhaseStays, SealedPapersStay, SealedWardsStay, StaysSealed}
+use Rattle.laws.proofs.ConditionLemmas.{IsBatchIn, IsThere, absent, batch_in, no_objection, there}
 use Rattle.laws.proofs.AwayLemmas.{IsOfBatch, candidates_added, candidates_withdrawn, papers_of_batch, piles_added, piles_kept, piles_reopened}
-
--- ---- what nothing stands against
-
--- where no reason is told, none stands at any place of the objections
-no_objection : (os : List (Option Reason)) → first_reason os ≡ None → (place : ℕ) → get_or os place None ≡ None
-no_objection [] none place = refl
-no_objection (None ∷ os) none zero = refl
-no_objection (None ∷ os) none (suc place) = no_objection os none place
-no_objection (Some why ∷ os) none place = absurd (cc)
-
-absent : {X : Type 0} (o : Option X) (why : Reason) → objection (is_some o) why ≡ None → o ≡ None
-absent (Some x) why none = absurd (cc)
-absent None why none = refl
-
--- two phases of one number are one
-one_phase : (p q : Phase) → (phase_number p == phase_number q) ≡ true → p ≡ q
-one_phase Nominations Nominations same = refl
-one_phase Keying Keying same = refl
-one_phase Sealed Sealed same = refl
-one_phase Declared Declared same = refl
-one_phase p q same = absurd (cc)
-
--- a ward that is there, in a phase
-record IsThere (phase : Phase) (found : Option WardEntry) : Type 0 where
-  ward : WardEntry
-  is : found ≡ Some ward
-  phased : ward.phase ≡ phase
-
-there : (phase : Phase) (found : Option WardEntry) (why : Reason) → objection (not (is_in_phase phase found)) why ≡ None → IsThere phase found
-there phase None why none = absurd (cc)
-there phase (Some w) why none = record { ward = w; is = refl; phased = one_phase w.phase phase (go (is_in_phase phase (Some w)) none) }
-  where
-    go : (b : Bool) → objection (not b) why ≡ None → b ≡ true
-    go true none = refl
-    go false none = absurd (cc)
-
--- a batch whose ward is there, in a phase
-record IsBatchIn (s : OfficeState) (phase : Phase) (n : ℕ) : Type 0 where
-  batch : BatchEntry
-  found : batch_at s n ≡ Some batch
-  its : IsThere phase (ward_at s batch.ward)
-
-batch_in : (s : OfficeState) (phase : Phase) (n : ℕ) → IsThere phase (ward_for s (batch_at s n)) → IsBatchIn s phase n
-batch_in s phase n = go (batch_at s n) refl
-  where
-    go : (o : Option BatchEntry) → batch_at s n ≡ o → IsThere phase (ward_for s o) → IsBatchIn s phase n
-    go None found its = absurd (let none = its.is in cc)
-    go (Some b) found its = record { batch = b; found = found; its = its }
 
 lot_total : IsTotalOrder lot_cmp
 lot_total = then_total (on_total (λ (l : LotEntry). l.ward) nat_cmp_total) (on_total (λ (l : LotEntry). l.stage) nat_cmp_total)

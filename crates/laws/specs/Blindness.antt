@@ -105,7 +105,8 @@ AlikeOfficesAnswerAlike = (clerk : ℕ) (s t : OfficeState) → is_office clerk 
 
 -- What a clerk sees after any requests follows from what they saw before and what they observed.
 abbrev pub SeenIsObserved : Type 0
-SeenIsObserved = (clerk : ℕ) (s : OfficeState) (rs : List Request) → is_office clerk ≡ false → IsState s → seen_by clerk (after s rs) ≡ seen_after clerk (seen_by clerk s) (observed_by clerk s rs)
+SeenIsObserved =
+    (clerk : ℕ) (s : OfficeState) (rs : List Request) → is_office clerk ≡ false → IsState s → seen_by clerk (after s rs) ≡ seen_after clerk (seen_by clerk s) (observed_by clerk s rs)
 
 -- So does what is decided on those of the requests that are the clerk's own.
 abbrev pub DecidedByObserved : Type 0

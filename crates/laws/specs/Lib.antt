@@ -1,3 +1,3 @@
--- What clerks hear of one another's requests, and what stays of a sealed ward.
+-- What clerks observe of requests, and what stays of a sealed ward.
 pub mod Blindness
 pub mod Sealed

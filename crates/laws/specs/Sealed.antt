@@ -10,15 +10,16 @@ use Rattle.register.specs.Elections.{election_of, is_counted, is_declared, stage
 use Rattle.register.specs.Items.{IsState}
 use Rattle.register.specs.Machine.{after}
 
--- a ward of a state that is past its keying: its nominations left no contest, or its papers were sealed
+-- a ward of a state that is past its keying
 pub record IsSealedIn (s : OfficeState) (w : WardEntry) : Type 0 where
   pub state : IsState s
   pub there : ward_at s w.number ≡ Some w
   pub sealed : is_counted w.phase ≡ true
 
--- A sealed ward in a later state. It has the number, the seats and the name that it had, and is sealed still. Its candidates are those that stood, and of
--- its papers the keyings and verdicts, the preferences of each valid paper and the numbers of rejected ones are as they were. The stages that were done
--- are the first ones, and more may be done; the lots that were drawn are there, and more may be drawn. If the ward was declared, nothing of it changed.
+-- A sealed ward at a later state. It is there, with its number, seats and name, and sealed still. Its candidates are the same; so are, of each of its
+-- batches, the keyings of the current round and the verdicts; and so is what they come to, the preferences of each valid paper and the numbers of rejected
+-- ones. The stages that were done are the first ones of those that are done, and the lots that were drawn are among those that are drawn. If the ward was
+-- declared, its election is the very same, with its result.
 pub record StaysSealed (s later : OfficeState) (w : WardEntry) : Type 0 where
   pub ward : WardEntry
   pub there : ward_at later w.number ≡ Some ward
@@ -37,14 +38,14 @@ pub record StaysSealed (s later : OfficeState) (w : WardEntry) : Type 0 where
 abbrev pub SealedWardsStay : Type 0
 SealedWardsStay = (s : OfficeState) (w : WardEntry) (requests : List Request) → IsSealedIn s w → StaysSealed s (after s requests) w
 
--- So the papers of a ward that is sealed after some requests are the same after whatever further ones.
+-- Where a ward is sealed after some requests, its papers come to the same after any further ones.
 abbrev pub SealedPapersStay : Type 0
 SealedPapersStay =
     (earlier further : List Request) (w : WardEntry) → ward_at (after empty_office earlier) w.number ≡ Some w → is_counted w.phase ≡ true
     → (ward : WardEntry) × (ward_at (after empty_office (earlier ++ further)) w.number ≡ Some ward)
     × ((election_of (after empty_office (earlier ++ further)) ward).ballots ≡ (election_of (after empty_office earlier) w).ballots)
 
--- A phase is such that each ward in it stays so, whatever requests come.
+-- Whatever requests come, each ward that is in this phase stays sealed.
 abbrev pub PhaseStays : Phase → Type 0
 PhaseStays phase =
     (s : OfficeState) (w : WardEntry) (requests : List Request) → IsState s → ward_at s w.number ≡ Some w → w.phase ≡ phase → StaysSealed s (after s requests) w

@@ -1,6 +1,8 @@
-//! Two laws of the machine over lists of requests: clerks are blind to one another, and the papers of a sealed ward stay.
+//! Laws of lists of requests: clerks are blind to one another, and a sealed ward stays.
 //!
-//! `register` decides one request; here stand the laws of whole lists. There is nothing to call but the laws, and no program stands on them.
+//! `register` says what one request makes of the state; here stands what follows for whole lists, in the presence of everybody
+//! who asks. No program stands on these laws. What decides here is `may_observe`, whether a clerk may observe a request, and
+//! `is_past_keying`, whether a ward's papers stay.
 #![tactic(auto)]
 
 mod blindness;
