@@ -16,10 +16,10 @@ pub record IsSealedIn (s : OfficeState) (w : WardEntry) : Type 0 where
   pub there : ward_at s w.number ≡ Some w
   pub sealed : is_counted w.phase ≡ true
 
--- A sealed ward at a later state. It is there, with its number, seats and name, and sealed still. Its candidates are the same; so are, of each of its
--- batches, the keyings of the current round and the verdicts; and so is what they come to, the preferences of each valid paper and the numbers of rejected
--- ones. The stages that were done are the first ones of those that are done, and the lots that were drawn are among those that are drawn. If the ward was
--- declared, its election is the very same, with its result.
+-- A sealed ward at a later state. It is there, with its number, seats and name, and sealed still. Its candidates are the same. So are the keyings of each
+-- of its batches in the current round, and the verdicts on their papers. So is what these come to: the preferences of each valid paper, and the numbers of
+-- rejected ones. The stages that were done are the first ones of those that are done. The lots that were drawn are among those that are drawn. If the ward
+-- was declared, its election is the very same, with its result.
 pub record StaysSealed (s later : OfficeState) (w : WardEntry) : Type 0 where
   pub ward : WardEntry
   pub there : ward_at later w.number ≡ Some ward
