@@ -124,8 +124,8 @@ pub record CannotTell (clerk : ℕ) (s t : OfficeState) (rs qs : List Request) :
   pub decided : own_rulings clerk s rs ≡ own_rulings clerk t qs
   pub alike : AreAlikeTo clerk (after s rs) (after t qs)
 
--- Two offices were alike to a clerk, and of the requests that came to each of them the clerk observed the same: then they can't tell the two apart, whatever
--- other clerks keyed in one and in the other.
+-- Two offices were alike to a clerk, and the clerk observed the same of the requests that came to each. Then they can't tell the two apart, whatever other
+-- clerks keyed in one and in the other.
 abbrev pub ClerksAreBlind : Type 0
 ClerksAreBlind =
     (clerk : ℕ) (s t : OfficeState) (rs qs : List Request) → is_office clerk ≡ false → IsState s → IsState t → AreAlikeTo clerk s t → observed_by clerk s rs ≡ observed_by clerk t qs

@@ -10,9 +10,9 @@ use register::Phase;
 /// papers: neither the keyings and verdicts, nor the preferences of a valid paper, nor how many are rejected by each code. It is
 /// never keyed again. Stages are only added to those counted, and lots to those drawn. Of a declared ward nothing changes.
 ///
-/// To a candidate this means: what was counted from is what the tellers had keyed and the returning officer had judged when the
-/// ward was sealed, and the result that was declared is the one that the office prints ever after. The law speaks of requests. It
-/// says nothing of what is done to the file by other means, nor of paper.
+/// To a candidate this means: the count rests on what the tellers had keyed, and the returning officer had judged, when the ward
+/// was sealed. The result that was declared stays. The law speaks of requests: it says nothing of what is done to the file by
+/// other means, nor of paper.
 pub fn sealed_wards_stay()
     ensures wards { SealedWardsStay }
     ensures papers { SealedPapersStay }
