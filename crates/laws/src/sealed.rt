@@ -7,8 +7,9 @@ ghost use Rattle.laws.specs.Sealed.{PhaseStays, SealedPapersStay, SealedWardsSta
 use register::Phase;
 
 /// The law of sealed papers, over lists of requests. Once a ward is sealed, no request changes its seats, its candidates or its
-/// papers: neither the keyings and verdicts, nor the preferences of a valid paper, nor how many are rejected by each code. It is
-/// never keyed again. Stages are only added to those counted, and lots to those drawn. Of a declared ward nothing changes.
+/// papers: neither the keyings of the current round and the verdicts, nor the preferences of a valid paper, nor how many are
+/// rejected by each code. It is never keyed again. Stages are only added to those counted, and lots to those drawn. Of a declared
+/// ward's election nothing changes.
 ///
 /// To a candidate this means: the count rests on what the tellers had keyed, and the returning officer had judged, when the ward
 /// was sealed. The result that was declared stays. The law speaks of requests: it says nothing of what is done to the file by
