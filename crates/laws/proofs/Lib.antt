@@ -1,0 +1,4 @@
+pub mod ObservationLemmas
+pub mod ConditionLemmas
+pub mod AwayLemmas
+pub mod SealedLemmas

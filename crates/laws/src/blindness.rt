@@ -1,0 +1,54 @@
+//! What a clerk may learn of what the others do.
+
+ghost use Rattle.std.specs.Prelude.{◌≡◌, false};
+ghost use Rattle.laws.specs.Blindness.{AlikeOfficesAnswerAlike, ClerksAreBlind, DecidedByObserved, IsUnobserved, OwnAreObserved, SeenIsAlike, SeenIsObserved};
+ghost use Rattle.laws.specs.Blindness.{is_shown_command, may_observe};
+
+use register::ranges::is_office;
+use register::{Command, CountCommand, Request};
+
+/// The law of blind keying, over lists of requests. A clerk *observes* their own requests, and of the office's the changes that
+/// clerks see: of wards, phases, candidates, batches, rounds and third clerks. They observe nothing of another clerk's request.
+///
+/// What a clerk sees after any requests, and what is decided on their own, follows from what they saw at first and what they
+/// observed. So take two offices that are alike to a clerk, and any requests to each. If the clerk observes the same of both, they
+/// get the same answers in both, and the two are alike to them in the end, whatever other clerks keyed.
+///
+/// To a teller this means: if your colleagues had keyed anything else, and the office had made the same changes all the same, you
+/// would have read the same, to the letter. The law doesn't say that the office's changes tell you nothing: a batch that is open
+/// again tells you that its keyings differed. Nor does it speak of faults, of how long an answer takes, of what is published of a
+/// sealed ward, or of a request that is turned away before it comes to the office.
+pub fn clerks_are_blind()
+    ensures itself { SeenIsAlike }
+    ensures alike { AlikeOfficesAnswerAlike }
+    ensures seen { SeenIsObserved }
+    ensures decided { DecidedByObserved }
+    ensures own { OwnAreObserved }
+    ensures blind { ClerksAreBlind }
+{}
+
+/// Returns whether clerks may see the change that a command of the office makes.
+fn is_shown(command: &Command) -> bool
+    ensures { result ≡ is_shown_command command.now }
+{
+    match command {
+        Command::Ward(_) => true,
+        Command::Candidate(_) => true,
+        Command::Batch(_) => true,
+        Command::Keying(_) => false,
+        Command::Verdict(_) => false,
+        Command::Count(CountCommand::Seal { .. }) => true,
+        Command::Count(CountCommand::Advance { .. }) => false,
+        Command::Count(CountCommand::Lot { .. }) => false,
+        Command::Count(CountCommand::Declare { .. }) => true,
+    }
+}
+
+/// Returns whether a clerk may observe a request: it is their own, or it is the office's, with a command whose change clerks may
+/// see. Of any other request a clerk observes nothing, at whatever state it comes.
+pub fn may_observe(clerk: u32, request: &Request) -> bool
+    ensures is { result ≡ may_observe clerk request.now }
+    ensures unobserved { result ≡ false → IsUnobserved clerk request.now }
+{
+    request.actor == clerk || (is_office(request.actor) && is_shown(&request.command))
+}
