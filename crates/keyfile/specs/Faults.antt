@@ -1,8 +1,9 @@
 -- The numbers and texts of the flaws of import files.
-use Rattle.std.specs.Prelude.{ℕ, List, [], ◌++◌, codes, Bool, true, false}
+use Rattle.std.specs.Prelude.{ℕ, List, [], ◌++◌, codes, Bool, true, false, Result, Ok, Err}
 use Rattle.std.specs.Fmt.{decimal}
 use Rattle.csv.specs.declared.error.ErrorKind.{ErrorKind}
 use Rattle.csv.specs.declared.error.ErrorKind.TheVariants as kind
+use Rattle.keyfile.specs.declared.fault.FileFault.{FileFault}
 use Rattle.keyfile.specs.declared.fault.Flaw.{Flaw}
 use Rattle.keyfile.specs.declared.fault.Flaw.TheVariants.{Header, RecordLength, Number, PaperOrder, Marks, NotUtf8, TooManyRecords, ReadFailed, Memory, OtherKeying, OtherFile}
 
@@ -39,6 +40,10 @@ abbrev pub flaw_text : Flaw → List ℕ
 flaw_text (OtherKeying batch clerk) = codes "the file is of batch " ++ (decimal batch ++ (codes ", clerk " ++ decimal clerk))
 flaw_text flaw = flaw_words flaw
 
+-- the fault in words: its number, the record and the flaw
+abbrev pub file_fault_text : FileFault → List ℕ
+file_fault_text fault = codes "file fault " ++ (decimal (flaw_number fault.flaw) ++ (codes " at record " ++ (decimal fault.record_number ++ (codes ": " ++ flaw_text fault.flaw))))
+
 -- what stands behind those first words, in three pieces: the batch that it names, what is between, and the clerk; nothing, where it names none
 abbrev pub flaw_batch : Flaw → List ℕ
 flaw_batch (OtherKeying batch clerk) = decimal batch
@@ -66,11 +71,30 @@ is_stop Memory = true
 is_stop (OtherKeying batch clerk) = false
 is_stop OtherFile = false
 
--- the flaw for an error of `csv`: `Io` is the one kind of an error of its reader
+-- whether a flaw is a failed read
+abbrev pub is_failed_read : Flaw → Bool
+is_failed_read Header = false
+is_failed_read RecordLength = false
+is_failed_read Number = false
+is_failed_read PaperOrder = false
+is_failed_read Marks = false
+is_failed_read NotUtf8 = false
+is_failed_read TooManyRecords = false
+is_failed_read ReadFailed = true
+is_failed_read Memory = false
+is_failed_read (OtherKeying batch clerk) = false
+is_failed_read OtherFile = false
+
+-- whether a result is that of a failed read
+abbrev pub tells_failed_read : {T : Type 0} → Result T FileFault → Bool
+tells_failed_read (Ok value) = false
+tells_failed_read (Err fault) = is_failed_read fault.flaw
+
+-- the flaw for an error of `csv` when no read failed: another length than the first record has, or out of memory
 abbrev pub flaw_of : ErrorKind → Flaw
 flaw_of (kind.UnequalLengths pos expected len) = RecordLength
 flaw_of kind.OutOfMemory = Memory
-flaw_of (kind.Io e) = ReadFailed
-flaw_of (kind.Utf8 pos err) = ReadFailed
-flaw_of (kind.Serialize text) = ReadFailed
-flaw_of (kind.Deserialize pos err) = ReadFailed
+flaw_of (kind.Io e) = Memory
+flaw_of (kind.Utf8 pos err) = Memory
+flaw_of (kind.Serialize text) = Memory
+flaw_of (kind.Deserialize pos err) = Memory

@@ -1,7 +1,16 @@
--- What is known of a reader's bytes.
-use Rattle.std.specs.Prelude.{ℕ, List, Option, Some, None, ⊤}
+-- What is known of a reader: its bytes, and whether its last read failed.
+use Rattle.std.specs.Prelude.{ℕ, Bool, List, Option, Some, None, ⊤}
+use Rattle.keyfile.specs.declared.watched.Watched.{Watched}
 
 -- P holds of a reader's bytes, where it says which it has
 abbrev pub Known : Option (List ℕ) → (List ℕ → Type 0) → Type 0
 Known None P = ⊤
 Known (Some bytes) P = P bytes
+
+-- the reader that is watched
+abbrev pub reader_of : {R : Type 0} → Watched R → R
+reader_of watched = watched.reader
+
+-- whether its last read failed
+abbrev pub last_failed : {R : Type 0} → Watched R → Bool
+last_failed watched = watched.failed

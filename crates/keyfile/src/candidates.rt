@@ -1,9 +1,10 @@
 //! The file of candidates, of one ward or several: `ward,candidate,name`.
 
-ghost use Rattle.std.specs.Prelude.{◌≡◌, ◌⊎◌, map, IfOk, IfErr, Ok, Err};
+ghost use Rattle.std.specs.Prelude.{◌≡◌, false, ◌⊎◌, map, IfOk, IfErr, Ok, Err};
 ghost use Rattle.keyfile.specs.Candidates.{CandidateEntry, candidate_entry, candidates, is_candidate_header, numbered};
 ghost use Rattle.keyfile.specs.Digests.{IsFaultBy, IsReadAs, asked_digest};
 ghost use Rattle.keyfile.specs.Files.{file_rows};
+ghost use Rattle.keyfile.specs.Faults.{is_failed_read};
 ghost use Rattle.paper.specs.Digits.{plain_number_in};
 ghost use Rattle.keyfile.specs.Reading.{Known};
 ghost use Rattle.keyfile.specs.Records.{file_records};
@@ -97,6 +98,7 @@ fn candidate_row(
 ) -> Result<CandidateRow, Flaw>
     ensures ok { IfOk result (λ row. numbered (plain_number_in ward.now) (plain_number_in candidate.now) name.now ≡ Ok (candidate_entry row)) }
     ensures err { IfErr result (λ flaw. (flaw ≡ Flaw.Memory) ⊎ (numbered (plain_number_in ward.now) (plain_number_in candidate.now) name.now ≡ Err flaw)) }
+    ensures file { IfErr result (λ flaw. is_failed_read flaw ≡ false) }
 {
     let (Some(ward), Some(candidate)) = (plain_number_in(ward), plain_number_in(candidate)) else {
         return Err(Flaw::Number);

@@ -3,14 +3,15 @@
 ghost use Rattle.std.specs.Prelude.{◌≡◌, ◌≢◌, ◌↔◌, ◌⊎◌, IsTrue, IfErr, IfOk, option_map, true};
 ghost use Rattle.sha2.specs.Sha256.{sha256};
 ghost use Rattle.keyfile.specs.Digests.{digest_bytes, digest_in};
-ghost use Rattle.keyfile.specs.Faults.{is_stop};
+ghost use Rattle.keyfile.specs.Faults.{is_stop, tells_failed_read};
 ghost use Rattle.keyfile.specs.Reading.{Known};
 
 use crate::fault::{FileFault, Flaw, at_record};
+use crate::watched::LastRead;
 use hex::FromHex;
 use sha2::{Digest, Sha256};
 use std::alloc::Global;
-use std::io::{ErrorKind, Read};
+use std::io::Read;
 
 /// A digest by SHA-256.
 #[derive(Clone, Copy, Debug)]
@@ -38,25 +39,28 @@ impl FileDigest {
     }
 }
 
-/// All bytes of a file, which have a digest; or why there are none: it is another file (`OtherFile`), or it can't be read
-/// (`ReadFailed`, `Memory`). The file is read to its end, however long it is, and all of it is kept.
-pub(crate) fn read_whole<R: Read + Drop>(
+/// Returns all bytes of a file, which have a digest; or why there are none: it is another file (`OtherFile`), its last read
+/// failed (`ReadFailed`), or memory ran out (`Memory`). The file is read to its end, however long it is, and all of it is kept.
+pub(crate) fn read_whole<R: Read + LastRead>(
     alloc: Global,
-    r: R,
+    file: &mut R,
     digest: FileDigest,
 ) -> Result<Vec<u8>, FileFault>
     ensures digest { IfOk result (λ bytes. sha256 bytes.items ≡ digest_bytes digest) }
-    ensures bytes { IfOk result (λ bytes. Known (R.remaining r) (λ own. own ≡ bytes.items)) }
+    ensures bytes { IfOk result (λ bytes. Known (R.remaining file.old) (λ own. own ≡ bytes.items)) }
     ensures start { IfErr result (λ fault. fault.record_number ≡ 0) }
-    ensures why { IfErr result (λ fault. (is_stop fault.flaw ≡ true) ⊎ ((fault.flaw ≡ Flaw.OtherFile) × Known (R.remaining r) (λ own. sha256 own ≢ digest_bytes digest))) }
+    ensures why { IfErr result (λ fault. (is_stop fault.flaw ≡ true) ⊎ ((fault.flaw ≡ Flaw.OtherFile) × Known (R.remaining file.old) (λ own. sha256 own ≢ digest_bytes digest))) }
+    ensures failed { tells_failed_read result ≡ R.failed file.new }
 {
-    let mut file = r;
     let mut bytes = Vec::new(alloc);
-    let read = match file.read_to_end(&mut bytes) {
+    let read = file.read_to_end(&mut bytes);
+    if file.has_failed() {
+        return at_record(0, Err(Flaw::ReadFailed));
+    }
+    let outcome = match read {
         Ok(_) if digest.is_of(&bytes) => Ok(bytes),
         Ok(_) => Err(Flaw::OtherFile),
-        Err(error) if error.kind() == ErrorKind::OutOfMemory => Err(Flaw::Memory),
-        Err(_) => Err(Flaw::ReadFailed),
+        Err(_) => Err(Flaw::Memory),
     };
-    at_record(0, read)
+    at_record(0, outcome)
 }

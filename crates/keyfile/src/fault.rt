@@ -5,12 +5,12 @@ ghost use Rattle.keyfile.specs.declared.fault.Flaw.TheVariants.{Memory};
 ghost use Rattle.keyfile.specs.Faults.{flaw_number, flaw_words};
 
 use std::alloc::AllocError;
-use thiserror::Error;
+use std::error::Error;
+use std::fmt;
 
 /// Why a record of an import file can't be taken. Of several the first in this order is reported: other file, other keying,
 /// header, record length, too many records, not UTF-8, number, paper order, marks.
-#[derive(Clone, Copy, Debug, PartialEq, Eq, Error)]
-#[error("{}", self.words())]
+#[derive(Clone, Copy, Debug, PartialEq, Eq)]
 pub enum Flaw {
     /// There is no record, or the first isn't the header. One that isn't UTF-8 is none, and names no keying.
     Header,
@@ -31,15 +31,13 @@ pub enum Flaw {
     /// Memory was wanting.
     Memory,
     /// The header names this batch and this clerk, and the keying is to be of another batch or by another clerk.
-    #[error("{}{batch}, clerk {clerk}", self.words())]
     OtherKeying { batch: u32, clerk: u32 },
     /// The file's bytes have another digest than the one that was asked for.
     OtherFile,
 }
 
 /// The fault for which an import file is refused.
-#[derive(Clone, Copy, Debug, PartialEq, Eq, Error)]
-#[error("file fault {} at record {record_number}: {flaw}", .flaw.number())]
+#[derive(Clone, Copy, Debug, PartialEq, Eq)]
 pub struct FileFault {
     pub flaw: Flaw,
     /// The record's number: 0 is the header. Of `ReadFailed` and `Memory` it is the record under way.
@@ -94,6 +92,45 @@ impl FileFault {
         self.flaw.number()
     }
 }
+
+impl fmt::Display for Flaw {
+    ghost use Rattle.std.specs.Prelude.{Some};
+    ghost use Rattle.keyfile.specs.Faults.{flaw_text};
+
+    ghost output = { λ flaw. Some (flaw_text flaw) };
+
+    fn fmt<W: fmt::Write>(&self, f: &mut fmt::Formatter<W>) -> fmt::Result {
+        match self {
+            Flaw::OtherKeying { batch, clerk } => {
+                write!(f, "{}{batch}, clerk {clerk}", self.words())
+            }
+            other => f.write_str(other.words()),
+        }
+    }
+}
+
+impl Error for Flaw {}
+
+impl fmt::Display for FileFault {
+    ghost use Rattle.std.specs.Prelude.{Some};
+    ghost use Rattle.keyfile.specs.Faults.{file_fault_text};
+
+    ghost output = { λ fault. Some (file_fault_text fault) };
+
+    fn fmt<W: fmt::Write>(&self, f: &mut fmt::Formatter<W>) -> fmt::Result {
+        let FileFault {
+            flaw,
+            record_number,
+        } = self;
+        write!(
+            f,
+            "file fault {} at record {record_number}: {flaw}",
+            flaw.number()
+        )
+    }
+}
+
+impl Error for FileFault {}
 
 impl From<AllocError> for Flaw {
     ghost from_gives = { λ _ flaw. flaw ≡ Memory };

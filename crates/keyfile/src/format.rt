@@ -1,7 +1,9 @@
 //! What an import file holds, and how it is read whole.
 
-ghost use Rattle.std.specs.Prelude.{◌≡◌, ◌∷◌, ◌++◌, ◌+◌, ◌-◌, ◌^◌, ◌<◌, ◌≤◌, ◌⊎◌, [], List, Option, Some, None, ℕ, map, IfOk, IfErr, IfSome, IfNone, Ok, Err, OnOk};
+ghost use Rattle.std.specs.Prelude.{◌≡◌, false, ◌∷◌, ◌++◌, ◌+◌, ◌-◌, ◌^◌, ◌<◌, ◌≤◌, ◌⊎◌, [], List, Option, Some, None, ℕ, map, IfOk, IfErr, IfSome, IfNone, Ok, Err, OnOk};
+ghost use Rattle.csv.specs.Reading.{reader_source};
 ghost use Rattle.csv.specs.Records.{fields_of};
+ghost use Rattle.keyfile.specs.Faults.{is_failed_read, tells_failed_read};
 ghost use Rattle.keyfile.specs.Digests.{IsFaultBy, IsReadAs, asked_digest};
 ghost use Rattle.keyfile.specs.Files.{Format, IsFaultOf, file_rows, read_as_text, text_header_flaw};
 ghost use Rattle.keyfile.specs.Inside.{IsAfter, StandsAt};
@@ -12,6 +14,7 @@ use crate::digest::{FileDigest, read_whole};
 use crate::fault::{FileFault, Flaw, at_record};
 use crate::fields::texts;
 use crate::records::{next_record, open};
+use crate::watched::{LastRead, Watched};
 use csv::{ByteRecord, Reader};
 use std::alloc::Global;
 use std::io::Read;
@@ -34,12 +37,14 @@ pub(crate) trait FileFormat {
 
     /// What is wrong with the fields of the first record as a header, if anything is.
     fn header_flaw(&self, fields: &[&str]) -> Option<Flaw>
-        ensures { result ≡ (format self.now).header_flaw (map (λ f. f.now) fields.now) };
+        ensures is { result ≡ (format self.now).header_flaw (map (λ f. f.now) fields.now) }
+        ensures file { IfSome result (λ flaw. is_failed_read flaw ≡ false) };
 
     /// The row of a record of some number, or the first of its flaws; `Memory` where it is wanting.
     fn read(&self, alloc: Global, number: u32, fields: &[&str]) -> Result<Self::Row, Flaw>
         ensures ok { IfOk result (λ row. (format self.now).read number (map (λ f. f.now) fields.now) ≡ Ok (entry row)) }
-        ensures err { IfErr result (λ flaw. (flaw ≡ Flaw.Memory) ⊎ ((format self.now).read number (map (λ f. f.now) fields.now) ≡ Err flaw)) };
+        ensures err { IfErr result (λ flaw. (flaw ≡ Flaw.Memory) ⊎ ((format self.now).read number (map (λ f. f.now) fields.now) ≡ Err flaw)) }
+        ensures file { IfErr result (λ flaw. is_failed_read flaw ≡ false) };
 }
 
 /// The rows of a file, or its fault. Where a digest is asked for, its bytes are read first, and have it.
@@ -52,30 +57,36 @@ pub(crate) fn read_file<R: Read + Drop, F: FileFormat>(
     ensures rows { IfOk result (λ rows. IsReadAs (asked_digest digest) (R.remaining r) (λ bytes. file_rows (F.format format.now) (file_records bytes) ≡ Ok (map F.entry rows.items))) }
     ensures fault { IfErr result (λ fault. Known (R.remaining r) (λ bytes. IsFaultBy (asked_digest digest) (F.format format.now) bytes fault)) }
 {
+    let mut file = Watched::new(r);
     match digest {
         Some(digest) => {
-            let bytes = read_whole(alloc, r, digest)?;
-            read_rows(alloc, bytes.as_slice(), format)
+            let bytes = read_whole(alloc, &mut file, digest)?;
+            let mut file = open(alloc, Watched::new(bytes.as_slice()));
+            read_rows(alloc, &mut file, format)
         }
-        None => read_rows(alloc, r, format),
+        None => {
+            let mut file = open(alloc, file);
+            read_rows(alloc, &mut file, format)
+        }
     }
 }
 
-/// The rows of a file, or its fault.
-fn read_rows<R: Read + Drop, F: FileFormat>(
+/// Returns the rows of a file that was just opened, or its fault. It is `ReadFailed` exactly if the file's last read failed.
+fn read_rows<R: Read + LastRead + Drop, F: FileFormat>(
     alloc: Global,
-    r: R,
+    file: &mut Reader<R>,
     format: &F,
 ) -> Result<Vec<F::Row>, FileFault>
-    ensures rows { IfOk result (λ rows. Known (R.remaining r) (λ bytes. file_rows (F.format format.now) (file_records bytes) ≡ Ok (map F.entry rows.items))) }
-    ensures fault { IfErr result (λ fault. Known (R.remaining r) (λ bytes. IsFaultOf (F.format format.now) (file_records bytes) fault)) }
+    requires { IsAfter R.remaining (R.remaining (reader_source file.old)) [] file.old }
+    ensures rows { IfOk result (λ rows. Known (R.remaining (reader_source file.old)) (λ bytes. file_rows (F.format format.now) (file_records bytes) ≡ Ok (map F.entry rows.items))) }
+    ensures fault { IfErr result (λ fault. Known (R.remaining (reader_source file.old)) (λ bytes. IsFaultOf (F.format format.now) (file_records bytes) fault)) }
+    ensures failed { tells_failed_read result ≡ R.failed (reader_source file.new) }
 {
-    let mut file = open(alloc, r);
-    read_header(alloc, &mut file, format)?;
+    read_header(alloc, file, format)?;
     let most = format.most();
     let mut rows = Vec::new(alloc);
     for number in 1..most + 1 {
-        let Some(row) = next_row(alloc, &mut file, format, number)? else {
+        let Some(row) = next_row(alloc, file, format, number)? else {
             return Ok(rows);
         };
         if rows.push(row).is_err() {
@@ -85,12 +96,12 @@ fn read_rows<R: Read + Drop, F: FileFormat>(
             });
         }
     }
-    check_end(alloc, &mut file, format, most + 1)?;
+    check_end(alloc, file, format, most + 1)?;
     Ok(rows)
 }
 
 /// Reads the first record, which must be the header.
-fn read_header<R: Read + Drop, F: FileFormat>(
+fn read_header<R: Read + LastRead + Drop, F: FileFormat>(
     alloc: Global,
     file: &mut Reader<R>,
     format: &F,
@@ -99,6 +110,7 @@ fn read_header<R: Read + Drop, F: FileFormat>(
         → OnOk result (StandsAt R.remaining bytes (F.format format.now) 1 [] file.new) }
     ensures err { (bytes : Option (List ℕ)) → IsAfter R.remaining bytes [] file.old
         → IfErr result (λ fault. Known bytes (λ xs. IsFaultOf (F.format format.now) (file_records xs) fault)) }
+    ensures failed { tells_failed_read result ≡ R.failed (reader_source file.new) }
 {
     match next_record(alloc, file, 0)? {
         Some(raw) => at_record(0, check_header(alloc, &raw, format)),
@@ -113,6 +125,7 @@ fn read_header<R: Read + Drop, F: FileFormat>(
 fn check_header<F: FileFormat>(alloc: Global, raw: &ByteRecord, format: &F) -> Result<(), Flaw>
     ensures ok { OnOk result (text_header_flaw (F.format format.now) (fields_of raw.now) ≡ None) }
     ensures err { IfErr result (λ flaw. (flaw ≡ Flaw.Memory) ⊎ (text_header_flaw (F.format format.now) (fields_of raw.now) ≡ Some flaw)) }
+    ensures file { IfErr result (λ flaw. is_failed_read flaw ≡ false) }
 {
     let fields = match texts(alloc, raw) {
         Ok(fields) => fields,
@@ -126,7 +139,7 @@ fn check_header<F: FileFormat>(alloc: Global, raw: &ByteRecord, format: &F) -> R
 }
 
 /// The row of the record of some number, or none at the end of the file.
-fn next_row<R: Read + Drop, F: FileFormat>(
+fn next_row<R: Read + LastRead + Drop, F: FileFormat>(
     alloc: Global,
     file: &mut Reader<R>,
     format: &F,
@@ -139,6 +152,7 @@ fn next_row<R: Read + Drop, F: FileFormat>(
         → IfOk result (λ o. IfNone o (Known bytes (λ xs. file_rows (F.format format.now) (file_records xs) ≡ Ok rows))) }
     ensures err { (bytes : Option (List ℕ)) (rows : List F.Entry) → StandsAt R.remaining bytes (F.format format.now) number rows file.old
         → IfErr result (λ fault. Known bytes (λ xs. IsFaultOf (F.format format.now) (file_records xs) fault)) }
+    ensures failed { tells_failed_read result ≡ R.failed (reader_source file.new) }
 {
     match next_record(alloc, file, number)? {
         Some(raw) => Ok(Some(at_record(number, row_of(alloc, format, number, &raw))?)),
@@ -155,13 +169,14 @@ fn row_of<F: FileFormat>(
 ) -> Result<F::Row, Flaw>
     ensures ok { IfOk result (λ row. read_as_text (F.format format.now) number (fields_of raw.now) ≡ Ok (F.entry row)) }
     ensures err { IfErr result (λ flaw. (flaw ≡ Flaw.Memory) ⊎ (read_as_text (F.format format.now) number (fields_of raw.now) ≡ Err flaw)) }
+    ensures file { IfErr result (λ flaw. is_failed_read flaw ≡ false) }
 {
     let fields = texts(alloc, raw)?;
     format.read(alloc, number, &fields)
 }
 
 /// Makes sure that the file has ended before the record of some number, the first past the limit.
-fn check_end<R: Read + Drop, F: FileFormat>(
+fn check_end<R: Read + LastRead + Drop, F: FileFormat>(
     alloc: Global,
     file: &mut Reader<R>,
     format: &F,
@@ -172,6 +187,7 @@ fn check_end<R: Read + Drop, F: FileFormat>(
         → OnOk result (Known bytes (λ xs. file_rows (F.format format.now) (file_records xs) ≡ Ok rows)) }
     ensures err { (bytes : Option (List ℕ)) (rows : List F.Entry) → StandsAt R.remaining bytes (F.format format.now) number rows file.old
         → IfErr result (λ fault. Known bytes (λ xs. IsFaultOf (F.format format.now) (file_records xs) fault)) }
+    ensures failed { tells_failed_read result ≡ R.failed (reader_source file.new) }
 {
     match next_record(alloc, file, number)? {
         None => Ok(()),

@@ -1,7 +1,8 @@
 //! The first field of a keying's header: `paper`, or `paper 12/4`, of batch 12 by clerk 4.
 
-ghost use Rattle.std.specs.Prelude.{◌≡◌, ◌==◌, ◌<◌};
+ghost use Rattle.std.specs.Prelude.{◌≡◌, false, IfSome, ◌==◌, ◌<◌};
 ghost use Rattle.std.specs.List.{after_first, before_first};
+ghost use Rattle.keyfile.specs.Faults.{is_failed_read};
 ghost use Rattle.keyfile.specs.Headers.{first_field_flaw, in_range, named_in};
 
 use crate::fault::Flaw;
@@ -55,7 +56,8 @@ fn named_in(field: &str) -> Option<(u32, u32)>
 /// What is wrong with the first field of a keying of a batch by a clerk, if anything is. It is `Header` where the field is
 /// neither `paper` nor names a batch and a clerk in their ranges. It is `OtherKeying` where the field names others than these.
 pub(crate) fn first_field_flaw(field: &str, batch: u32, clerk: u32) -> Option<Flaw>
-    ensures { result ≡ first_field_flaw batch clerk field.now }
+    ensures is { result ≡ first_field_flaw batch clerk field.now }
+    ensures file { IfSome result (λ flaw. is_failed_read flaw ≡ false) }
 {
     if field == "paper" {
         return None;

@@ -1,7 +1,8 @@
 //! The file of a clerk's keying of a batch: `paper` and the candidates' numbers, then the papers.
 
-ghost use Rattle.std.specs.Prelude.{◌≡◌, ◌++◌, ◌==◌, List, ℕ, length, map, IfOk, IfErr, OnOk, Ok, Err, string_bytes};
+ghost use Rattle.std.specs.Prelude.{◌≡◌, false, ◌++◌, ◌==◌, List, ℕ, length, map, IfOk, IfErr, OnOk, Ok, Err, string_bytes};
 ghost use Rattle.std.specs.List.{join_with_byte, list_all, list_any};
+ghost use Rattle.keyfile.specs.Faults.{is_failed_read};
 ghost use Rattle.keyfile.specs.Digests.{IsFaultBy, IsReadAs, asked_digest};
 ghost use Rattle.keyfile.specs.Files.{file_rows};
 ghost use Rattle.keyfile.specs.Keying.{AreReadAsKeyed, are_columns, breaks_marks, field_text, is_doubtful, keying, marks_text, of_number};
@@ -117,6 +118,7 @@ fn are_columns(texts: &[&str], columns: &[u8]) -> bool
 fn check_paper(number: u32, paper: &str, marks: &[&str]) -> Result<(), Flaw>
     ensures ok { OnOk result (of_number number (plain_number_in paper.now) (map (λ t. t.now) marks.now) ≡ Ok (marks_text (map (λ t. t.now) marks.now))) }
     ensures err { IfErr result (λ flaw. of_number number (plain_number_in paper.now) (map (λ t. t.now) marks.now) ≡ Err flaw) }
+    ensures file { IfErr result (λ flaw. is_failed_read flaw ≡ false) }
 {
     match plain_number_in(paper) {
         None => Err(Flaw::Number),

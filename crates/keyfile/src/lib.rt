@@ -21,6 +21,7 @@ mod format;
 mod header;
 mod keying;
 mod records;
+mod watched;
 
 pub use candidates::{CandidateRow, read_candidates};
 pub use digest::FileDigest;

@@ -1,14 +1,15 @@
 //! The records of an import file, one at a time.
 
-ghost use Rattle.std.specs.Prelude.{◌≡◌, ◌∷◌, ◌++◌, [], List, Option, ℕ, length, IfOk, IfErr, IfSome, IfNone};
-ghost use Rattle.csv.specs.Reading.{error_kind};
+ghost use Rattle.std.specs.Prelude.{◌≡◌, false, ◌∷◌, ◌++◌, [], List, Option, ℕ, length, IfOk, IfErr, IfSome, IfNone};
+ghost use Rattle.csv.specs.Reading.{error_kind, reader_source};
 ghost use Rattle.csv.specs.Records.{fields_of};
-ghost use Rattle.keyfile.specs.Faults.{flaw_of};
+ghost use Rattle.keyfile.specs.Faults.{flaw_of, is_failed_read, tells_failed_read};
 ghost use Rattle.keyfile.specs.Inside.{EndsBefore, IsAfter, IsNext};
 ghost use Rattle.keyfile.specs.Reading.{Known};
 ghost use Rattle.keyfile.specs.Records.{Record, file_records};
 
 use crate::fault::{FileFault, Flaw};
+use crate::watched::LastRead;
 use csv::{ByteRecord, Error, ErrorKind, Reader, ReaderBuilder};
 use std::alloc::Global;
 use std::io::Read;
@@ -16,26 +17,27 @@ use std::io::Read;
 /// A file at its beginning. Its first record is one like the others; `csv` holds each record to its
 /// length.
 pub(crate) fn open<R: Read + Drop>(alloc: Global, r: R) -> Reader<R>
-    ensures { IsAfter R.remaining (R.remaining r) [] result }
+    ensures opened { IsAfter R.remaining (R.remaining (reader_source result)) [] result }
+    ensures reader { reader_source result ≡ r }
 {
     ReaderBuilder::new()
         .has_headers(false)
         .from_reader(alloc, r)
 }
 
-/// The flaw for an error of `csv`: a failed read only where its reader failed.
+/// Returns the flaw for an error of `csv` when no read failed.
 fn flaw_of(error: &Error) -> Flaw
-    ensures { result ≡ flaw_of (error_kind error.now) }
+    ensures flaw { result ≡ flaw_of (error_kind error.now) }
+    ensures file { is_failed_read result ≡ false }
 {
     match error.kind() {
         ErrorKind::UnequalLengths { .. } => Flaw::RecordLength,
-        ErrorKind::OutOfMemory => Flaw::Memory,
-        _ => Flaw::ReadFailed,
+        _ => Flaw::Memory,
     }
 }
 
-/// The next record, of that number, or none at the end of the file.
-pub(crate) fn next_record<R: Read + Drop>(
+/// Returns the next record, of that number, or none at the end of the file. It is `ReadFailed` exactly if the file's last read failed.
+pub(crate) fn next_record<R: Read + LastRead + Drop>(
     alloc: Global,
     file: &mut Reader<R>,
     number: u32,
@@ -46,9 +48,17 @@ pub(crate) fn next_record<R: Read + Drop>(
         → IfOk result (λ o. IfNone o (Known bytes (λ xs. file_records xs ≡ records))) }
     ensures err { (bytes : Option (List ℕ)) (records : List Record) → IsAfter R.remaining bytes records file.old
         → IfErr result (λ fault. (fault.record_number ≡ number) × EndsBefore bytes records fault.flaw) }
+    ensures failed { tells_failed_read result ≡ R.failed (reader_source file.new) }
 {
     let mut raw = ByteRecord::new(alloc);
-    match file.read_byte_record(&mut raw) {
+    let read = file.read_byte_record(&mut raw);
+    if file.get_ref().has_failed() {
+        return Err(FileFault {
+            flaw: Flaw::ReadFailed,
+            record_number: number,
+        });
+    }
+    match read {
         Ok(true) => Ok(Some(raw)),
         Ok(false) => Ok(None),
         Err(error) => Err(FileFault {

@@ -3,8 +3,8 @@ use Rattle.std.proofs.Common.{inr, ◌∙◌}
 use Rattle.keyfile.proofs.ReadLemmas.{opened}
 use Rattle.keyfile.proofs.records.open.Goals as goal
 
-pub returns : goal.returns
-returns g c =
+pub returns-clause-opened : goal.returns-clause-opened
+returns-clause-opened g c =
     let made = c.from_reader.ensures in
     let e = c.has_headers.ensures in
     record {
@@ -14,5 +14,5 @@ returns g c =
       strict = rw e at made.flexible ∙ c.new.ensures.flexible;
       goes = made.fresh;
       length = made.expected;
-      follows = rw made.source (opened (g.R.Read.remaining c.args.r) c.from_reader.result.state made.state);
+      follows = rw (made.source, made.rdr) (opened (g.R.Read.remaining c.args.r) c.from_reader.result.state made.state);
     }
