@@ -7,6 +7,7 @@ ghost use Rattle.keying_page.specs.declared.TheConstants.{POLICY};
 use crate::Place;
 use crate::aside::Machine;
 use crate::beside::{Beside, closed_streams, reason_of};
+use crate::presence::Presence;
 use crate::slips::{read_codes, tell_untaken};
 use codes::{Codes, ReadError, Tries};
 use desk::{Failure, tell_failure};
@@ -124,9 +125,12 @@ fn serve_at<S: Alter>(
         },
         file: FileNumbers { device, inode },
     };
+    let Some(presence) = Presence::of(rt, place.found, place.held) else {
+        return Err(Failure::FileGone);
+    };
     let aside = Machine {
         rt,
-        office: place.path,
+        presence: &presence,
     };
     let most = serving.connections.map(u64::from);
     match serve_hall(
