@@ -1,2 +1,3 @@
 -- What the program hands on.
 pub mod Done
+pub mod Screens

@@ -4,6 +4,7 @@
 ghost use Rattle.std.specs.Prelude.{◌-◌, ◌<◌};
 
 use crate::copies::copy_served;
+use crate::presence::Presence;
 use desk::{Failure, journal_open, tell_failure};
 use hall::Aside;
 use office::Office;
@@ -12,11 +13,11 @@ use std::alloc::{AllocError, Global};
 use store::Fault;
 use votes::Sink;
 
-/// This machine, and the path of the office that is served.
+/// This machine, and the files of the office that is served.
 #[derive(Clone, Copy)]
 pub struct Machine<'a> {
     pub rt: &'a HostRuntime,
-    pub office: &'a str,
+    pub presence: &'a Presence<'a>,
 }
 
 /// A path as it is seen from a folder.
@@ -37,7 +38,7 @@ impl Aside for Machine<'_> {
         err: &mut E,
     ) -> u8 {
         match path_from(self.rt.alloc(), folder, path) {
-            Ok(path) => copy_served(self.rt, office, self.office, path.as_str(), out, err),
+            Ok(path) => copy_served(self.rt, office, path.as_str(), out, err),
             Err(AllocError) => tell_failure(Failure::Office(Fault::Memory), err),
         }
     }

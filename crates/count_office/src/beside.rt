@@ -26,6 +26,12 @@ const LAST_STREAM: i32 = 2;
 /// How many orders may wait to be let in.
 const QUEUE: i32 = 128;
 
+/// Whether a database belongs to the account that this program runs under. The socket that root would make beside another's database
+/// could be used by root alone; and if its owner could use it, he would have orders done with root's rights.
+fn is_own(rt: &HostRuntime, database: &str) -> io::Result<bool> {
+    Ok(fs::metadata(rt, database)?.uid() == libc::geteuid())
+}
+
 /// The socket of a database that is served.
 #[derive(Drop)]
 pub struct Beside {
@@ -66,6 +72,7 @@ pub fn reason_of(error: &io::Error) -> &'static str {
     match error.kind() {
         ErrorKind::AlreadyExists => "something else is at its path, or somebody else's",
         ErrorKind::InvalidInput => "its path is too long",
+        ErrorKind::Unsupported => "the database belongs to another account",
         ErrorKind::PermissionDenied => "its folder can't be written",
         _ => "it can't be made",
     }
@@ -76,6 +83,9 @@ impl Beside {
     ///
     /// The file of a socket gets the rights that its descriptor has as it is bound, and nobody can connect before it listens.
     pub fn listen(rt: &HostRuntime, database: &str) -> io::Result<(Beside, UnixListener)> {
+        if !is_own(rt, database)? {
+            return Err(ErrorKind::Unsupported.into());
+        }
         let path = path_of(rt, database)?;
         if mode_at(rt, database, path.as_str())?.is_some() {
             fs::remove_file(rt, path.as_str())?;
@@ -115,6 +125,11 @@ pub fn closed_streams(rt: &HostRuntime) -> io::Result<Vec<File>> {
         held.push(nothing)?;
     }
     Ok(held)
+}
+
+/// Whether somebody serves a database. The connection is closed at once.
+pub fn is_served(rt: &HostRuntime, database: &str) -> bool {
+    reach(rt, database).is_some()
 }
 
 /// Reaches the office that serves a database; none, where nobody serves it.

@@ -25,7 +25,6 @@ use votes::Sink;
 pub fn copy<S: Alter, O: Sink, E: Sink>(
     rt: &HostRuntime,
     mut conn: Connection<S>,
-    office: &str,
     path: &str,
     out: &mut O,
     err: &mut E,
@@ -34,7 +33,7 @@ pub fn copy<S: Alter, O: Sink, E: Sink>(
     requires err { E.failed err.old < 2 ^ 64 - 1 }
     ensures { OnlyReads (state S.Store conn) (state S.Store result.1) }
 {
-    let fresh = match Fresh::make(rt, office, path) {
+    let fresh = match Fresh::make(rt, path) {
         Ok(fresh) => fresh,
         Err(failure) => return (tell_failure(failure, err), conn),
     };
@@ -142,12 +141,10 @@ fn fill_open<S: Alter, D: Disk + Drop, O: Sink, E: Sink>(
     finish(rt, fresh, made, status, state, err)
 }
 
-/// Makes a copy of the open office whose database is at a path; the copy comes to
-/// another path, where there is nothing yet. The office goes on, and is only read.
+/// Makes a copy of the open office at a path where there is nothing yet. The office goes on, and is only read.
 pub fn copy_served<S: Alter, O: Sink, E: Sink>(
     rt: &HostRuntime,
     office: &mut Office<S>,
-    database: &str,
     path: &str,
     out: &mut O,
     err: &mut E,
@@ -159,7 +156,7 @@ pub fn copy_served<S: Alter, O: Sink, E: Sink>(
     ensures stays { WhenOpenAt (state S.Store) office.old office.new (λ s. IsReadAt s office.new.closed (state S.Store office.new.held)) }
     ensures clean { HasCleanDisk (state S.Store office.new.held) → HasCleanDisk (state S.Store office.old.held) }
 {
-    let fresh = match Fresh::make(rt, database, path) {
+    let fresh = match Fresh::make(rt, path) {
         Ok(fresh) => fresh,
         Err(failure) => return tell_failure(failure, err),
     };

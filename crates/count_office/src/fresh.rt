@@ -1,11 +1,10 @@
 //! The file of a copy, made where there is nothing yet, and removed again where no copy came of it.
 
 use crate::held::Held;
-use crate::traces::{LOG_ENDINGS, MIN_OFFICE, is_no_file, length_at};
+use crate::traces::{LOG_ENDINGS, MIN_OFFICE, RIGHTS, is_no_file, length_at};
 use desk::Failure;
 use std::fs;
 use std::io::{self, ErrorKind};
-use std::os::unix::fs::PermissionsExt;
 use store::Fault;
 
 /// The file of a copy, which was made here and is held from then on, and its log, which `sqlite` makes with the rights of
@@ -38,51 +37,29 @@ fn has_no_log(rt: &HostRuntime, path: &str, ending: &str) -> Result<(), Failure>
     }
 }
 
-/// The rights of the office's file.
-fn rights_of(rt: &HostRuntime, office: &str) -> Result<u32, Failure> {
-    match fs::metadata(rt, office) {
-        Ok(found) => Ok(found.permissions().mode()),
-        Err(error) => Err(failure_of(&error)),
-    }
-}
-
 impl Fresh {
-    /// Makes the file of a copy at a path where there is nothing, not even a link, with the rights of the office's
-    /// file, for those alone whom they name. Where something is there already (`CopyTaken`), or it can't be made, nothing
-    /// is left. A name that `sqlite` takes for a log or for no file is none.
-    pub fn make(rt: &HostRuntime, office: &str, path: &str) -> Result<Fresh, Failure> {
+    /// Makes the file of a copy at a path where there is nothing, not even a link, with rights for its owner alone. If
+    /// something is there already (`CopyTaken`), or the file can't be made, nothing is left. A name that `sqlite` takes for a log or for no
+    /// file is none.
+    pub fn make(rt: &HostRuntime, path: &str) -> Result<Fresh, Failure> {
         if is_no_file(path) || LOG_ENDINGS.iter().any(|ending| path.ends_with(*ending)) {
             return Err(Failure::CopyFailed);
         }
         for ending in LOG_ENDINGS {
             has_no_log(rt, path, ending)?;
         }
-        let mode = rights_of(rt, office)?;
         let (Ok(database), Ok(log)) = (
             String::from_str(rt.alloc(), path),
             format!(in rt.alloc(); "{path}-wal"),
         ) else {
             return Err(Failure::Office(Fault::Memory));
         };
-        let held = Held::make(rt, path, mode).map_err(|error| failure_of(&error))?;
-        let fresh = Fresh {
+        let held = Held::make(rt, path, RIGHTS).map_err(|error| failure_of(&error))?;
+        Ok(Fresh {
             database,
             log,
             held,
-        };
-        fresh.give_rights(rt, mode)?;
-        Ok(fresh)
-    }
-
-    /// Gives the file its rights: it is made with no more than the system's mask lets.
-    fn give_rights(&self, rt: &HostRuntime, mode: u32) -> Result<(), Failure> {
-        match self.held.set_mode(mode) {
-            Ok(()) => Ok(()),
-            Err(error) => {
-                self.clear(rt);
-                Err(failure_of(&error))
-            }
-        }
+        })
     }
 
     /// Whether both are too short for an office, as `sqlite` makes them where it opens them: then no other program has made an

@@ -1,23 +1,20 @@
-//! An order on a database that another program serves. It is handed over to that program, and what comes of it is printed as it comes.
+//! An order on a database that another program serves. It is handed over to that program, and the reply is printed as it comes.
 
-ghost use Rattle.std.specs.Prelude.{◌≡◌, ◌≢◌, ◌-◌, ◌^◌, ◌<◌, Err, None, IfOk, IfSome, OnErr};
+ghost use Rattle.std.specs.Prelude.{◌≡◌, ◌≢◌, ◌-◌, ◌^◌, ◌<◌, Err, IfOk, IfSome, OnErr};
 ghost use Rattle.handover.specs.Spelling.{PieceFits, PiecesFit, piece_entries, piece_entry};
 
 use crate::beside;
+use crate::parcel::{MAX_MESSAGE, Parcel, Part};
 use desk::version::VERSION;
-use desk::{Failure, Job, Order, Task, files_named_in, tell_failure};
+use desk::{Failure, tell_failure};
 use handover::{Handed, Piece, write};
 use std::alloc::{AllocError, Global};
-use std::env;
-use std::fs::{self, File};
-use std::io::{self, Read, Write};
+use std::io::{self, ErrorKind, Read, Write};
 use std::os::unix::fs::MetadataExt;
 use std::os::unix::net::UnixStream;
+use std::{env, fs};
 use store::Fault;
 use votes::{Sink, put_all};
-
-/// The longest message that whoever serves hears.
-const MAX_MESSAGE: usize = 32 << 20;
 
 /// The most bytes of a frame that are read at once.
 const CHUNK: usize = 8192;
@@ -26,91 +23,6 @@ const CHUNK: usize = 8192;
 const SAID: u8 = 1;
 
 const OVER: u8 = 2;
-
-/// A word of an order; or a file that it names, with its bytes, or without where it can't be read.
-#[derive(Drop)]
-struct Part {
-    name: String,
-    bytes: Option<Vec<u8>>,
-}
-
-/// The words of an order, and the files that it reads.
-#[derive(Drop)]
-struct Parcel {
-    words: Vec<Part>,
-    files: Vec<Part>,
-}
-
-/// The bytes of a file, no more of them than a message may have and one; none, where it can't be read.
-fn bytes_at(rt: &HostRuntime, path: &str) -> Option<Vec<u8>> {
-    let file = File::open(rt, path).ok()?;
-    let mut bytes = Vec::new(rt.alloc());
-    file.take(MAX_MESSAGE as u64 + 1)
-        .read_to_end(&mut bytes)
-        .ok()?;
-    Some(bytes)
-}
-
-/// Reads the file at a path, unless it was read before.
-fn bring(rt: &HostRuntime, files: &mut Vec<Part>, path: &str) -> Result<(), AllocError> {
-    if files.iter().any(|file| file.name.as_str() == path) {
-        return Ok(());
-    }
-    let bytes = bytes_at(rt, path);
-    let name = String::from_str(rt.alloc(), path)?;
-    files.push(Part { name, bytes })?;
-    Ok(())
-}
-
-/// The paths that the script names which was read first.
-fn named_by(alloc: Global, files: &[Part]) -> Result<Vec<String>, AllocError> {
-    match files.first() {
-        Some(
-            Part {
-                bytes: Some(script),
-                ..
-            },
-        ) => files_named_in(alloc, script),
-        _ => Ok(Vec::new(alloc)),
-    }
-}
-
-/// The files that an order reads, each read once: its own, and for a script those that its lines name.
-fn files_of(rt: &HostRuntime, order: &Order<'_>) -> Result<Vec<Part>, AllocError> {
-    let mut files = Vec::new(rt.alloc());
-    let Order::Perform(task) = order else {
-        return Ok(files);
-    };
-    if let Some(path) = task.file() {
-        bring(rt, &mut files, path)?;
-    }
-    if let Task::InOffice(Job::Replay { .. }) = task {
-        for path in named_by(rt.alloc(), &files)? {
-            bring(rt, &mut files, path.as_str())?;
-        }
-    }
-    Ok(files)
-}
-
-/// The words of an order.
-fn words_of(alloc: Global, words: &[&str]) -> Result<Vec<Part>, AllocError> {
-    let mut parts = Vec::new(alloc);
-    for word in words {
-        parts.push(Part {
-            name: String::from_str(alloc, word)?,
-            bytes: None,
-        })?;
-    }
-    Ok(parts)
-}
-
-/// What is handed over of an order of these words.
-fn parcel_of(rt: &HostRuntime, words: &[&str], order: &Order<'_>) -> Result<Parcel, AllocError> {
-    Ok(Parcel {
-        words: words_of(rt.alloc(), words)?,
-        files: files_of(rt, order)?,
-    })
-}
 
 /// A word or a file as it is handed over; none, where it is longer than a message may be.
 fn piece_of(part: &Part) -> Option<Piece<'_>>
@@ -242,9 +154,10 @@ fn print_over<E: Sink>(stream: &mut UnixStream, len: u32, err: &mut E) -> Result
     }
 }
 
-/// Prints what comes of an order as it comes, and gives its status.
+/// Prints the reply to an order as it comes, from its first frame on, and returns its status.
 fn print_frames<O: Sink, E: Sink>(
     stream: &mut UnixStream,
+    first: (u8, u32),
     out: &mut O,
     err: &mut E,
 ) -> Result<u8, Cut>
@@ -252,12 +165,17 @@ fn print_frames<O: Sink, E: Sink>(
     requires err { E.failed err.old < 2 ^ 64 - 1 }
     ensures { OnErr result (E.failed err.new ≡ E.failed err.old) }
 {
+    let mut frame = first;
     for _ in 0..u64::MAX {
-        match frame_in(stream) {
-            Ok((SAID, len)) => print_said(stream, len, out)?,
-            Ok((OVER, len)) => return print_over(stream, len, err),
+        match frame {
+            (SAID, len) => print_said(stream, len, out)?,
+            (OVER, len) => return print_over(stream, len, err),
             _ => return Err(Cut::Server),
         }
+        frame = match frame_in(stream) {
+            Ok(next) => next,
+            Err(_) => return Err(Cut::Server),
+        };
     }
     Err(Cut::Server)
 }
@@ -268,36 +186,58 @@ fn send(stream: &mut UnixStream, message: &[u8]) -> io::Result<()> {
     stream.write_all(message)
 }
 
-/// Hands an order on the database at a path over to whoever serves it, prints what comes of it, and gives the status; none, where
-/// nobody serves it. Where whoever serves it goes before the end, it prints fault 102: the order is to be given again.
-///
-/// The files that it names are read here, with the rights and in the folder of whoever gives the order.
-pub fn hand_over<O: Sink, E: Sink>(
-    rt: &HostRuntime,
-    database: &str,
-    words: &[&str],
-    order: &Order<'_>,
-    out: &mut O,
-    err: &mut E,
-) -> Option<u8>
+/// The reply to an order: its connection, and its first frame.
+#[derive(Drop)]
+pub struct Reply {
+    stream: UnixStream,
+    first: (u8, u32),
+}
+
+/// What came of an order that was sent.
+#[derive(Drop)]
+pub enum Sent {
+    /// A server has begun to reply.
+    Begun(Reply),
+    /// Nobody serves the database; or the server closed the connection before it had read all of the order, so that it
+    /// can't have done it.
+    Unread,
+    /// The order wasn't sent, for this fault; or the server went after it had read the order, and may have done it.
+    Failed(Fault),
+}
+
+/// Waits for the first frame of the reply. A connection that is reset is one that the server closed with bytes of the message unread.
+fn reply_in(mut stream: UnixStream) -> Sent {
+    match frame_in(&mut stream) {
+        Ok(first) => Sent::Begun(Reply { stream, first }),
+        Err(error) if error.kind() == ErrorKind::ConnectionReset => Sent::Unread,
+        Err(_) => Sent::Failed(Fault::Store),
+    }
+}
+
+/// Sends an order on the database at a path to the program that serves it, and waits for the first frame of the reply.
+pub fn send_order(rt: &HostRuntime, database: &str, parcel: &Parcel) -> Sent {
+    let Some(mut stream) = beside::reach(rt, database) else {
+        return Sent::Unread;
+    };
+    let message = match message_of(rt, database, parcel) {
+        Ok(message) => message,
+        Err(fault) => return Sent::Failed(fault),
+    };
+    // A server that reads no further may have replied why, so the reply is read all the same.
+    let _ = send(&mut stream, &message);
+    reply_in(stream)
+}
+
+/// Prints the rest of a reply, and returns the order's status. If the server goes before the end, it prints fault 102: the order is
+/// to be sent again.
+pub fn print_reply<O: Sink, E: Sink>(reply: Reply, out: &mut O, err: &mut E) -> u8
     requires out { O.failed out.old < 2 ^ 64 - 1 }
     requires err { E.failed err.old < 2 ^ 64 - 1 }
-    ensures { result ≡ None → (out.new ≡ out.old) × (err.new ≡ err.old) }
 {
-    let mut stream = beside::reach(rt, database)?;
-    let Ok(parcel) = parcel_of(rt, words, order) else {
-        return Some(tell_failure(Failure::Office(Fault::Memory), err));
-    };
-    let message = match message_of(rt, database, &parcel) {
-        Ok(message) => message,
-        Err(fault) => return Some(tell_failure(Failure::Office(fault), err)),
-    };
-    // Where it is cut off, what came before the end is printed all the same.
-    let _ = send(&mut stream, &message);
-    let status = match print_frames(&mut stream, out, err) {
+    let Reply { mut stream, first } = reply;
+    match print_frames(&mut stream, first, out, err) {
         Ok(status) => status,
         Err(Cut::Server) => tell_failure(Failure::Office(Fault::Store), err),
         Err(Cut::Output) => tell_failure(Failure::Output, err),
-    };
-    Some(status)
+    }
 }

@@ -6,10 +6,10 @@
 //! that lock, too.
 
 use os::RangeLock;
-use std::fs::{self, File, OpenOptions, Permissions};
+use std::fs::{self, File, OpenOptions};
 use std::io::{self, ErrorKind};
 use std::os::fd::AsRawFd;
-use std::os::unix::fs::{MetadataExt, OpenOptionsExt, PermissionsExt};
+use std::os::unix::fs::{MetadataExt, OpenOptionsExt};
 
 /// The byte that is locked: the one behind those that SQLite locks, on a page that no database uses.
 const LOCKED: u64 = (1 << 30) + 512;
@@ -63,11 +63,6 @@ impl Held {
     pub fn numbers(&self) -> io::Result<(u64, u64)> {
         let found = self.file.metadata()?;
         Ok((found.dev(), found.ino()))
-    }
-
-    /// Gives the file these rights, whatever the system's mask says.
-    pub fn set_mode(&self, mode: u32) -> io::Result<()> {
-        self.file.set_permissions(Permissions::from_mode(mode))
     }
 
     fn opened(rt: &HostRuntime, path: &str, options: &OpenOptions) -> io::Result<Held> {

@@ -24,57 +24,49 @@ ghost use Rattle.sqlite_wal.specs.Reads.{AreClean};
 ghost use Rattle.sqlite.specs.Closing.{IsCopied};
 
 mod aside;
+mod attempt;
 mod beside;
 mod copies;
 mod fresh;
 mod handing;
 mod held;
+mod notices;
+mod parcel;
+mod presence;
+mod screen;
 mod serving;
 mod slips;
 mod traces;
 
+use attempt::{Request, perform_at};
 use copies::copy;
 use desk::perform::perform;
 use desk::{
-    Failure, Folder, Order, Progress, Task, WordsFault, journal_office, order, tell_failure,
-    tell_words,
+    Failure, Order, Progress, Task, WordsFault, journal_office, order, tell_failure, tell_words,
 };
-use handing::hand_over;
 use held::Held;
+use parcel::{Parcel, Paths};
+use screen::Screen;
 use serving::{Serving, serve};
 use slips::make_codes;
-use sqlite::{Alter, Connection, ErrorCode, FileStore, Files, Wary};
+use sqlite::{Alter, Connection, ErrorCode, FileStore, Files};
 use sqlite_disk::Disk;
 use std::alloc::Global;
-use std::fs::File;
-use std::io::{ErrorKind, IsTerminal};
+use std::io::IsTerminal;
 use std::process::ExitCode;
 use std::{env, io};
 use store::Fault;
-use store::fault::fault_of;
-use traces::{Found, Site};
+use traces::Found;
 use votes::{Counted, Sink};
 
-/// The files of this machine.
-#[derive(Clone, Copy)]
-struct Paths<'a> {
-    rt: &'a HostRuntime,
-}
-
-impl Folder for Paths<'_> {
-    type File = File;
-
-    fn open(&self, path: &str) -> Option<File> {
-        File::open(self.rt, path).ok()
-    }
-}
-
-/// A database that is held: its path as it was given, what stands there, and its file.
+/// A database that is held: its path as it was given, what is there, and its file; and what was read of the order's files
+/// before, if anything was.
 #[derive(Clone, Copy)]
 pub struct Place<'a> {
     pub path: &'a str,
     pub found: &'a Found,
     pub held: &'a Held,
+    pub brought: Option<&'a Parcel>,
 }
 
 /// The words from DB on.
@@ -102,9 +94,9 @@ fn wants_progress(rt: &HostRuntime, task: &Task<'_>) -> bool {
     task.file().is_some() && rt.stderr().is_terminal() && !rt.stdout().is_terminal()
 }
 
-/// Does a task over an opened connection to the office, with the files of this machine that it names.
+/// Does a task over an opened connection to the office, with the files that it names.
 fn perform_watched<S: Alter, O: Sink, E: Sink>(
-    rt: &HostRuntime,
+    paths: Paths<'_>,
     task: &Task<'_>,
     conn: Connection<S>,
     out: &mut O,
@@ -114,7 +106,7 @@ fn perform_watched<S: Alter, O: Sink, E: Sink>(
     requires err { E.failed err.old < 2 ^ 64 - 1 }
     ensures { IsDone task.now result.0 (state S.Store conn) (state S.Store result.1) }
 {
-    let paths = Paths { rt };
+    let rt = paths.rt;
     if wants_progress(rt, task) {
         let mut watched = Progress::new(out, rt.stderr());
         return perform(rt.alloc(), task, conn, &paths, &mut watched, err);
@@ -139,7 +131,13 @@ fn perform_on<S: Alter, O: Sink, E: Sink>(
         × IsToldElsewhere page (state S.Store conn) (state S.Store result.1))) }
 {
     match order {
-        Order::Perform(task) => perform_watched(rt, task, conn, out, err),
+        Order::Perform(task) => {
+            let paths = Paths {
+                rt,
+                brought: place.brought,
+            };
+            perform_watched(paths, task, conn, out, err)
+        }
         Order::Serve {
             port,
             connections,
@@ -154,7 +152,7 @@ fn perform_on<S: Alter, O: Sink, E: Sink>(
             };
             serve(rt, place, serving, conn, err)
         }
-        Order::Copy { path } => copy(rt, conn, place.path, path, out, err),
+        Order::Copy { path } => copy(rt, conn, path, out, err),
         Order::Journal => journal(rt, conn, out, err),
         Order::Codes { path, clerks } => (make_codes(rt, path, clerks, out, err), conn),
     }
@@ -206,135 +204,6 @@ fn close<D: Disk + Drop>(conn: Connection<FileStore<D>>) -> Option<Files<D>>
     }
 }
 
-/// Opens the database at a path, which is held, does an order over it, and closes it. Where the order failed, nothing is
-/// left that wasn't there.
-///
-/// Two stretches of writing rest on what `sqlite` states: `Connection::open_from` makes the log where it is missing and takes up
-/// what it holds, and `close` copies it. `perform` speaks of all between.
-fn perform_in<O: Sink, E: Sink>(
-    rt: &HostRuntime,
-    place: Place<'_>,
-    order: &Order<'_>,
-    out: &mut O,
-    err: &mut E,
-) -> u8
-    requires out { O.failed out.old < 2 ^ 64 - 1 }
-    requires err { E.failed err.old < 2 ^ 64 - 1 }
-{
-    match Connection::open_from(rt, place.path, false, Wary) {
-        Ok(conn) => {
-            let (status, conn) = perform_on(rt, place, order, conn, out, err);
-            if status != 0 {
-                place.found.leave(rt);
-            }
-            let _ = close(conn);
-            status
-        }
-        Err((error, left)) => {
-            if !is_busy(&error) {
-                place.found.leave(rt);
-            }
-            drop(left);
-            tell_failure(Failure::Office(fault_of(error)), err)
-        }
-    }
-}
-
-/// Why an order opens nothing at a path, if it doesn't. `init` alone makes an office, where no log holds anything: any
-/// other order finds no office there.
-fn why_unopened(site: Site, order: &Order<'_>) -> Option<Fault>
-    ensures alone { site ≡ Site.LogAlone → result ≡ Some Fault.WrongDatabase }
-    ensures unseen { site ≡ Site.LogUnseen → result ≡ Some Fault.Store }
-{
-    match site {
-        Site::Taken => None,
-        Site::Free | Site::Empty if matches!(order, Order::Perform(Task::Init)) => None,
-        Site::Free | Site::Empty | Site::LogAlone => Some(Fault::WrongDatabase),
-        Site::LogUnseen => Some(Fault::Store),
-    }
-}
-
-/// Hands an order over to whoever serves a database, if anybody does; and gives the status.
-fn hand_over_watched<O: Sink, E: Sink>(
-    rt: &HostRuntime,
-    database: &str,
-    words: &[&str],
-    order: &Order<'_>,
-    out: &mut O,
-    err: &mut E,
-) -> Option<u8>
-    requires out { O.failed out.old < 2 ^ 64 - 1 }
-    requires err { E.failed err.old < 2 ^ 64 - 1 }
-    ensures { result ≡ None → err.new ≡ err.old }
-{
-    match order {
-        Order::Perform(task) if wants_progress(rt, task) => {
-            let mut watched = Progress::new(out, rt.stderr());
-            hand_over(rt, database, words, order, &mut watched, err)
-        }
-        _ => hand_over(rt, database, words, order, out, err),
-    }
-}
-
-/// Hands an order on a database that another program holds over to it, and gives the
-/// status. Where that program doesn't serve it, it reports that the file is held.
-fn hand_over_held<O: Sink, E: Sink>(
-    rt: &HostRuntime,
-    database: &str,
-    words: &[&str],
-    order: &Order<'_>,
-    out: &mut O,
-    err: &mut E,
-) -> u8
-    requires out { O.failed out.old < 2 ^ 64 - 1 }
-    requires err { E.failed err.old < 2 ^ 64 - 1 }
-{
-    match hand_over_watched(rt, database, words, order, out, err) {
-        Some(status) => status,
-        None => tell_failure(Failure::Office(Fault::Store), err),
-    }
-}
-
-/// Does an order over the database at a path, and holds it meanwhile. Where another program holds it, that one may serve
-/// it: then the order is handed over.
-fn perform_at<O: Sink, E: Sink>(
-    rt: &HostRuntime,
-    path: &str,
-    words: &[&str],
-    order: &Order<'_>,
-    out: &mut O,
-    err: &mut E,
-) -> u8
-    requires out { O.failed out.old < 2 ^ 64 - 1 }
-    requires err { E.failed err.old < 2 ^ 64 - 1 }
-{
-    let Ok(found) = Found::at(rt, path) else {
-        return tell_failure(Failure::Office(Fault::Memory), err);
-    };
-    if let Some(fault) = why_unopened(found.site, order) {
-        return tell_failure(Failure::Office(fault), err);
-    }
-    match found.hold(rt) {
-        Ok(held) => {
-            let place = Place {
-                path,
-                found: &found,
-                held: &held,
-            };
-            let status = perform_in(rt, place, order, out, err);
-            drop(held);
-            status
-        }
-        Err(error) if error.kind() == ErrorKind::WouldBlock => {
-            hand_over_held(rt, found.database(), words, order, out, err)
-        }
-        Err(error) if error.kind() == ErrorKind::OutOfMemory => {
-            tell_failure(Failure::Office(Fault::Memory), err)
-        }
-        Err(_) => tell_failure(Failure::Office(Fault::Store), err),
-    }
-}
-
 /// Does what the words from DB on ask, and gives the status.
 fn follow<O: Sink, E: Sink>(rt: &HostRuntime, words: &[&str], out: &mut O, err: &mut E) -> u8
     requires out { O.failed out.old < 2 ^ 64 - 1 }
@@ -344,8 +213,13 @@ fn follow<O: Sink, E: Sink>(rt: &HostRuntime, words: &[&str], out: &mut O, err: 
         // codes are made without a database
         Ok(Order::Codes { path, clerks }) => make_codes(rt, path, clerks, out, err),
         Ok(order) => {
-            let path = words.first().copied().unwrap_or("");
-            perform_at(rt, path, words, &order, out, err)
+            let request = Request {
+                rt,
+                path: words.first().copied().unwrap_or(""),
+                words,
+                order: &order,
+            };
+            perform_at(request, out, err)
         }
         Err(fault) => tell_words(&fault, out, err),
     }
@@ -387,7 +261,9 @@ fn run<O: Sink, E: Sink>(rt: &HostRuntime, out: &mut O, err: &mut E) -> u8
 }
 
 fn main(rt: HostRuntime) -> ExitCode {
-    let mut out = Counted::new(rt.stdout());
-    let mut err = Counted::new(rt.stderr());
+    let (stdout, stderr) = (rt.stdout(), rt.stderr());
+    let (is_out, is_err) = (stdout.is_terminal(), stderr.is_terminal());
+    let mut out = Screen::new(Counted::new(stdout), is_out);
+    let mut err = Screen::new(Counted::new(stderr), is_err);
     ExitCode::from(run(&rt, &mut out, &mut err))
 }

@@ -6,6 +6,7 @@ ghost use Rattle.keying_page.specs.Page.{page_text, policy_text};
 use crate::Place;
 use crate::aside::Machine;
 use crate::beside::{Beside, closed_streams, reason_of};
+use crate::presence::Presence;
 use crate::slips::{read_codes, tell_untaken};
 use codes::{Codes, RateLimit, ReadError};
 use desk::{Failure, tell_failure};
@@ -117,9 +118,12 @@ fn serve_at<S: Alter>(
         },
         file: FileNumbers { device, inode },
     };
+    let Some(presence) = Presence::of(rt, place.found, place.held) else {
+        return Err(Failure::FileGone);
+    };
     let aside = Machine {
         rt,
-        office: place.path,
+        presence: &presence,
     };
     let most = serving.connections.map(u64::from);
     match serve_hall(

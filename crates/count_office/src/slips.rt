@@ -6,7 +6,7 @@ use codes::{Clerks, Codes, CodesFault, DrawFailed, Draws, ReadError, make};
 use desk::{Failure, tell_codes_fault, tell_codes_made, tell_failure};
 use std::fs::{self, File, OpenOptions};
 use std::io::{self, Read, Write};
-use std::os::unix::fs::{OpenOptionsExt, PermissionsExt};
+use std::os::unix::fs::{MetadataExt, OpenOptionsExt};
 use std::random::RandomSource;
 use store::Fault;
 use votes::Sink;
@@ -43,9 +43,14 @@ impl Draws for SystemBytes<'_> {
     }
 }
 
-/// Whether nobody but its owner has any right to a file.
+/// The number of the account that may do everything.
+const ROOT: u32 = 0;
+
+/// Whether a file belongs to the account that this program runs under, or to root, and nobody else has any right to it.
 fn is_its_owners(file: &File) -> io::Result<bool> {
-    Ok(file.metadata()?.permissions().mode() & RIGHTS_OF_OTHERS == 0)
+    let found = file.metadata()?;
+    let is_own = found.uid() == libc::geteuid() || found.uid() == ROOT;
+    Ok(is_own && found.mode() & RIGHTS_OF_OTHERS == 0)
 }
 
 /// The bytes of a file, no more of them than a file of codes may have and one. A pipe or a device isn't opened, since that

@@ -9,6 +9,7 @@ use crate::held::Held;
 use std::alloc::{AllocError, Global};
 use std::fs;
 use std::io::{self, ErrorKind};
+use std::os::unix::fs::MetadataExt;
 
 /// A log of fewer bytes holds no page: the smallest has 512.
 const MIN_LOG: u64 = 512;
@@ -23,8 +24,14 @@ pub const MIN_OFFICE: u64 = 22 * 4096;
 /// `sqlite` takes a file of up to so many bytes for an empty one.
 const MAX_EMPTY: u64 = 1;
 
-/// The rights of a new database, as far as the system's mask lets.
-const RIGHTS: u32 = 0o644;
+/// The rights of a new database: its owner's alone, from the moment that it is made. `sqlite` gives its log the same.
+pub const RIGHTS: u32 = 0o600;
+
+/// The rights of accounts other than a file's owner to write to it.
+const WRITING_BY_OTHERS: u32 = 0o022;
+
+/// The number of the account that may do everything.
+const ROOT: u32 = 0;
 
 /// What stands behind the name of a database in those of its logs: in that of `sqlite`, and in that of the log which other
 /// programs of SQLite play back into a database.
@@ -152,6 +159,23 @@ impl Found {
     /// The path of the database, where links lead.
     pub fn database(&self) -> &str {
         self.database.as_str()
+    }
+
+    /// The path of its log.
+    pub fn log(&self) -> &str {
+        self.log.as_str()
+    }
+
+    /// Whether the log belongs to an account, other than root's, that may not write to the database. Then somebody put it there
+    /// who could not have made it by an order, and what is in it isn't the office's.
+    pub fn has_foreign_log(&self, rt: &HostRuntime) -> bool {
+        let (Ok(database), Ok(log)) = (
+            fs::metadata(rt, self.database.as_str()),
+            fs::symlink_metadata(rt, self.log.as_str()),
+        ) else {
+            return false;
+        };
+        log.uid() != database.uid() && log.uid() != ROOT && database.mode() & WRITING_BY_OTHERS == 0
     }
 
     /// Holds the database. Where nothing was there, its file is made.

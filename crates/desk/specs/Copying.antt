@@ -22,7 +22,7 @@ use Rattle.desk.specs.declared.copying.CopyState.{CopyState}
 use Rattle.desk.specs.declared.copying.CopyState.TheVariants.{Whole, Untouched, Unknown}
 use Rattle.desk.specs.Pages.{Page, failed, replied}
 use Rattle.desk.specs.declared.lines.Failure.{Failure}
-use Rattle.desk.specs.declared.lines.Failure.TheVariants.{Office, CopyTaken, CopyFailed, Output, BeingServed}
+use Rattle.desk.specs.declared.lines.Failure.TheVariants.{Office, CopyTaken, CopyFailed, Output, BeingServed, FileGone}
 
 -- the line that says how much a copy has
 unfoldable pub copied_text : Holdings → Text
@@ -38,6 +38,7 @@ EndsCopying old new CopyTaken = ⊥
 EndsCopying old new CopyFailed = ⊤
 EndsCopying old new Output = ⊥
 EndsCopying old new BeingServed = ⊥
+EndsCopying old new FileGone = ⊥
 
 -- what the other database holds where no copy is reported: what it held before, but where writing it failed
 abbrev pub state_behind : CopyFault → CopyState

@@ -27,7 +27,7 @@ use Rattle.desk.specs.Words.{bad_digest, bad_origin}
 use Rattle.desk.specs.declared.scripts.ScriptFault.{ScriptFault}
 use Rattle.desk.specs.declared.scripts.ScriptFault.TheVariants as script
 use Rattle.desk.specs.declared.lines.Failure.{Failure}
-use Rattle.desk.specs.declared.lines.Failure.TheVariants.{Office, Output, CopyTaken, CopyFailed, BeingServed}
+use Rattle.desk.specs.declared.lines.Failure.TheVariants.{Office, Output, CopyTaken, CopyFailed, BeingServed, FileGone}
 use Rattle.desk.specs.declared.words.WordsFault.{WordsFault}
 use Rattle.desk.specs.declared.words.WordsFault.TheVariants as words
 use Rattle.desk.specs.declared.lines.Outcome.{Outcome}
@@ -60,6 +60,7 @@ failure_number Output = 107
 failure_number CopyTaken = 109
 failure_number CopyFailed = 110
 failure_number BeingServed = 111
+failure_number FileGone = 113
 
 -- and its text
 abbrev pub failure_text : Failure → Text
@@ -68,6 +69,7 @@ failure_text Output = codes "socket or output"
 failure_text CopyTaken = codes "copy is there already"
 failure_text CopyFailed = codes "copy not written"
 failure_text BeingServed = codes "office is being served"
+failure_text FileGone = codes "file gone or replaced"
 
 -- why no copy was made; want of memory is reported as ever
 abbrev pub failure_of : CopyFault → Failure

@@ -48,7 +48,8 @@ pub(crate) enum Outcome {
 }
 
 /// Why the program gives up. 101 to 106 and 108 are faults of the office. 107 is an output that fails, 109 a copy that is there
-/// already, 110 a copy that can't be written, and 111 an order that isn't for an office that is being served.
+/// already, 110 a copy that can't be written, 111 an order that isn't for an office that is being served, and 113 an office whose
+/// file was removed or replaced while it was served.
 #[derive(Clone, Copy, Debug, PartialEq, Eq, Drop, Error)]
 #[error("{}", self.text())]
 pub enum Failure {
@@ -57,6 +58,7 @@ pub enum Failure {
     CopyTaken,
     CopyFailed,
     BeingServed,
+    FileGone,
 }
 
 impl Failure {
@@ -69,6 +71,7 @@ impl Failure {
             Failure::CopyTaken => 109,
             Failure::CopyFailed => 110,
             Failure::BeingServed => 111,
+            Failure::FileGone => 113,
         }
     }
 
@@ -81,6 +84,7 @@ impl Failure {
             Failure::CopyTaken => "copy is there already",
             Failure::CopyFailed => "copy not written",
             Failure::BeingServed => "office is being served",
+            Failure::FileGone => "file gone or replaced",
         }
     }
 }

@@ -1,0 +1,21 @@
+-- What a terminal is shown of a text that may come from anyone.
+use Rattle.std.specs.Prelude.{ℕ, ◌==◌, ◌||◌, ◌&&◌, nat_le, Bool, not, if◌then◌else◌}
+
+-- from one byte to another
+abbrev pub is_from : ℕ → ℕ → ℕ → Bool
+is_from low high b = nat_le low b && nat_le b high
+
+-- a control character of ASCII; a line feed ends a line and a tab parts columns, as they should
+abbrev pub controls : ℕ → Bool
+controls b = (is_from 0 31 b && not (b == 9 || b == 10)) || b == 127
+
+-- the last byte of a character that steers a terminal, U+0080 to U+009F, or turns the direction of writing, U+061C, U+200E, U+200F, U+202A to
+-- U+202E and U+2066 to U+2069, after the two bytes before it
+abbrev pub ends_steering : ℕ → ℕ → ℕ → Bool
+ends_steering first second b =
+    (second == 194 && is_from 128 159 b) || ((second == 216 && b == 156)
+    || ((first == 226 && (second == 128 && (is_from 142 143 b || is_from 170 174 b))) || (first == 226 && (second == 129 && is_from 166 169 b))))
+
+-- the byte that a terminal is shown, after the two bytes before it: a question mark, where it would be steered
+abbrev pub shown_byte : ℕ → ℕ → ℕ → ℕ
+shown_byte first second b = if controls b || ends_steering first second b then 63 else b

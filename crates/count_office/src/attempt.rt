@@ -1,0 +1,239 @@
+//! An order on a database: it is done in the file; or handed over to the program that serves it; or it waits while
+//! another program holds the file.
+
+ghost use Rattle.std.specs.Prelude.{◌≡◌, ◌-◌, ◌^◌, ◌<◌, OnErr, Some};
+
+use crate::handing::{Reply, Sent, print_reply, send_order};
+use crate::notices::{Holder, say_foreign_log, say_if_open_to_others, say_waited, say_waiting};
+use crate::parcel::{Parcel, pack};
+use crate::traces::{Found, Site};
+use crate::{Place, beside, close, is_busy, perform_on, wants_progress};
+use desk::{Failure, Order, Progress, Task, tell_failure};
+use sqlite::{Connection, Wary};
+use std::fs;
+use std::io::{self, ErrorKind};
+use std::time::{Clock, Duration};
+use store::Fault;
+use store::fault::fault_of;
+use votes::Sink;
+
+/// The pauses between the attempts of an order whose file is held: ten seconds of them.
+const PAUSES: u32 = 500;
+
+/// The length of a pause, in milliseconds.
+const PAUSE: u64 = 20;
+
+/// After so many pauses somebody at a terminal reads why nothing happens.
+const PAUSES_UNSEEN: u32 = 25;
+
+/// An order, its words from DB on, and the path of its database.
+#[derive(Clone, Copy)]
+pub struct Request<'a> {
+    pub rt: &'a HostRuntime,
+    pub path: &'a str,
+    pub words: &'a [&'a str],
+    pub order: &'a Order<'a>,
+}
+
+/// Opens the database at a path, which is held, does an order over it, and closes it. If the order failed, nothing is
+/// left that wasn't there. An error is that another program has the file open; nothing is printed then.
+///
+/// Two stretches of writing rest on what `sqlite` states: `Connection::open_from` makes the log if it is missing and takes up
+/// what it holds, and `close` copies it. `perform` speaks of all between.
+fn perform_in<O: Sink, E: Sink>(
+    rt: &HostRuntime,
+    place: Place<'_>,
+    order: &Order<'_>,
+    out: &mut O,
+    err: &mut E,
+) -> Result<u8, Holder>
+    requires out { O.failed out.old < 2 ^ 64 - 1 }
+    requires err { E.failed err.old < 2 ^ 64 - 1 }
+    ensures { OnErr result ((out.new ≡ out.old) × (err.new ≡ err.old)) }
+{
+    match Connection::open_from(rt, place.path, false, Wary) {
+        Ok(conn) => {
+            if place.found.has_foreign_log(rt) {
+                drop(conn);
+                return Ok(refuse_log(rt, place.path, err));
+            }
+            let (status, conn) = perform_on(rt, place, order, conn, out, err);
+            if status != 0 {
+                place.found.leave(rt);
+            }
+            let _ = close(conn);
+            Ok(status)
+        }
+        Err((error, left)) if is_busy(&error) => {
+            drop(left);
+            Err(Holder::Program)
+        }
+        Err((error, left)) => {
+            place.found.leave(rt);
+            drop(left);
+            Ok(tell_failure(Failure::Office(fault_of(error)), err))
+        }
+    }
+}
+
+/// Prints fault 102, and that the log of a database belongs to somebody else.
+fn refuse_log<E: Sink>(rt: &HostRuntime, path: &str, err: &mut E) -> u8
+    requires { E.failed err.old < 2 ^ 64 - 1 }
+{
+    let status = tell_failure(Failure::Office(Fault::Store), err);
+    say_foreign_log(rt, path);
+    status
+}
+
+/// Why an order opens nothing at a path, if it doesn't. `init` alone makes an office, where no log holds anything: any
+/// other order finds no office there.
+fn why_unopened(site: Site, order: &Order<'_>) -> Option<Fault>
+    ensures alone { site ≡ Site.LogAlone → result ≡ Some Fault.WrongDatabase }
+    ensures unseen { site ≡ Site.LogUnseen → result ≡ Some Fault.Store }
+{
+    match site {
+        Site::Taken => None,
+        Site::Free | Site::Empty if matches!(order, Order::Perform(Task::Init)) => None,
+        Site::Free | Site::Empty | Site::LogAlone => Some(Fault::WrongDatabase),
+        Site::LogUnseen => Some(Fault::Store),
+    }
+}
+
+/// Prints a reply, with progress if a person watches.
+fn print_watched<O: Sink, E: Sink>(
+    request: Request<'_>,
+    reply: Reply,
+    out: &mut O,
+    err: &mut E,
+) -> u8
+    requires out { O.failed out.old < 2 ^ 64 - 1 }
+    requires err { E.failed err.old < 2 ^ 64 - 1 }
+{
+    match request.order {
+        Order::Perform(task) if wants_progress(request.rt, task) => {
+            let mut watched = Progress::new(out, request.rt.stderr());
+            print_reply(reply, &mut watched, err)
+        }
+        _ => print_reply(reply, out, err),
+    }
+}
+
+/// Reads what is handed over of an order, once: unless that was done before, or nobody serves the database.
+fn bring(request: Request<'_>, database: &str, brought: &mut Option<Parcel>) -> Result<(), Fault> {
+    if brought.is_none() && beside::is_served(request.rt, database) {
+        *brought = Some(pack(request.rt, request.words, request.order)?);
+    }
+    Ok(())
+}
+
+/// Hands an order on a database that another program holds over to it, and returns the status. Its files are read before a
+/// connection is made, however long that takes. An error is that the program doesn't serve the database, or no longer; nothing
+/// is printed then.
+fn hand_over<O: Sink, E: Sink>(
+    request: Request<'_>,
+    database: &str,
+    brought: &mut Option<Parcel>,
+    out: &mut O,
+    err: &mut E,
+) -> Result<u8, Holder>
+    requires out { O.failed out.old < 2 ^ 64 - 1 }
+    requires err { E.failed err.old < 2 ^ 64 - 1 }
+    ensures { OnErr result ((out.new ≡ out.old) × (err.new ≡ err.old)) }
+{
+    if let Err(fault) = bring(request, database, brought) {
+        return Ok(tell_failure(Failure::Office(fault), err));
+    }
+    let Some(parcel) = brought else {
+        return Err(Holder::Order);
+    };
+    match send_order(request.rt, database, parcel) {
+        Sent::Begun(reply) => Ok(print_watched(request, reply, out, err)),
+        Sent::Unread => Err(Holder::Order),
+        Sent::Failed(fault) => Ok(tell_failure(Failure::Office(fault), err)),
+    }
+}
+
+/// Whether another order holds a database that can't be held for this reason, or has just made it.
+fn is_held(rt: &HostRuntime, database: &str, error: &io::Error) -> bool {
+    match error.kind() {
+        ErrorKind::WouldBlock => true,
+        ErrorKind::AlreadyExists => {
+            fs::symlink_metadata(rt, database).is_ok_and(|found| found.is_file())
+        }
+        _ => false,
+    }
+}
+
+/// Does an order over the database at a path, and holds it meanwhile; or hands it over to the program that serves it. An error
+/// is that another program holds the file; nothing is printed then.
+fn attempt<O: Sink, E: Sink>(
+    request: Request<'_>,
+    brought: &mut Option<Parcel>,
+    out: &mut O,
+    err: &mut E,
+) -> Result<u8, Holder>
+    requires out { O.failed out.old < 2 ^ 64 - 1 }
+    requires err { E.failed err.old < 2 ^ 64 - 1 }
+    ensures { OnErr result ((out.new ≡ out.old) × (err.new ≡ err.old)) }
+{
+    let Request {
+        rt,
+        path,
+        order,
+        ..
+    } = request;
+    let Ok(found) = Found::at(rt, path) else {
+        return Ok(tell_failure(Failure::Office(Fault::Memory), err));
+    };
+    if let Some(fault) = why_unopened(found.site, order) {
+        return Ok(tell_failure(Failure::Office(fault), err));
+    }
+    if found.has_foreign_log(rt) {
+        return Ok(refuse_log(rt, path, err));
+    }
+    match found.hold(rt) {
+        Ok(held) => {
+            let place = Place {
+                path,
+                found: &found,
+                held: &held,
+                brought: brought.as_ref(),
+            };
+            let done = perform_in(rt, place, order, out, err);
+            drop(held);
+            done
+        }
+        Err(error) if is_held(rt, found.database(), &error) => {
+            hand_over(request, found.database(), brought, out, err)
+        }
+        Err(error) if error.kind() == ErrorKind::OutOfMemory => {
+            Ok(tell_failure(Failure::Office(Fault::Memory), err))
+        }
+        Err(_) => Ok(tell_failure(Failure::Office(Fault::Store), err)),
+    }
+}
+
+/// Does an order over the database at a path, and returns its status. While another program holds the file and doesn't serve it,
+/// the order waits, for ten seconds at most. Then it prints fault 102, and what holds the file.
+pub fn perform_at<O: Sink, E: Sink>(request: Request<'_>, out: &mut O, err: &mut E) -> u8
+    requires out { O.failed out.old < 2 ^ 64 - 1 }
+    requires err { E.failed err.old < 2 ^ 64 - 1 }
+{
+    let Request { rt, path, .. } = request;
+    say_if_open_to_others(rt, path);
+    let mut brought = None;
+    let mut holder = Holder::Order;
+    for pauses in 0..=PAUSES {
+        match attempt(request, &mut brought, out, err) {
+            Ok(status) => return status,
+            Err(found) => holder = found,
+        }
+        if pauses == PAUSES_UNSEEN {
+            say_waiting(rt, path, holder);
+        }
+        rt.sleep(Duration::from_millis(PAUSE));
+    }
+    let status = tell_failure(Failure::Office(Fault::Store), err);
+    say_waited(rt, path, holder);
+    status
+}

@@ -1,0 +1,69 @@
+//! Lines on the error output for the person who gave an order, beside what the order prints. If they can't be written, the order is done all
+//! the same.
+
+use std::fs;
+use std::io::{IsTerminal, Write};
+use std::os::unix::fs::MetadataExt;
+
+/// The rights of accounts other than a file's owner to read it or write to it.
+const RIGHTS_OF_OTHERS: u32 = 0o066;
+
+/// Who holds a database, so that no other order can open it.
+#[derive(Clone, Copy)]
+pub enum Holder {
+    /// Another order of this program, which may be `serve`.
+    Order,
+    /// Another program, by the locks of SQLite.
+    Program,
+}
+
+impl Holder {
+    /// Returns it in words, to stand after a database's path and a colon.
+    fn text(self) -> &'static str {
+        match self {
+            Holder::Order => "another order holds it",
+            Holder::Program => "another program has it open",
+        }
+    }
+}
+
+/// Prints on a terminal what an order waits for.
+pub fn say_waiting(rt: &HostRuntime, path: &str, holder: Holder) {
+    let mut told = rt.stderr();
+    if told.is_terminal() {
+        let why = holder.text();
+        let _ = writeln!(told, "waiting for {path}: {why}");
+    }
+}
+
+/// Prints what an order waited for in vain.
+pub fn say_waited(rt: &HostRuntime, path: &str, holder: Holder) {
+    let mut told = rt.stderr();
+    let why = holder.text();
+    let _ = writeln!(told, "waited ten seconds for {path}: {why}");
+}
+
+/// Prints that the log of a database belongs to somebody who may not write the database.
+pub fn say_foreign_log(rt: &HostRuntime, path: &str) {
+    let mut told = rt.stderr();
+    let _ = writeln!(
+        told,
+        "{path}-wal belongs to another account than {path}, and isn't read"
+    );
+}
+
+/// Whether accounts other than its owner may read or write a file; not, if it isn't there.
+fn is_open_to_others(rt: &HostRuntime, path: &str) -> bool {
+    fs::metadata(rt, path).is_ok_and(|found| found.mode() & RIGHTS_OF_OTHERS != 0)
+}
+
+/// Prints on a terminal that the rights of a database let other accounts read it or write to it, if they do.
+pub fn say_if_open_to_others(rt: &HostRuntime, path: &str) {
+    let mut told = rt.stderr();
+    if told.is_terminal() && is_open_to_others(rt, path) {
+        let _ = writeln!(
+            told,
+            "{path} is open to other accounts on this machine; 'chmod 600 {path} {path}-wal' closes it"
+        );
+    }
+}

@@ -1,0 +1,175 @@
+//! The words of an order, and the bytes of the files that it reads: read here, with the rights and in the folder of the
+//! person who gives the order, before it is handed over to the program that serves the database.
+
+use desk::{Folder, Job, Order, Task, files_named_in};
+use std::alloc::{AllocError, Global};
+use std::fs::File;
+use std::io::{self, Read};
+use store::Fault;
+
+/// The longest message that a server accepts.
+pub const MAX_MESSAGE: usize = 32 << 20;
+
+/// A word of an order; or a file that it names, with its bytes, or without if it can't be read.
+#[derive(Drop)]
+pub struct Part {
+    pub name: String,
+    pub bytes: Option<Vec<u8>>,
+}
+
+/// The words of an order, and the files that it reads.
+#[derive(Drop)]
+pub struct Parcel {
+    pub words: Vec<Part>,
+    pub files: Vec<Part>,
+}
+
+impl Part {
+    /// Whether all of the file was read: of a longer one than a message may be, only the beginning was.
+    fn is_whole(&self) -> bool {
+        match &self.bytes {
+            Some(bytes) => bytes.len() <= MAX_MESSAGE,
+            None => true,
+        }
+    }
+}
+
+impl Parcel {
+    /// Returns the file at a path, if it was read.
+    fn file(&self, path: &str) -> Option<&Part> {
+        for file in &self.files {
+            if file.name.as_str() == path {
+                return Some(file);
+            }
+        }
+        None
+    }
+}
+
+/// Returns the bytes of a file, at most one more than a message may have; `None` if it can't be read.
+fn bytes_at(rt: &HostRuntime, path: &str) -> Option<Vec<u8>> {
+    let file = File::open(rt, path).ok()?;
+    let mut bytes = Vec::new(rt.alloc());
+    file.take(MAX_MESSAGE as u64 + 1)
+        .read_to_end(&mut bytes)
+        .ok()?;
+    Some(bytes)
+}
+
+/// Reads the file at a path, unless it was read before.
+fn bring(rt: &HostRuntime, files: &mut Vec<Part>, path: &str) -> Result<(), AllocError> {
+    if files.iter().any(|file| file.name.as_str() == path) {
+        return Ok(());
+    }
+    let bytes = bytes_at(rt, path);
+    let name = String::from_str(rt.alloc(), path)?;
+    files.push(Part { name, bytes })?;
+    Ok(())
+}
+
+/// Returns the paths that the script names which was read first.
+fn named_by(alloc: Global, files: &[Part]) -> Result<Vec<String>, AllocError> {
+    match files.first() {
+        Some(
+            Part {
+                bytes: Some(script),
+                ..
+            },
+        ) => files_named_in(alloc, script),
+        _ => Ok(Vec::new(alloc)),
+    }
+}
+
+/// Reads the files of an order, each once: its own, and for a script those that its lines name.
+fn files_of(rt: &HostRuntime, order: &Order<'_>) -> Result<Vec<Part>, AllocError> {
+    let mut files = Vec::new(rt.alloc());
+    let Order::Perform(task) = order else {
+        return Ok(files);
+    };
+    if let Some(path) = task.file() {
+        bring(rt, &mut files, path)?;
+    }
+    if let Task::InOffice(Job::Replay { .. }) = task {
+        for path in named_by(rt.alloc(), &files)? {
+            bring(rt, &mut files, path.as_str())?;
+        }
+    }
+    Ok(files)
+}
+
+/// Returns the words of an order.
+fn words_of(alloc: Global, words: &[&str]) -> Result<Vec<Part>, AllocError> {
+    let mut parts = Vec::new(alloc);
+    for word in words {
+        parts.push(Part {
+            name: String::from_str(alloc, word)?,
+            bytes: None,
+        })?;
+    }
+    Ok(parts)
+}
+
+fn parcel_of(rt: &HostRuntime, words: &[&str], order: &Order<'_>) -> Result<Parcel, AllocError> {
+    Ok(Parcel {
+        words: words_of(rt.alloc(), words)?,
+        files: files_of(rt, order)?,
+    })
+}
+
+/// Reads what is handed over of an order of these words. An error is that an allocation failed, or that a file is longer
+/// than a message may be.
+pub fn pack(rt: &HostRuntime, words: &[&str], order: &Order<'_>) -> Result<Parcel, Fault> {
+    match parcel_of(rt, words, order) {
+        Ok(parcel) if parcel.files.iter().all(|file| file.is_whole()) => Ok(parcel),
+        Ok(_) => Err(Fault::Store),
+        Err(AllocError) => Err(Fault::Memory),
+    }
+}
+
+/// The files of this machine. A file that was read before isn't opened again, since a pipe gives its bytes only once.
+#[derive(Clone, Copy)]
+pub struct Paths<'a> {
+    pub rt: &'a HostRuntime,
+    pub brought: Option<&'a Parcel>,
+}
+
+/// A file that an order names: open, or read before.
+#[derive(Drop)]
+pub enum Source<'a> {
+    Open(File),
+    Brought(&'a [u8]),
+}
+
+impl Read for Source<'_> {
+    fn read(&mut self, buf: &mut [u8]) -> io::Result<usize> {
+        match self {
+            Source::Open(file) => file.read(buf),
+            Source::Brought(bytes) => bytes.read(buf),
+        }
+    }
+}
+
+impl<'a> Folder for Paths<'a> {
+    type File = Source<'a>;
+
+    fn open(&self, path: &str) -> Option<Source<'a>> {
+        let Some(parcel) = self.brought else {
+            return opened(self.rt, path);
+        };
+        match parcel.file(path) {
+            Some(Part { bytes, .. }) => match bytes {
+                Some(bytes) => Some(Source::Brought(bytes.as_slice())),
+                None => None,
+            },
+            None => opened(self.rt, path),
+        }
+    }
+}
+
+/// Opens the file at a path; `None` if it can't be opened.
+fn opened<'a>(rt: &HostRuntime, path: &str) -> Option<Source<'a>> {
+    match File::open(rt, path) {
+        Ok(file) => Some(Source::Open(file)),
+        Err(_) => None,
+    }
+}
