@@ -33,7 +33,7 @@ use Rattle.hall.specs.Handings.{ComesOf, IsFramed, TellsOrder, TellsSo, folder_o
 use Rattle.wire.specs.Gates.{GivenEntry}
 use Rattle.hall.specs.Reads.{AreReadAt, Desk, IsRead, ReadEntry, with_none_kept}
 use Rattle.hall.specs.Terms.{Given}
-use Rattle.hall.specs.Visits.{AnswersInTurn, AreTurnedAway, EndsSo, IsAnsweredAt, IsKeptOf, IsLastFor, IsStoppedAt, IsToldClosed, KeepsReads, ServesAt, ServesClient, ServesVisit, Visit}
+use Rattle.hall.specs.Visits.{AnswersInTurn, AreTurnedAway, EndsSo, IsAnsweredAt, IsKeptOf, IsKeptWaiting, IsLastFor, IsStoppedAt, IsToldClosed, IsTurnedBack, IsWithoutFile, KeepsReads, ServesAt, ServesClient, ServesVisit, Visit}
 use Rattle.desk.specs.declared.orders.Job.{Job}
 use Rattle.hall.specs.declared.handing.Asked.{Asked}
 use Rattle.hall.specs.declared.handing.Asked.TheVariants as asked
@@ -204,13 +204,18 @@ module _ {S : Type 0} (given : Given) (state_of : Held S → State) where
   stays_clean : (old new : Desk S) → new ≡ old → HasCleanDisk (state_of new.office.held) → HasCleanDisk (state_of old.office.held)
   stays_clean old new stays clean = subst (λ (d : Desk S). HasCleanDisk (state_of d.office.held)) stays clean
 
+  -- a client that is turned back is told so, and all stays as it was
+  turned_back : (visit : Visit) (old new : Desk S) → IsKeptWaiting given.clients old visit new ⊎ IsWithoutFile old visit new → IsTurnedBack visit × (new ≡ old)
+  turned_back visit old new (inl waits) = (inl waits.told, waits.stays)
+  turned_back visit old new (inr gone) = (inr gone.told, gone.stays)
+
   clean_at : (door : Door) (visit : Visit) (old new : Desk S) → ServesAt door given state_of old visit new → HasCleanDisk (state_of new.office.held) → HasCleanDisk (state_of old.office.held)
-  clean_at Clients visit old new (inl it) clean = stays_clean old new it.stays clean
+  clean_at Clients visit old new (inl it) clean = stays_clean old new (turned_back visit old new it).1 clean
   clean_at Clients visit old new (inr it) clean = it.serves.clean clean
   clean_at Orders visit old new it clean = it.0.tells.clean clean
 
   away_at : (door : Door) (visit : Visit) (old new : Desk S) → ServesAt door given state_of old visit new → old.office.closed ≡ true → IsToldClosed door given visit × (new.office ≡ old.office)
-  away_at Clients visit old new (inl it) closed = (inl it.told, ap (λ (d : Desk S). d.office) it.stays)
+  away_at Clients visit old new (inl it) closed = let back = turned_back visit old new it in (inl back.0, ap (λ (d : Desk S). d.office) back.1)
   away_at Clients visit old new (inr it) closed = let (told, stays) = it.serves.turned_away closed in (inr told, stays)
   away_at Orders visit old new (it, emptied, same) closed =
       let (page, stays) = it.tells.turned_away closed in
@@ -240,8 +245,9 @@ module _ {S : Type 0} (given : Given) (state_of : Held S → State) where
   turn_leaves : (door : Door) (s : OfficeState) (visit : Visit) (old new : Desk S) → ServesAt door given state_of old visit new → HasCleanDisk (state_of new.office.held) → old.office.closed ≡ false
       → IsAt s (state_of old.office.held) → AreReadAt given.clients s old.kept.reads → TurnLeaves door state_of given s visit new.kept.reads new.office.closed (state_of new.office.held)
   turn_leaves Clients s visit old new (inl it) clean is_open at right =
-      subst (λ (d : Desk S). TurnLeaves Clients state_of given s visit d.kept.reads d.office.closed (state_of d.office.held)) (sym it.stays)
-      (inl ([], inl (it.told, refl), right, record { is_open = is_open; at = at }))
+      let back = turned_back visit old new it in
+      subst (λ (d : Desk S). TurnLeaves Clients state_of given s visit d.kept.reads d.office.closed (state_of d.office.held)) (sym back.1)
+      (inl ([], inl (back.0, refl), right, record { is_open = is_open; at = at }))
   turn_leaves Clients s visit old new (inr it) clean is_open at right = served_leaves s visit old new it.serves clean is_open at right
   turn_leaves Orders s visit old new (it, emptied, same) clean is_open at right =
       let told = it.tells in

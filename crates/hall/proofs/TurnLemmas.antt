@@ -6,7 +6,7 @@ use Rattle.register.specs.Offices.{OfficeState}
 use Rattle.store.specs.Offices.{IsAt}
 use Rattle.office.specs.Values.{OfficeValue}
 use Rattle.office.specs.Answers.{IsOpenAt}
-use Rattle.wire.specs.Responses.{waits_response}
+use Rattle.wire.specs.Responses.{ResponseEntry, fault_response, waits_response}
 use Rattle.wire.specs.Serving.{EndsWith, IsServed, OnReadFailed, ReadiesClosed, ReadiesFor, Serves, ServesClosed}
 use Rattle.wire.specs.Told.{IsWritten}
 use Rattle.wire.specs.declared.serving.Served.{Served}
@@ -22,7 +22,7 @@ use Rattle.gathering.proofs.LineLemmas.{heard_more, told_more, told_none}
 use Rattle.hall.specs.Terms.{Given}
 use Rattle.hall.specs.Turns.{HasCome, HasComeAt, MayHaveTurn, answer_of}
 use Rattle.hall.specs.Reads.{Desk}
-use Rattle.hall.specs.Visits.{EndsIn, HasServed, IsToldToWait, ServesVisit, Visit}
+use Rattle.hall.specs.Visits.{EndsIn, HasServed, IsToldGone, IsToldToWait, ServesVisit, Visit}
 
 pub none_from : {X : Type 0} (found : Option X) → is_some found ≡ false → found ≡ None
 none_from None is = refl
@@ -70,13 +70,20 @@ visit_served given state_of old new held got before after answer served failed i
     these P p =
         subst (λ (a : List ℕ). P got [] a) (sym is_answer) (subst (λ (b : List ℕ). P got b after) is_before (subst (λ (g : List ℕ). P g before after) is_got p))
 
--- who must wait was told so, by the clauses of the call that told him
-pub told_waiting : (visit : Visit) (before after : List ℕ) (served : Served) → before ≡ [] → visit.answer ≡ after → IsServed (IsWritten waits_response) (Some before) (Some after) served → IsToldToWait visit
-told_waiting visit before after served is_before is_answer it = (
+-- a client was told one thing, by the clauses of the call that told it
+told_one : (response : ResponseEntry) (visit : Visit) (before after : List ℕ) (served : Served) → before ≡ [] → visit.answer ≡ after → IsServed (IsWritten response) (Some before) (Some after) served
+    → EndsIn visit.answer (IsServed (IsWritten response))
+told_one response visit before after served is_before is_answer it = (
   served,
-  subst (λ (a : List ℕ). IsServed (IsWritten waits_response) (Some []) (Some a) served) (sym is_answer)
-      (subst (λ (b : List ℕ). IsServed (IsWritten waits_response) (Some b) (Some after) served) is_before it),
+  subst (λ (a : List ℕ). IsServed (IsWritten response) (Some []) (Some a) served) (sym is_answer)
+      (subst (λ (b : List ℕ). IsServed (IsWritten response) (Some b) (Some after) served) is_before it),
 )
+
+pub told_waiting : (visit : Visit) (before after : List ℕ) (served : Served) → before ≡ [] → visit.answer ≡ after → IsServed (IsWritten waits_response) (Some before) (Some after) served → IsToldToWait visit
+told_waiting visit before after served is_before is_answer it = told_one waits_response visit before after served is_before is_answer it
+
+pub told_gone : (visit : Visit) (before after : List ℕ) (served : Served) → before ≡ [] → visit.answer ≡ after → IsServed (IsWritten (fault_response 113)) (Some before) (Some after) served → IsToldGone visit
+told_gone visit before after served is_before is_answer it = told_one (fault_response 113) visit before after served is_before is_answer it
 
 module _ {L : Type 0} (line : Line L) where
   -- who has no answer was heard, and told nothing

@@ -23,7 +23,8 @@ use Rattle.desk.specs.Pages.{Cut, IsShown, Outputs, Page, below, closed_page, fa
 use Rattle.desk.specs.Parts.{ComesTo}
 use Rattle.desk.specs.Words.{IsNoneMeant, meaning, office_words}
 use Rattle.desk.specs.declared.lines.Failure.{Failure}
-use Rattle.desk.specs.declared.lines.Failure.TheVariants.{BeingServed, CopyFailed, Office}
+use Rattle.desk.specs.declared.lines.Failure.TheVariants.{BeingServed, CopyFailed, FileGone, Office}
+use Rattle.desk.specs.declared.orders.Job.{Job}
 use Rattle.desk.specs.declared.orders.Order.{Order}
 use Rattle.desk.specs.declared.orders.Order.TheVariants as order
 use Rattle.desk.specs.declared.orders.Task.TheVariants as task
@@ -66,12 +67,12 @@ IsForNone (order.Serve port connections origin codes) = ⊤
 IsForNone (order.Codes path clerks) = ⊤
 IsForNone other = ⊥
 
--- what an order asks that was handed over for this file: a job, a copy, the journal; or why it isn't followed, by its words
+-- what an order asks that was handed over for this file: a job, a copy, the journal; or why it isn't followed: by its words, or since the file is gone
 abbrev pub AsksSo : HandedEntry → Asked → Type 0
 AsksSo h (asked.Do job) = MeansOrder h (order.Perform (task.InOffice job))
 AsksSo h (asked.Copy path) = MeansOrder h (order.Copy path)
 AsksSo h asked.Journal = MeansOrder h order.Journal
-AsksSo h (asked.Refused failure) = (failure ≡ BeingServed) × ((o : Order) × MeansOrder h o × IsForNone o)
+AsksSo h (asked.Refused failure) = ((failure ≡ BeingServed) × ((o : Order) × MeansOrder h o × IsForNone o)) ⊎ ((failure ≡ FileGone) × ((job : Job) × MeansOrder h (order.Perform (task.InOffice job))))
 AsksSo h (asked.Misread fault) = IsNoneMeant (meaning (subcommand_of office_words (words_in h))) fault
 
 -- no order is read: memory was wanting; or the bytes are no message of text, or that of another version of the program, or for another file

@@ -1,5 +1,5 @@
 -- Who goes on, a client or an order that is handed over, and the turn that he has in it.
-use Rattle.std.specs.Prelude.{◌≡◌, ◌⊎◌,  List, [], None, Option, Some, option_map, ℕ}
+use Rattle.std.specs.Prelude.{◌≡◌, ◌⊎◌, List, [], None, Option, Some, option_map, ℕ}
 use Rattle.std.specs.Io.KnownBytes.{IsAtEnd}
 use Rattle.sqlite.specs.Held.{Held}
 use Rattle.sqlite.specs.State.{State}

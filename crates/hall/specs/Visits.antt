@@ -13,7 +13,7 @@ use Rattle.gathering.specs.declared.client.Door.TheVariants.{Clients, Orders}
 use Rattle.wire.specs.Bodies.{KeyingEntry}
 use Rattle.wire.specs.Asking.{Asks, keying, reading}
 use Rattle.wire.specs.Gates.{GivenEntry, IsKnock, KnockEntry}
-use Rattle.wire.specs.Responses.{waits_response}
+use Rattle.wire.specs.Responses.{fault_response, waits_response}
 use Rattle.wire.specs.Told.{IsWritten}
 use Rattle.wire.specs.Serving.{IsHandedOn, IsServed, ReadiesClosed, ReadiesFor, TellsFault, TellsFor}
 use Rattle.wire.specs.declared.serving.Served.{Served}
@@ -66,6 +66,19 @@ pub record ServesClient {S : Type 0} (given : GivenEntry) (state_of : Held S →
 abbrev pub IsToldToWait : Visit → Type 0
 IsToldToWait visit = EndsSo visit (IsServed (IsWritten waits_response))
 
+-- a client gets the response that the file of the office is gone or replaced
+abbrev pub IsToldGone : Visit → Type 0
+IsToldGone visit = EndsSo visit (IsServed (IsWritten (fault_response 113)))
+
+-- a client is turned back: it is told to wait, or that the file is gone
+abbrev pub IsTurnedBack : Visit → Type 0
+IsTurnedBack visit = IsToldToWait visit ⊎ IsToldGone visit
+
+-- the file of the office is gone or replaced: a client is told so, and all stays as it is
+pub record IsWithoutFile {S : Type 0} (old : Desk S) (visit : Visit) (new : Desk S) : Type 0 where
+  pub told : IsToldGone visit
+  pub stays : new ≡ old
+
 -- a client's code is wrong, and as many wrong codes came as may: the answer says to wait, and all stays as it is
 pub record IsKeptWaiting {S : Type 0} (given : GivenEntry) (old : Desk S) (visit : Visit) (new : Desk S) : Type 0 where
   pub knock : Option KnockEntry
@@ -82,9 +95,9 @@ pub record IsLetIn {S : Type 0} (given : GivenEntry) (state_of : Held S → Stat
   pub serves : ServesClient given state_of old visit new
   pub noted : new.kept.limit ≡ limit_after knock visit.moment old.kept.limit
 
--- a client had his turn: he must wait, or is let in
+-- a client had its turn: it must wait, or the file is gone, or it is let in
 abbrev pub MeetsClient : {S : Type 0} → GivenEntry → (Held S → State) → Desk S → Visit → Desk S → Type 0
-MeetsClient given state_of old visit new = IsKeptWaiting given old visit new ⊎ IsLetIn given state_of old visit new
+MeetsClient given state_of old visit new = (IsKeptWaiting given old visit new ⊎ IsWithoutFile old visit new) ⊎ IsLetIn given state_of old visit new
 
 -- who came in at a door had his turn: a client so; or an order is followed, no answer is kept behind it, and no wrong code is noted
 abbrev pub ServesAt : {S : Type 0} → Door → Given → (Held S → State) → Desk S → Visit → Desk S → Type 0
@@ -103,9 +116,9 @@ IsLastFor given bytes last =
     (last ≡ [])
     ⊎ ((clerk batch : ℕ) × (entry : KeyingEntry) × (request : Request) × Asks given bytes (keying clerk batch entry) × IsHandedOn clerk batch entry request × (last ≡ request ∷ []))
 
--- who finds the office closed gets the answer that it is, where he asks it anything; or the answer that he must wait
+-- who finds the office closed gets the answer that it is, where he asks it anything; or it is turned back
 abbrev pub IsToldClosed : Door → Given → Visit → Type 0
-IsToldClosed Clients given visit = IsToldToWait visit ⊎ EndsSo visit (IsServed (ReadiesClosed given.clients (Some visit.got)))
+IsToldClosed Clients given visit = IsTurnedBack visit ⊎ EndsSo visit (IsServed (ReadiesClosed given.clients (Some visit.got)))
 IsToldClosed Orders given visit = IsTurnedAway given.file visit.got visit.answer
 
 -- so is each of these
@@ -116,7 +129,7 @@ AreTurnedAway given (visit ∷ visits) = IsToldClosed visit.door given visit × 
 -- Who has his turn at a state is answered, and these requests were answered for him. For a client there is none, or one keying, and one where his answer is what
 -- the office says to it. For a client who must wait there is none. For an order they are those that its page has.
 abbrev pub IsAnsweredAt : {S : Type 0} → Door → (Held S → State) → Given → OfficeState → Visit → List Request → Type 0
-IsAnsweredAt Clients state_of given s visit sent = (IsToldToWait visit × (sent ≡ [])) ⊎ EndsSo visit (IsServed (TellsFor given.clients (Some visit.got) s sent))
+IsAnsweredAt Clients state_of given s visit sent = (IsTurnedBack visit × (sent ≡ [])) ⊎ EndsSo visit (IsServed (TellsFor given.clients (Some visit.got) s sent))
 IsAnsweredAt Orders state_of given s visit sent = (last : List Request) × TellsOrder state_of given.file s visit.got visit.answer sent last
 
 -- A fault, which he gets as his answer, closed the office in his turn: these requests were answered, and one more may be kept or not.

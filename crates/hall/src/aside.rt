@@ -15,6 +15,9 @@ use votes::Sink;
 /// Copies an open office to a new file, and prints its journal. The office goes on, and is only read; which files these are,
 /// the program says.
 pub trait Aside {
+    /// Returns whether the file of the office is still there, whole, and no other in its place. Nothing can be promised of a file.
+    fn is_whole(&self) -> bool;
+
     /// Copies the office to the file at a path, as it is seen from a folder, and prints how much the copy has.
     fn copy<S: Alter, O: Sink, E: Sink>(
         &self,

@@ -4,17 +4,18 @@ ghost use Rattle.std.specs.Prelude.{◌≡◌, ◌≢◌, ◌⊎◌, ℕ, [], Er
 ghost use Rattle.sqlite.specs.Held.{state};
 ghost use Rattle.gathering.specs.Lines.{Gathers, HasFailed, HasTaken, line_of};
 ghost use Rattle.gathering.specs.Clients.{IsOf, IsTold};
+ghost use Rattle.gathering.specs.Closing.{IsToldAll, MayLeave};
 ghost use Rattle.gathering.specs.declared.leaver.Leaving.{Leaving};
 ghost use Rattle.wire.specs.Gates.{given_entry};
 ghost use Rattle.hall.specs.Handings.{HasCameWhole};
 ghost use Rattle.hall.specs.Terms.{Given as AllGiven, given_in};
-ghost use Rattle.hall.specs.Turns.{HasCome, HasComeAt, IsSameClient, IsToldAll, IsUntold, MayHaveTurn, MayLeave, answer_of};
+ghost use Rattle.hall.specs.Turns.{HasCome, HasComeAt, IsSameClient, IsUntold, MayHaveTurn, answer_of};
 ghost use Rattle.office.specs.Answers.{IsOpenAt, IsReadAt, WhenOpenAt};
 ghost use Rattle.wire.specs.Asking.{Asks, reading};
 ghost use Rattle.wire.specs.declared.target.Reading.{Reading};
 ghost use Rattle.codes.specs.RateLimits.{limit_entry};
 ghost use Rattle.hall.specs.Reads.{IsRead, TellsNoFault, desk_at, kept_in};
-ghost use Rattle.hall.specs.Visits.{HasServed, IsToldToWait, MeetsClient, ServesClient, ServesVisit, Visit};
+ghost use Rattle.hall.specs.Visits.{HasServed, IsToldGone, IsToldToWait, MeetsClient, ServesClient, ServesVisit, Visit};
 
 use crate::aside::Aside;
 use crate::message::hear_message;
@@ -27,7 +28,9 @@ use office::Office;
 use sqlite::Alter;
 use std::alloc::Global;
 use votes::Broken;
-use wire::{Given, Lacks, Served, body_to_come, knock_of, lacks, serve_one, tell_to_wait};
+use wire::{
+    Given, Lacks, Served, body_to_come, knock_of, lacks, serve_one, tell_gone, tell_to_wait,
+};
 
 /// How many bytes of a client are heard before it is looked what they lack: as many as the head of a request may have.
 const FRONT: usize = 8192;
@@ -215,26 +218,62 @@ fn to_wait(alloc: Global) -> Answer
     }
 }
 
-/// The answer to a client of whom these bytes were gathered; nothing of it went out yet. If its code is wrong, and as many wrong
-/// codes came as may, it is told to wait, and nothing else comes of it. Else it is counted if its code was wrong.
+/// The moment of a turn: the time of the clock, and whether the file of the office is whole then.
+#[derive(Clone, Copy)]
+struct Moment {
+    now: u64,
+    is_whole: bool,
+}
+
+impl Moment {
+    /// Looks at the file of the office at a time.
+    fn of<A: Aside>(now: u64, aside: &A) -> Moment
+        ensures { result.now ≡ now }
+    {
+        Moment {
+            now,
+            is_whole: aside.is_whole(),
+        }
+    }
+}
+
+/// Returns the response while the file of the office is gone or replaced; nothing of it went out yet.
+fn to_gone(alloc: Global) -> Answer
+    ensures told { (visit : Visit) → visit.answer ≡ result.bytes.items → IsToldGone visit }
+    ensures untold { result.sent ≡ 0 }
+{
+    let mut writer = Writing::new(alloc);
+    let _ = tell_gone(&mut writer);
+    Answer {
+        bytes: writer.into_bytes(),
+        sent: 0,
+    }
+}
+
+/// Returns the response to a client of which these bytes were gathered; nothing of it went out yet. If its code is wrong, and as
+/// many wrong codes came as may, it is told to wait. If the file of the office isn't whole, it is told so, unless it asks for a
+/// read. Nothing else comes of either. Else it is counted if its code was wrong.
 fn answer_client<S: Alter>(
     alloc: Global,
     given: Given<'_>,
-    now: u64,
+    moment: Moment,
     got: &[u8],
     office: &mut Office<S>,
     kept: &mut Remembered,
 ) -> Answer
     ensures meets { (number : ℕ) → MeetsClient (given_entry given.entry) (state S.Store) (desk_at office.old (kept_in kept.old))
-        (record { door = Door.Clients; number = number; moment = now; got = got.now; answer = result.bytes.items }) (desk_at office.new (kept_in kept.new)) }
+        (record { door = Door.Clients; number = number; moment = moment.now; got = got.now; answer = result.bytes.items }) (desk_at office.new (kept_in kept.new)) }
     ensures untold { result.sent ≡ 0 }
 {
     let knock = knock_of(given, got);
-    if kept.must_wait(knock, now) {
+    if kept.must_wait(knock, moment.now) {
         return to_wait(alloc);
     }
+    if !moment.is_whole && !is_reading(alloc, given, got, office) {
+        return to_gone(alloc);
+    }
     let answer = answered(alloc, given, got, office, kept);
-    kept.note(knock, now);
+    kept.note(knock, moment.now);
     answer
 }
 
@@ -260,7 +299,14 @@ fn answer_to<L: Line, A: Aside, S: Alter>(
     match door {
         Door::Clients => (
             line,
-            answer_client(alloc, terms.given, now, got, office, kept),
+            answer_client(
+                alloc,
+                terms.given,
+                Moment::of(now, aside),
+                got,
+                office,
+                kept,
+            ),
         ),
         Door::Orders => {
             kept.reads.empty();

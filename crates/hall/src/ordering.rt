@@ -6,9 +6,9 @@ ghost use Rattle.sqlite.specs.Held.{state};
 ghost use Rattle.office.specs.Answers.{IsReadAt, WhenOpenAt};
 ghost use Rattle.gathering.specs.Lines.{HasTaken, line_of};
 ghost use Rattle.gathering.specs.Clients.{IsTold};
-ghost use Rattle.handover.specs.Spelling.{handed_entry, piece_entries};
+ghost use Rattle.handover.specs.Spelling.{HandedEntry, handed_entry, piece_entries};
 ghost use Rattle.desk.specs.Pages.{Shows, Tells, outputs_of};
-ghost use Rattle.hall.specs.Handings.{ComesOf, FollowsOrder, HasCameWhole, IsCopyTold, IsMessage, TellsAsked, folder_of, shut_page};
+ghost use Rattle.hall.specs.Handings.{AsksSo, ComesOf, FollowsOrder, HasCameWhole, IsCopyTold, IsMessage, TellsAsked, folder_of, shut_page};
 
 use crate::aside::Aside;
 use crate::handing::{Asked, asked_by, is_for_file, read_message, words_of};
@@ -155,6 +155,22 @@ fn tell_asked<L: Line, A: Aside, S: Alter>(
     out.end(status, err.into_bytes().as_slice())
 }
 
+/// Returns what an order asks; or that it isn't followed, if the office is to do something, and its file isn't whole.
+fn unless_gone<'w, A: Aside>(asked: Asked<'w>, aside: &A) -> Asked<'w>
+    ensures { (h : HandedEntry) → AsksSo h asked.entry → AsksSo h result }
+{
+    match asked {
+        Asked::Do(job) => {
+            if aside.is_whole() {
+                Asked::Do(job)
+            } else {
+                Asked::Refused(Failure::FileGone)
+            }
+        }
+        other => other,
+    }
+}
+
 /// Gives an order its turn that was read: it prints what the order asks, or why it isn't followed.
 fn tell_handed<L: Line, A: Aside, S: Alter>(
     alloc: Global,
@@ -187,7 +203,7 @@ fn tell_handed<L: Line, A: Aside, S: Alter>(
         folder: handed.folder,
         files: &handed.files,
     };
-    let asked = asked_by(alloc, &words);
+    let asked = unless_gone(asked_by(alloc, &words), aside);
     tell_asked(alloc, aside, &asked, brought, line, office)
 }
 

@@ -6,7 +6,7 @@ use Rattle.wire.specs.Responses.{clerk_kept_out, denied_response, fault_response
 use Rattle.wire.specs.declared.denial.Denial.{Denial}
 use Rattle.wire.specs.declared.denial.Denial.TheVariants.{BadRequest, Forbidden, MethodNotAllowed, NotFound, TooLarge, Unauthorized, WrongCode}
 use Rattle.wire.specs.declared.denial.Verb.TheVariants.{Get, Post}
-use Rattle.wire.specs.declared.response.TheConstants.{BAD_REQUEST, FORBIDDEN, LEFT, NOT_FOUND, NO_MEMORY, ONLY_GET, ONLY_POST, TOO_LARGE, WAITS}
+use Rattle.wire.specs.declared.response.TheConstants.{BAD_REQUEST, FORBIDDEN, GONE, LEFT, NOT_FOUND, NO_MEMORY, ONLY_GET, ONLY_POST, TOO_LARGE, WAITS}
 
 pub bad_request-told : BAD_REQUEST.now ≡ response_bytes (denied_response BadRequest)
 unfolding digits lines_and_body
@@ -39,6 +39,10 @@ no_memory-told = refl
 pub waits-told : WAITS.now ≡ response_bytes waits_response
 unfolding digits lines_and_body
 waits-told = refl
+
+pub gone-told : GONE.now ≡ response_bytes (fault_response 113)
+unfolding digits lines_and_body
+gone-told = refl
 
 pub left-told : LEFT.now ≡ response_bytes (shown_response has_left)
 unfolding digits lines_and_body

@@ -68,6 +68,10 @@ const TOO_LARGE: &str =
 const WAITS: &str =
     "HTTP/1.1 429 Too Many Requests\r\nContent-Type: application/json\r\nContent-Length: 32\r\nRetry-After: 60\r\nConnection: close\r\n\r\n{\"error\":\"too many wrong codes\"}";
 
+/// The response while the file of the office is gone or replaced.
+const GONE: &str =
+    "HTTP/1.1 503 Service Unavailable\r\nContent-Type: application/json\r\nContent-Length: 13\r\nConnection: close\r\n\r\n{\"fault\":113}";
+
 /// The answer to who leaves.
 const LEFT: &str =
     "HTTP/1.1 200 OK\r\nContent-Type: application/json\r\nContent-Length: 13\r\nClear-Site-Data: \"cookies\"\r\nCache-Control: no-store\r\nConnection: close\r\n\r\n{\"left\":true}";
@@ -307,6 +311,16 @@ impl Response {
         Response {
             status: 429,
             bytes: Bytes::Fixed(WAITS),
+        }
+    }
+
+    /// Returns the response while the file of the office is gone or replaced.
+    pub(crate) fn gone() -> Response
+        ensures { IsWritten (fault_response 113) result }
+    {
+        Response {
+            status: 503,
+            bytes: Bytes::Fixed(GONE),
         }
     }
 

@@ -7,7 +7,7 @@ ghost use Rattle.register.specs.Offices.{OfficeState};
 ghost use Rattle.store.specs.Offices.{IsAt};
 ghost use Rattle.wire.specs.Asking.{HasRead, IsWanting};
 ghost use Rattle.wire.specs.Gates.{given_entry};
-ghost use Rattle.wire.specs.Responses.{waits_response};
+ghost use Rattle.wire.specs.Responses.{fault_response, waits_response};
 ghost use Rattle.wire.specs.Told.{IsWritten};
 ghost use Rattle.wire.specs.Serving.{IsPut, IsServed, OnAnswered, OnReadFailed, OnWriteFailed, ReadiesClosed, ReadiesFor, Serves, ServesClosed};
 
@@ -80,6 +80,18 @@ pub fn tell_to_wait<W: Sink>(writer: &mut W) -> Served
     ensures write_failed { OnWriteFailed result (W.failed writer.new ≡ W.failed writer.old + 1) }
 {
     put(writer, &Response::waits())
+}
+
+/// Writes that the file of the office is gone or replaced (113).
+///
+/// `WriteFailed` comes only from the writer, which counts one failure more: a beginning of the response was written.
+pub fn tell_gone<W: Sink>(writer: &mut W) -> Served
+    requires { W.failed writer.old < 2 ^ 64 - 1 }
+    ensures told { IsServed (IsWritten (fault_response 113)) (W.taken writer.old) (W.taken writer.new) result }
+    ensures answered { OnAnswered result (W.failed writer.new ≡ W.failed writer.old) }
+    ensures write_failed { OnWriteFailed result (W.failed writer.new ≡ W.failed writer.old + 1) }
+{
+    put(writer, &Response::gone())
 }
 
 /// Serves one connection: reads a request, hands it on to the office, and writes the answer.
