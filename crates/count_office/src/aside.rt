@@ -29,6 +29,10 @@ fn path_from(alloc: Global, folder: &str, path: &str) -> Result<String, AllocErr
 }
 
 impl Aside for Machine<'_> {
+    fn is_whole(&self) -> bool {
+        self.presence.is_whole(self.rt)
+    }
+
     fn copy<S: Alter, O: Sink, E: Sink>(
         &self,
         office: &mut Office<S>,

@@ -8,19 +8,19 @@ use crate::aside::Machine;
 use crate::beside::{Beside, closed_streams, reason_of};
 use crate::presence::Presence;
 use crate::slips::{read_codes, tell_untaken};
-use codes::{Codes, RateLimit, ReadError};
+use codes::{Codes, ReadError};
 use desk::{Failure, tell_failure};
-use hall::{FileNumbers, Terms, serve_hall};
+use hall::{Ended, FileNumbers, Terms, serve_hall};
 use keying_page::{page_text, policy_text};
 use mio::net::UnixListener;
 use office::Office;
-use sockets::{Loopback, Watch};
+use sockets::{Doorway, Loopback, Watch};
 use sqlite::{Alter, Connection};
 use std::alloc::{AllocError, Global};
 use std::io;
 use std::io::{ErrorKind, Write};
 use store::Fault;
-use votes::{Broken, Sink};
+use votes::Sink;
 use wire::{Gate, Given, Origin, Page};
 
 /// What `serve` was given: its port, after how many clients it ends, if it does, the origin of a proxy, and the path of a file
@@ -79,12 +79,17 @@ fn gate_of(porter: &Option<Porter>) -> Option<Gate<'_>>
 
 /// Listens on a port of this machine's loopback addresses and, if there is one, on the socket for orders beside the database. Fails if
 /// one of the addresses is taken: no clause can say which are bound, and `tools/both-addresses` tries it.
-fn listen(rt: &HostRuntime, port: u32, orders: Option<UnixListener>) -> io::Result<Watch> {
+fn listen<'a>(
+    rt: &'a HostRuntime,
+    port: u32,
+    orders: Option<UnixListener>,
+) -> io::Result<Doorway<&'a HostRuntime>> {
     let Ok(port) = u16::try_from(port) else {
         return Err(io::Error::from(ErrorKind::InvalidInput));
     };
     let clients = Loopback::bind(rt, port)?;
-    Watch::new(rt, rt.alloc(), clients, orders)
+    let watch = Watch::new(rt, rt.alloc(), clients, orders)?;
+    Ok(Doorway { watch, clock: rt })
 }
 
 /// Why the doors can't be opened.
@@ -126,18 +131,10 @@ fn serve_at<S: Alter>(
         presence: &presence,
     };
     let most = serving.connections.map(u64::from);
-    match serve_hall(
-        rt.alloc(),
-        rt,
-        &mut doors,
-        terms,
-        RateLimit::new(),
-        &aside,
-        most,
-        office,
-    ) {
+    match serve_hall(rt.alloc(), &mut doors, terms, &aside, most, office) {
         Ok(()) => Ok(()),
-        Err(Broken) => Err(Failure::Output),
+        Err(Ended::Memory) => Err(Failure::Office(Fault::Memory)),
+        Err(Ended::Doors | Ended::Rounds) => Err(Failure::Output),
     }
 }
 

@@ -1,6 +1,6 @@
 -- A hall in which clients are served and orders followed: who comes in, who is let go, and what is promised of all of them.
-use Rattle.std.specs.Prelude.{◌≡◌, ◌≤◌, ◌<◌, ◌+◌, ◌-◌, ◌^◌, ◌⊎◌, Bool, true, false, List, ◌++◌, IfSome, OnOk, Option, Result, Ok, Err, length, map, option_map, slice_index_or, ℕ}
-use Rattle.std.specs.List.{FoldsTo, remove}
+use Rattle.std.specs.Prelude.{◌≡◌, ◌≤◌, ◌<◌, ◌+◌, ◌-◌, ◌^◌, Bool, true, false, List, ◌++◌, IfSome, OnOk, Option, Result, Ok, Err, length, map, option_map, slice_index_or, ℕ}
+use Rattle.std.specs.List.{FoldsTo}
 use Rattle.sqlite.specs.Held.{Held}
 use Rattle.sqlite.specs.State.{HasCleanDisk, State}
 use Rattle.register.specs.Machine.{after}
@@ -10,16 +10,11 @@ use Rattle.store.specs.Offices.{IsAt}
 use Rattle.office.specs.Values.{OfficeValue}
 use Rattle.votes.specs.declared.streams.Broken.{Broken}
 use Rattle.gathering.specs.Lines.{Line, failed_after, one_more}
-use Rattle.gathering.specs.Rooms.{AreUnseen, DoorsEntry, IsLongest, bytes_held, clients_among, most_bytes, most_clients, with_leaver}
-use Rattle.gathering.specs.Leavers.{leaver_of}
-use Rattle.gathering.specs.declared.client.Client.{Client}
+use Rattle.gathering.specs.Rooms.{DoorsEntry, clients_among}
 use Rattle.gathering.specs.declared.client.Comer.{Comer}
 use Rattle.gathering.specs.declared.leaver.Leaver.{Leaver}
-use Rattle.gathering.specs.declared.leaver.Leaving.{Leaving}
-use Rattle.gathering.specs.declared.leaver.Leaving.TheVariants.{Late, ForRoom, Closing}
 use Rattle.gathering.specs.declared.room.Room.{Room}
 use Rattle.hall.specs.Guests.{AreIn, Guest, HasLeft, WentSoWithAll}
-use Rattle.hall.specs.declared.leaving.Rule.{Rule}
 use Rattle.hall.specs.declared.ended.Ended.{Ended}
 use Rattle.hall.specs.declared.ended.Ended.TheVariants as ended
 use Rattle.hall.specs.Reads.{Desk, KeptEntry, desk_at, with_none_kept}

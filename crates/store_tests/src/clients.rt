@@ -1,10 +1,12 @@
 //! Clients over HTTP, and orders that are handed over, who come to doors; and what their lines give and take. Which bytes come of
 //! them is known, also to clauses.
 
-ghost use Rattle.std.specs.Prelude.{None, Some};
+ghost use Rattle.std.specs.Prelude.{◌≡◌, None, Some, length, nat_lt};
+ghost use Rattle.gathering.specs.Rooms.{with_leaver};
+ghost use Rattle.sockets.specs.Watches.{unknown};
 
-use gathering::{Admitted, Came, Comer, Door, Doors, Line};
-use sockets::Watch;
+use gathering::{Admitted, Came, Comer, Door, Doors, Leaver, Line};
+use sockets::Doorway;
 use std::alloc::Global;
 use std::cell::{Cell, RefCell};
 use std::io::{ErrorKind, Write};
@@ -125,6 +127,10 @@ impl Line for Talk<'_, '_> {
 
     ghost taken = { λ _. None };
 
+    ghost failed = { λ _. None };
+
+    ghost idle = { λ _. None };
+
     fn fetch(&mut self, room: &mut [u8]) -> Result<Came, Broken> {
         if self.client.heard == 0 {
             return Err(Broken);
@@ -178,6 +184,7 @@ impl Line for Talk<'_, '_> {
 pub struct Coming<'c, 'p> {
     evening: Evening<'c>,
     pages: &'p [RefCell<Vec<u8>>],
+    clock: Jumping,
     next: usize,
     came: u64,
     told: usize,
@@ -189,6 +196,7 @@ impl<'c, 'p> Coming<'c, 'p> {
         Coming {
             evening,
             pages,
+            clock: Jumping::by(evening.seconds),
             next: 0,
             came: 0,
             told: 0,
@@ -205,7 +213,19 @@ impl<'c, 'p> Coming<'c, 'p> {
 impl<'c, 'p> Doors for Coming<'c, 'p> {
     type Line = Talk<'c, 'p>;
 
-    ghost came = { λ _. None };
+    ghost known = { λ _. unknown };
+
+    ghost waited_at = { λ coming. nat_lt coming.next (length coming.evening.comers.now) };
+
+    fn now(&mut self) -> Result<u64, Broken> {
+        now_by(&self.clock)
+    }
+
+    fn leave(&mut self, leaver: Leaver<Talk<'c, 'p>>)
+        ensures { unknown ≡ with_leaver unknown leaver }
+    {
+        drop(leaver);
+    }
 
     fn wait(&mut self, _most: Duration) -> Result<(), Broken> {
         if self.evening.waits == 0 {
@@ -284,7 +304,7 @@ pub fn joined(alloc: Global, pages: Vec<RefCell<Vec<u8>>>) -> Result<String, Fai
 /// The doors at a port of this machine, and after how many clients serving ends.
 #[derive(Drop)]
 pub struct Port {
-    pub watch: RefCell<Watch>,
+    pub doors: RefCell<Doorway<Jumping>>,
     pub connections: u64,
 }
 
@@ -307,6 +327,14 @@ impl Jumping {
             now: Cell::new(0),
             by: seconds,
         }
+    }
+}
+
+/// Returns the time of a clock, in milliseconds.
+fn now_by<C: Clock>(clock: &C) -> Result<u64, Broken> {
+    match clock.monotonic() {
+        Ok(since) => Ok(u64::try_from(since.as_millis()).unwrap_or(u64::MAX)),
+        Err(_) => Err(Broken),
     }
 }
 

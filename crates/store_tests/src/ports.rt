@@ -6,7 +6,7 @@ use super::disks::Disks;
 use super::machine::{Machine, hear, play_acts};
 use super::steps::Step;
 use mio::net::TcpListener;
-use sockets::{Loopback, Watch};
+use sockets::{Doorway, Loopback, Watch};
 use std::cell::RefCell;
 use std::io::{Read, Write};
 use std::net::{Ipv4Addr, SocketAddr, TcpStream};
@@ -44,7 +44,10 @@ fn connections_are_answered_side_by_side(rt: HostRuntime) -> Result<(), Fail> {
         ipv6: None,
     };
     let port = Port {
-        watch: RefCell::new(Watch::new(&rt, rt.alloc(), clients, None)?),
+        doors: RefCell::new(Doorway {
+            watch: Watch::new(&rt, rt.alloc(), clients, None)?,
+            clock: Jumping::by(31),
+        }),
         connections: 3,
     };
     let silent = connected(&rt, office, "")?;

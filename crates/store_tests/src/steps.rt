@@ -2,12 +2,12 @@
 
 ghost use Rattle.std.specs.Prelude.{◌≡◌, ◌+◌, ◌-◌, ◌^◌, ◌<◌};
 
-use super::clients::{Coming, Evening, Jumping, Port, Taking, joined, pages_of};
+use super::clients::{Coming, Evening, Port, Taking, joined, pages_of};
 use super::loads::loads;
-use codes::{Codes, Tries};
+use codes::Codes;
 use desk::perform::perform;
 use desk::{Failure, Folder, Order, copy_office, order, tell_failure, tell_words};
-use hall::{Aside, FileNumbers, Terms, serve_hall};
+use hall::{Aside, Ended, FileNumbers, Terms, serve_hall};
 use office::{Answer, Office, Run, Stop, Work};
 use register::Request;
 use sqlite::{Alter, Connection};
@@ -243,15 +243,14 @@ pub const TERMS: Terms<'static> = Terms {
 };
 
 /// The codes of an evening, if they are asked for; and the wrong ones that came before, which are none.
-fn codes_of(alloc: Global, evening: Evening<'_>) -> Result<(Option<Codes>, Tries), Fail> {
+fn codes_of(alloc: Global, evening: Evening<'_>) -> Result<Option<Codes>, Fail> {
     let Some(text) = evening.codes else {
-        return Ok((None, Tries::of_nobody(alloc)));
+        return Ok(None);
     };
     let Ok(held) = Codes::read(alloc, text.as_bytes()) else {
         return Err(Fail::from("no codes are read"));
     };
-    let tries = Tries::new(alloc, &held)?;
-    Ok((Some(held), tries))
+    Ok(Some(held))
 }
 
 /// What the office is served by, with these codes.
@@ -277,6 +276,10 @@ fn terms_of(held: &Option<Codes>) -> Terms<'_> {
 struct Unaided;
 
 impl Aside for Unaided {
+    fn is_whole(&self) -> bool {
+        true
+    }
+
     fn copy<S: Alter, O: Sink, E: Sink>(
         &self,
         _office: &mut Office<S>,
@@ -305,7 +308,7 @@ fn serve<S: Alter + Drop>(
     evening: Evening<'_>,
 ) -> Result<(Said, Connection<S>), Fail> {
     let pages = pages_of(alloc, evening.comers.len())?;
-    let (held, tries) = codes_of(alloc, evening)?;
+    let held = codes_of(alloc, evening)?;
     let mut office = match Office::open_from(alloc, conn) {
         Ok(office) => office,
         Err((fault, conn)) => {
@@ -322,14 +325,11 @@ fn serve<S: Alter + Drop>(
         }
     };
     let served = {
-        let clock = Jumping::by(evening.seconds);
         let mut coming = Coming::new(evening, &pages);
         serve_hall(
             alloc,
-            &clock,
             &mut coming,
             terms_of(&held),
-            tries,
             &Unaided,
             evening.connections,
             &mut office,
@@ -356,22 +356,10 @@ fn listen<S: Alter + Drop>(
     let Ok(mut office) = Office::open_from(alloc, conn) else {
         return Err(Fail::from("no office is opened"));
     };
-    let clock = Jumping::by(31);
     let most = Some(port.connections);
-    let served = match port.watch.try_borrow_mut() {
-        Ok(mut watch) => {
-            serve_hall(
-                alloc,
-                &clock,
-                &mut *watch,
-                TERMS,
-                Tries::of_nobody(alloc),
-                &Unaided,
-                most,
-                &mut office,
-            )
-        },
-        Err(_) => Err(Broken),
+    let served = match port.doors.try_borrow_mut() {
+        Ok(mut doors) => serve_hall(alloc, &mut *doors, TERMS, &Unaided, most, &mut office),
+        Err(_) => Err(Ended::Doors),
     };
     let conn = office.into_connection();
     let text = format!(in alloc; "{served:?}")?;

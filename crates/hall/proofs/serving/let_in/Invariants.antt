@@ -1,0 +1,17 @@
+-- What holds each time round the loop of `let_in`.
+use Rattle.std.proofs.Common.{◌≤◌, []}
+use Rattle.gathering.specs.Closing.{IsWithin}
+use Rattle.gathering.specs.Lines.{line_of}
+use Rattle.hall.specs.Halls.{GoesOn}
+use Rattle.hall.specs.Terms.{Given}
+use Rattle.hall.proofs.HallLemmas.{IsUnfailed}
+use Rattle.hall.proofs.serving.let_in.Given as goal
+
+-- some came in so far
+abbrev pub invariant-loop : goal.invariant-loop
+invariant-loop g l = record {
+  goes_on : (given : Given) → GoesOn given (line_of g.D.Line.Line.held g.D.Line.Line.taken g.D.Line.Line.failed) [] (g.D.Doors.known l.fn.doors) (g.D.Doors.known l.doors) l.fn.room l.room;
+  few : l.fn.room.counted ≤ l.most → l.room.counted ≤ l.most;
+  within : IsWithin l.room;
+  called : IsUnfailed (g.D.Doors.known l.fn.doors) (g.D.Doors.known l.doors);
+}
