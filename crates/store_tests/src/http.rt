@@ -193,8 +193,8 @@ fn are_not_let_in<M: Machine + Drop>(
     let mut machine = machine;
     for case in [
         wanted(&one, Some(0), &[""], "Ok(())"),
-        wanted(&one, Some(2), &[FOUR_TO_KEY], "Err(Broken)"),
-        wanted(&one, None, &[FOUR_TO_KEY], "Err(Broken)"),
+        wanted(&one, Some(2), &[FOUR_TO_KEY], "Err(Doors)"),
+        wanted(&one, None, &[FOUR_TO_KEY], "Err(Doors)"),
         wanted(&late, Some(1), &["", FOUR_TO_KEY], "Ok(())"),
         wanted(&between, Some(1), &[FOUR_TO_KEY, "", ""], "Ok(())"),
         wanted(&between, Some(2), &[FOUR_TO_KEY, "", FOUR_TO_KEY], "Ok(())"),
@@ -260,7 +260,7 @@ fn are_too_many<M: Machine + Drop>(rt: &(impl Abort + AllocGlobal), machine: M) 
         waits: 40,
         ..Evening::of(&comers)
     };
-    let end = "Err(Broken)";
+    let end = "Err(Doors)";
     serve(
         rt,
         machine,
@@ -281,15 +281,12 @@ const BY_HIS_CODE: &[u8] =
 const BY_A_WRONG_ONE: &[u8] =
     b"GET /clerks/4/work HTTP/1.1\r\nAuthorization: Basic OTp3M2hkLTRwc24=\r\n\r\n";
 
-/// The answers to the last two, and to whoever knocks behind ten wrong ones.
+/// The response to the last two.
 const UNAUTHORIZED: &str =
     "HTTP/1.1 401 Unauthorized\r\nContent-Type: application/json\r\nContent-Length: 24\r\nWWW-Authenticate: Basic realm=\"clerk 4\", charset=\"UTF-8\"\r\nConnection: close\r\n\r\n{\"error\":\"unauthorized\"}";
 
-const MUST_WAIT: &str =
-    "HTTP/1.1 429 Too Many Requests\r\nContent-Type: application/json\r\nContent-Length: 32\r\nRetry-After: 60\r\nConnection: close\r\n\r\n{\"error\":\"too many wrong codes\"}";
-
-/// What comes, and each answer: clerk 4's work by his code alone, also where it was kept. Behind ten wrong codes nobody gets
-/// it. A sheet is everyone's.
+/// What comes, and each response: clerk 4's work by the clerk's code alone, also where it was kept, and after wrong codes too. A
+/// sheet is everyone's.
 const AT_THE_GATE: [(&[u8], &str); 18] = [
     (BY_HIS_CODE, FOUR_TO_KEY),
     (BY_HIS_CODE, FOUR_TO_KEY),
@@ -306,8 +303,8 @@ const AT_THE_GATE: [(&[u8], &str); 18] = [
     (BY_A_WRONG_ONE, UNAUTHORIZED),
     (BY_A_WRONG_ONE, UNAUTHORIZED),
     (BY_A_WRONG_ONE, UNAUTHORIZED),
-    (BY_HIS_CODE, MUST_WAIT),
-    (FOUR, MUST_WAIT),
+    (BY_HIS_CODE, FOUR_TO_KEY),
+    (FOUR, UNAUTHORIZED),
     (SHEET, WRONG_PHASE),
 ];
 
@@ -367,7 +364,7 @@ fn hold_too_much<M: Machine + Drop>(
     comers[63] = Some(comer);
     texts[1] = BAD_REQUEST;
     texts[63] = BAD_REQUEST;
-    serve(rt, machine, wanted(&comers, None, &texts, "Err(Broken)"))
+    serve(rt, machine, wanted(&comers, None, &texts, "Err(Doors)"))
 }
 
 /// What a client can't ask.

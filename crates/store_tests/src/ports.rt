@@ -1,7 +1,7 @@
 //! Connections over loopback, in one process with their clients.
 
 use super::begun::{BAD_REQUEST, BEGUN, KEYED, KEYING};
-use super::clients::Port;
+use super::clients::{Jumping, Port};
 use super::disks::Disks;
 use super::machine::{Machine, hear, play_acts};
 use super::steps::Step;
