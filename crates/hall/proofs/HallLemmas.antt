@@ -1,10 +1,10 @@
 -- From one moment of a hall to another.
-use Rattle.std.proofs.Common.{◌≡◌, ◌≤◌, ◌<◌, ◌+◌, ◌-◌, ◌^◌, ◌∙◌, ◌⊎◌, ◌∷◌, ◌++◌, ℕ, true, List, [], None, Option, Some, ap, append-nil, append_assoc, arith, get_or, inl, inr, insert, length, length-set, map, option_map, refl, remove, set, subst, suc, sym, zero}
-use Rattle.std.specs.Prelude.{Bool, Err, IfSome, Ok, OnOk, Result, false, unwrap_or}
+use Rattle.std.proofs.Common.{◌≡◌, ◌≤◌, ◌<◌, ◌+◌, ◌-◌, ◌^◌, ◌∙◌, ◌⊎◌, ◌∷◌, ◌++◌, ℕ, add-zero, true, List, [], None, Option, Some, ap, append-nil, append_assoc, arith, get_or, inl, inr, insert, length, length-set, map, option_map, refl, remove, set, subst, suc, sym, zero}
+use Rattle.std.specs.Prelude.{Bool, Err, IfOk, IfSome, Ok, OnOk, Result, false, unwrap_or}
 use Rattle.std.specs.Result.{IsErr}
 use Rattle.std.specs.List.{FoldsTo}
 use Rattle.std.specs.Vec.{with_item}
-use Rattle.std.proofs.lemmas.List.{get_or_default, get_or_read, map_push}
+use Rattle.std.proofs.lemmas.List.{get_or-set_same, get_or_default, get_or_read, map_push}
 use Rattle.std.proofs.lemmas.List.Elements.{All-nil, All-push}
 use Rattle.std.proofs.lemmas.List.Sums.{sum_by-append}
 use Rattle.sqlite.specs.Held.{Held}
@@ -25,17 +25,17 @@ use Rattle.gathering.specs.declared.leaver.Leaving.{Leaving}
 use Rattle.gathering.specs.declared.room.Room.{Room}
 use Rattle.gathering.proofs.LineLemmas.{heard_more}
 use Rattle.hall.specs.Guests.{AreIn, Guest, HadFor, HasLeft, IsGathered, IsIn, IsSound, Stands, WentSo, visits_of}
-use Rattle.gathering.specs.Closing.{AreLetGo, MayLeave}
-use Rattle.hall.specs.Halls.{GoesOn, GoesOnServing, HandsBackMore, IsCalled, IsEndedBy, IsRound, LetsInMore, ServesHall}
+use Rattle.gathering.specs.Closing.{AreLetGo, IsClosed, IsLetGo, MayLeave, late_by}
+use Rattle.hall.specs.Halls.{GoesOn, GoesOnServing, HandsBackMore, IsCalled, IsEndedBy, IsRound, IsUnfailed, LetsInMore, ServesHall}
 use Rattle.hall.specs.declared.ended.Ended.{Ended}
 use Rattle.hall.specs.declared.ended.Ended.TheVariants as ended
-use Rattle.hall.specs.Reads.{Desk, with_none_kept}
+use Rattle.hall.specs.Reads.{Desk, KeptEntry, desk_at, with_none_kept}
 use Rattle.hall.specs.Terms.{Given}
 use Rattle.hall.specs.Turns.{HasComeAt, HasTurn, IsUntold, MayHaveTurn, answer_of}
 use Rattle.hall.specs.Visits.{ServesVisit, Visit}
 use Rattle.hall.proofs.GuestLemmas.{are_same, first_under, gathered_for, none_in, one_entered, one_left, one_went_on, same_under, with_one}
 use Rattle.hall.proofs.KeptLemmas.{cleans, kept_of, turned_away}
-use Rattle.gathering.proofs.ClosingLemmas.{Outs, folds_then, more_then}
+use Rattle.gathering.proofs.ClosingLemmas.{Outs, closed_outs, folds_then, late_outs, more_then}
 use Rattle.hall.proofs.TurnLemmas.{is_heard}
 
 -- ---- a place
@@ -79,6 +79,9 @@ still_call (Err broken) before later is = (ap (λ (d : DoorsEntry _). d.came) is
 pub still_wait : {L : Type 0} (result : Result (Unit {0}) Broken) (before later : DoorsEntry L) → later ≡ after_wait result before → IsStill before later
 still_wait (Ok value) before later is = (ap (λ (d : DoorsEntry _). d.came) is, ap (λ (d : DoorsEntry _). d.left) is)
 still_wait (Err broken) before later is = (ap (λ (d : DoorsEntry _). d.came) is, ap (λ (d : DoorsEntry _). d.left) is)
+
+pub still_known : {L : Type 0} (before later : DoorsEntry L) → later ≡ before → IsStill before later
+still_known {L} before later is = (ap (λ (d : DoorsEntry L). d.came) is, ap (λ (d : DoorsEntry L). d.left) is)
 
 module _ {L : Type 0} (given : Given) (line : Line L) where
   -- ---- a room
@@ -304,6 +307,44 @@ module _ {L : Type 0} (given : Given) (line : Line L) where
         goes_on_at state_of before later room back place old new at behind still within here door number is turn
         (items ∙ ap (λ (cs : List (Client L)). insert cs place new) out ∙ set_again room.clients.items place new within) came counted
 
+    -- those that were in went on, late ones were closed, and more came in
+    pub serving_round : (before mid now gone later : DoorsEntry L) (old went left new : Room L) (at behind : Desk S) (moment : ℕ)
+        → GoesOnServing given line state_of before mid old went at behind → IsStill mid now → AreLetGo (IsLetGo (late_by moment)) now gone went left → GoesOn given line [] gone later left new
+        → GoesOnServing given line state_of before later old new at behind
+    serving_round before mid now gone later old went left new at behind moment on still late more =
+        serving_then before now later old went new at behind behind (serving_still before mid now old went at behind still on)
+        (serving_none now later went new behind
+        (goes_then [] [] now gone later went left new (goes_without (IsLetGo (late_by moment)) (late_outs moment) now gone went left late) more))
+
+    -- all went on, and whoever was in then was closed
+    pub all_went : (before mid later : DoorsEntry L) (room went closed : Room L) (at : OfficeValue S) (kept : KeptEntry) (behind : Desk S) → kept ≡ (with_none_kept at).kept
+        → GoesOnServing given line state_of before mid room went (desk_at at kept) behind → AreLetGo IsClosed mid later went closed → GoesOnServing given line state_of before later room closed (with_none_kept at) behind
+    all_went before mid later room went closed at kept behind none on gone =
+        serving_then before mid later room went closed (with_none_kept at) behind behind (subst (λ (k : KeptEntry). GoesOnServing given line state_of before mid room went (desk_at at k) behind) none on)
+        (serving_none mid later went closed behind (goes_without IsClosed closed_outs mid later went closed gone))
+
+    -- there was no room, so nobody came in
+    pub nobody_served : (before : DoorsEntry L) (most : Option ℕ) (at : OfficeValue S) → ServesHall given line state_of before before most at at (Err ended.Memory)
+    nobody_served before most at = record {
+      guests = [];
+      visits = [];
+      gone = [];
+      came = grows_none before.came;
+      back = grows_none before.left;
+      few = none_few most;
+      all = tt;
+      went = (none_in given line).went;
+      left = λ k d lt. absurd (omega (arith, lt));
+      once = refl;
+      kept = (with_none_kept at).kept;
+      each = refl;
+      keeps = λ clean is_open earlier rests. kept_of given state_of earlier [] at (with_none_kept at) refl clean is_open rests;
+    }
+      where
+        none_few : (most : Option ℕ) → IfSome most (λ n. 0 ≤ n)
+        none_few None = tt
+        none_few (Some n) = omega arith
+
     -- a closed office stays as it is
     pub serving_closed : (before later : DoorsEntry L) (old new : Room L) (at behind : Desk S) → GoesOnServing given line state_of before later old new at behind
         → at.office.closed ≡ true → behind.office ≡ at.office
@@ -380,6 +421,16 @@ pub most_all : (connections : Option ℕ) (most came : ℕ) → most ≡ unwrap_
 most_all None most came is few all = tt
 most_all (Some n) most came is few all = omega (arith, is, few, all)
 
+-- no more came than were to come, where some were closed behind that
+pub few_closed : (connections : Option ℕ) (most none came closed : ℕ) → most ≡ unwrap_or connections (2 ^ 64 - 1) → none ≡ 0 → (none ≤ most → came ≤ most) → closed ≡ came → IfSome connections (λ n. closed ≤ n)
+few_closed connections most none came closed is first few same = let all = few (omega (arith, first)) in most_few connections most closed is (omega (arith, all, same))
+
+-- and all came, if nothing failed
+pub all_closed : {E : Type 0} (result : Result (Unit {0}) E) (connections : Option ℕ) (most none came closed : ℕ) → most ≡ unwrap_or connections (2 ^ 64 - 1) → none ≡ 0 → (none ≤ most → came ≤ most) → closed ≡ came → OnOk result (most ≤ came)
+    → OnOk result (IfSome connections (λ n. closed ≡ n))
+all_closed (Ok value) connections most none came closed is first few same all = let at_most = few (omega (arith, first)) in most_all connections most closed is (omega (arith, at_most, same)) (omega (arith, all, same))
+all_closed (Err why) connections most none came closed is first few same all = tt
+
 -- there was a failure, so nothing is said of an end without one
 pub on_err : {A E : Type 0} (result : Result A E) (P : Type 0) → IsErr result → OnOk result P
 on_err (Ok a) P failed = absurd (cc failed)
@@ -391,10 +442,6 @@ module _ {L : Type 0} where
   pub called_one : {A : Type 0} (result : Result A Broken) (before later : DoorsEntry L) → later ≡ after_call result before → IsCalled result before later
   called_one (Ok value) before later is = (ap (λ (d : DoorsEntry L). d.failed) is, ap (λ (d : DoorsEntry L). d.waits) is)
   called_one (Err broken) before later is = (ap (λ (d : DoorsEntry L). d.failed) is, ap (λ (d : DoorsEntry L). d.waits) is)
-
-  -- no call failed
-  abbrev pub IsUnfailed : DoorsEntry L → DoorsEntry L → Type 0
-  IsUnfailed before later = (later.failed ≡ before.failed) × (later.waits ≡ before.waits)
 
   pub unfailed_then : {A : Type 0} (result : Result A Broken) (before mid later : DoorsEntry L) → IsUnfailed before mid → IsCalled result mid later → IsCalled result before later
   unfailed_then result before mid later (failed, waits) (failed_then, waits_then) = (failed_then ∙ ap (failed_after result) failed, waits_then ∙ waits)
@@ -410,3 +457,23 @@ module _ {L : Type 0} where
   called_as (Err broken) (Err again) before later err also it = it
   called_as (Ok value) other before later err also it = absurd (cc err)
   called_as (Err broken) (Ok value) before later err also it = absurd (cc also)
+
+  -- nothing more was known of them
+  pub unfailed_known : (before mid later : DoorsEntry L) → IsUnfailed before mid → later ≡ mid → IsUnfailed before later
+  unfailed_known before mid later (failed, waits) is = (ap (λ (d : DoorsEntry L). d.failed) is ∙ failed, ap (λ (d : DoorsEntry L). d.waits) is ∙ waits)
+
+-- what is so of the reason for which one leaves, if it does
+pub leaves_by : {A E : Type 0} (P : A → Type 0) (result : Result (Option A) E) → IfOk result (λ next. IfSome next P) → (next : Option A) → result ≡ Ok next → (why : A) → next ≡ Some why → P why
+leaves_by {A} {E} P result it next is why some =
+    let there : IfSome next P = subst (λ (r : Result (Option A) E). IfOk r (λ n. IfSome n P)) is it in
+    subst (λ (n : Option A). IfSome n P) some there
+
+-- ---- how many waits there were
+
+pub more_by_none : (count : Option ℕ) → count ≡ option_map (λ n. n + 0) count
+more_by_none None = refl
+more_by_none (Some n) = ap Some (sym (add-zero n))
+
+pub more_by_one : (first mid last : Option ℕ) (n : ℕ) → mid ≡ option_map (λ m. m + n) first → last ≡ one_more mid → last ≡ option_map (λ m. m + (n + 1)) first
+more_by_one None mid last n so_far is = is ∙ ap one_more so_far
+more_by_one (Some m) mid last n so_far is = is ∙ ap one_more so_far ∙ ap Some (omega arith)

@@ -46,9 +46,13 @@ pub record GoesOnServing {L S : Type 0} (given : Given) (line : Line L) (state_o
   pub each : FoldsTo (ServesVisit given state_of) at visits behind
   pub goes_on : GoesOn given line visits before later old new
 
--- calls of the doors, of which none failed, or the last one did; and none of them was a wait that didn't fail
+-- calls of the doors, of which none failed, or the last one did; and none was a wait that didn't fail
 abbrev pub IsCalled : {A L : Type 0} → Result A Broken → DoorsEntry L → DoorsEntry L → Type 0
 IsCalled result before later = (later.failed ≡ failed_after result before.failed) × (later.waits ≡ before.waits)
+
+-- the same, and none failed
+abbrev pub IsUnfailed : {L : Type 0} → DoorsEntry L → DoorsEntry L → Type 0
+IsUnfailed before later = (later.failed ≡ before.failed) × (later.waits ≡ before.waits)
 
 -- a round of them: one wait, that didn't fail; or none where all came and left, or a call failed
 abbrev pub IsRound : {L : Type 0} → Result Bool Broken → DoorsEntry L → DoorsEntry L → Type 0

@@ -1,6 +1,6 @@
 //! An office that serves: clients and orders come in, go on side by side, and have their turns one after the other.
 
-ghost use Rattle.std.specs.Prelude.{◌≡◌, ◌⊎◌, ◌≤◌, ◌+◌, ◌*◌, ◌-◌, ◌^◌, ◌<◌, ℕ, [], IfSome, List, None, Ok, OnOk, Option, length, true};
+ghost use Rattle.std.specs.Prelude.{◌≡◌, ◌≤◌, ◌*◌, ◌<◌, ℕ, [], IfOk, IfSome, Ok, OnOk, Result, length, true};
 ghost use Rattle.std.specs.Duration.{as_nanos};
 ghost use Rattle.std.specs.List.{insert};
 ghost use Rattle.sqlite.specs.State.{HasCleanDisk};
@@ -13,7 +13,7 @@ ghost use Rattle.hall.specs.Guests.{IsSound};
 ghost use Rattle.hall.specs.Reads.{desk_at, kept_in};
 ghost use Rattle.hall.specs.Terms.{Given, given_in};
 ghost use Rattle.hall.specs.Turns.{IsUntold, MayHaveTurn};
-ghost use Rattle.hall.specs.Halls.{GoesOn, GoesOnServing, IsCalled, IsEndedBy, IsRound, ServesHall};
+ghost use Rattle.hall.specs.Halls.{GoesOn, GoesOnServing, IsCalled, IsEndedBy, IsRound, IsUnfailed, ServesHall};
 
 use crate::aside::Aside;
 use crate::attending::{Attended, attend};
@@ -129,19 +129,22 @@ fn go_on_at<D: Doors, A: Aside, S: Alter>(
 {
     let client = room.take_out(place);
     let (client, next) = go_on(alloc, doors, terms, aside, client, office, kept);
-    match next {
-        Ok(Some(why)) => {
+    let leaving = match next {
+        Ok(leaving) => leaving,
+        Err(Broken) => {
+            room.put_back(place, client);
+            return Err(Broken);
+        }
+    };
+    match leaving {
+        Some(why) => {
             doors.leave(client.into_leaver(why));
             Ok(())
         }
-        Ok(None) => {
+        None => {
             room.put_back(place, client);
             keep_within(doors, room);
             Ok(())
-        }
-        Err(Broken) => {
-            room.put_back(place, client);
-            Err(Broken)
         }
     }
 }
@@ -214,7 +217,7 @@ fn let_one_in<D: Doors>(
     ensures few { room.old.counted ≤ most → room.new.counted ≤ most }
     ensures within { IsWithin room.new }
     ensures look { IfSome result (λ look. look ≤ PATIENCE) }
-    ensures called { IsCalled (Ok tt) (D.known doors.old) (D.known doors.new) }
+    ensures called { IsUnfailed (D.known doors.old) (D.known doors.new) }
 {
     if room.came == u64::MAX || !doors.is_waited_at() {
         return Some(PATIENCE);
@@ -254,7 +257,7 @@ fn let_in<D: Doors>(
     ensures few { room.old.counted ≤ most → room.new.counted ≤ most }
     ensures within { IsWithin room.new }
     ensures look { result ≤ PATIENCE }
-    ensures called { IsCalled (Ok tt) (D.known doors.old) (D.known doors.new) }
+    ensures called { IsUnfailed (D.known doors.old) (D.known doors.new) }
 {
     for _ in 0..COMERS {
         if let Some(look) = let_one_in(alloc, doors, room, most, now) {

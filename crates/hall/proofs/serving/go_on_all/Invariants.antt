@@ -3,10 +3,9 @@ use Rattle.std.proofs.Common.{◌≡◌}
 use Rattle.sqlite.specs.Held.{state}
 use Rattle.gathering.specs.Closing.{IsWithin}
 use Rattle.gathering.specs.Lines.{line_of}
-use Rattle.hall.specs.Halls.{GoesOnServing}
+use Rattle.hall.specs.Halls.{GoesOnServing, IsUnfailed}
 use Rattle.hall.specs.Reads.{desk_at, kept_in}
 use Rattle.hall.specs.Terms.{given_in}
-use Rattle.hall.proofs.HallLemmas.{IsUnfailed}
 use Rattle.hall.proofs.serving.go_on_all.Given as goal
 
 -- some went on so far

@@ -2,9 +2,8 @@
 use Rattle.std.proofs.Common.{◌≤◌, []}
 use Rattle.gathering.specs.Closing.{IsWithin}
 use Rattle.gathering.specs.Lines.{line_of}
-use Rattle.hall.specs.Halls.{GoesOn}
+use Rattle.hall.specs.Halls.{GoesOn, IsUnfailed}
 use Rattle.hall.specs.Terms.{Given}
-use Rattle.hall.proofs.HallLemmas.{IsUnfailed}
 use Rattle.hall.proofs.serving.let_in.Given as goal
 
 -- some came in so far
