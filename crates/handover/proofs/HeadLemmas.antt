@@ -1,5 +1,5 @@
 -- The head of a frame that is read is the one that was written.
-use Rattle.std.proofs.Common.{◌≡◌, ◌∙◌, ◌+◌, ◌^◌, ◌<◌, ◌∷◌, ℕ, zero, suc, List, [], Option, Some, None, ap, arith, drop, get_or, length, refl, sym, take}
+use Rattle.std.proofs.Common.{◌≡◌, ◌^◌, ◌<◌, ◌∷◌, ℕ, zero, suc, List, [], Option, Some, None, ap, arith, length, refl, sym, take}
 use Rattle.std.specs.Prelude.{IfSome, option_map}
 use Rattle.std.specs.Int.{w32, from_be_bytes, to_be_bytes}
 use Rattle.handover.specs.Frames.{Frame, frame_bytes, frame_kind, head_bytes, kind_byte, over, own_bytes, said, said_err}
