@@ -4,3 +4,4 @@ pub mod Pieces
 pub mod Loop
 pub mod Written
 pub mod FrameLemmas
+pub mod HeadLemmas

@@ -1,6 +1,10 @@
 -- Reading from left to right, with the first fault that is met.
-use Rattle.std.specs.Prelude.{◌≡◌, ℕ, zero, suc, List, [], ◌∷◌, length, take, drop, Option, Some, None, Result, Ok, Err, nat_lt, ◌==◌, if◌then◌else◌}
+use Rattle.std.specs.Prelude.{◌≡◌, ℕ, zero, suc, get_or, nat_le, option_map, List, [], ◌∷◌, length, take, drop, Option, Some, None, Result, Ok, Err, nat_lt, ◌==◌, if◌then◌else◌}
 use Rattle.std.specs.Int.{Width, w32, w64, byte_len, from_be_bytes}
+use Rattle.handover.specs.Frames.{max_message}
+use Rattle.handover.specs.declared.frames.FrameHead.{FrameHead}
+use Rattle.handover.specs.declared.frames.FrameKind.{FrameKind}
+use Rattle.handover.specs.declared.frames.FrameKind.TheVariants as kinds
 use Rattle.handover.specs.declared.fault.Fault.{Fault}
 use Rattle.handover.specs.declared.fault.Fault.TheVariants.{Short, Flag, Trailing}
 use Rattle.handover.specs.declared.fault.ReadError.{ReadError}
@@ -67,3 +71,19 @@ handed_in bytes = do
   words ← list_at folder.1
   files ← list_at words.1
   if length files.1 == 0 then Ok (record { version = version.0; device = device.0; inode = inode.0; folder = folder.0; words = words.0; files = files.0 }) else Err Trailing
+
+-- the kind of frame that a byte stands for: 1, 2 or 3
+abbrev pub kind_in : ℕ → Option FrameKind
+kind_in zero = None
+kind_in (suc zero) = Some kinds.Said
+kind_in (suc (suc zero)) = Some kinds.Over
+kind_in (suc (suc (suc zero))) = Some kinds.SaidErr
+kind_in (suc (suc (suc (suc n)))) = None
+
+-- the head of a frame, of a kind and a length
+abbrev pub head_in : List ℕ → Option FrameHead
+head_in bytes = option_map (λ kind. record { kind = kind; len = from_be_bytes w32 (drop 1 bytes) }) (kind_in (get_or bytes 0 0))
+
+-- the length of a message, unless it is too long
+abbrev pub message_len_in : List ℕ → Option ℕ
+message_len_in bytes = if nat_le (from_be_bytes w64 bytes) max_message then Some (from_be_bytes w64 bytes) else None

@@ -4,11 +4,15 @@
 #![tactic(auto)]
 
 pub mod fault;
+pub mod frames;
 pub mod handed;
+pub mod message;
 pub mod reading;
 pub mod writing;
 
 pub use fault::{Fault, ReadError};
+pub use frames::{FrameHead, FrameKind, MAX_FRAME, frame_part, read_frame_head};
 pub use handed::{Handed, Piece};
+pub use message::{MAX_MESSAGE, is_message_len, message_head, read_message_head};
 pub use reading::read;
-pub use writing::{put_over, put_said, write};
+pub use writing::{put_err_frames, put_over, put_said, put_said_err, write};

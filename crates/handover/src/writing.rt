@@ -1,9 +1,10 @@
 //! Writing what is handed over.
 
-ghost use Rattle.std.specs.Prelude.{◌≡◌, ◌+◌, ◌<◌, ◌^◌, ◌++◌, length, IfOk, IfSome, OnErr, OnOk, option_map};
-ghost use Rattle.handover.specs.Frames.{frame_bytes, over, said};
+ghost use Rattle.std.specs.Prelude.{◌≡◌, ◌+◌, ◌<◌, ◌^◌, ◌++◌, ◌∷◌, [], length, take, IfOk, IfSome, OnErr, OnOk, option_map};
+ghost use Rattle.handover.specs.Frames.{AreWhole, IsOver, SaysMore, frame_bytes, kind_byte, over, said, said_err};
 ghost use Rattle.handover.specs.Spelling.{Fits, PieceFits, PiecesFit, handed_entry, optional, piece, piece_entries, piece_entry, pieces, spelling, string};
 
+use crate::frames::{FrameKind, HEAD, frame_part};
 use crate::handed::{Handed, Piece};
 use std::alloc::{AllocError, Global};
 
@@ -66,38 +67,92 @@ pub fn write(alloc: Global, handed: &Handed<'_>) -> Result<Vec<u8>, AllocError>
     Ok(out)
 }
 
-/// Puts a frame that says these bytes for the output.
-pub fn put_said(out: &mut Vec<u8>, bytes: &[u8]) -> Result<(), AllocError>
+/// Appends a frame of some kind, of these bytes.
+fn put_frame(out: &mut Vec<u8>, kind: FrameKind, bytes: &[u8]) -> Result<(), AllocError>
     requires { length bytes.now < 2 ^ 32 }
-    ensures said { OnOk result (out.new.items ≡ out.old.items ++ frame_bytes (said bytes.now)) }
+    ensures put { OnOk result (out.new.items ≡ out.old.items ++ kind_byte kind ∷ string bytes.now) }
     ensures err { OnErr result (out.new.items ≡ out.old.items) }
 {
     out.reserve(bytes.len() + HEAD)?;
-    out.push(SAID)?;
+    out.push(kind.byte())?;
     out.extend_from_slice(&(bytes.len() as u32).to_be_bytes())?;
     out.extend_from_slice(bytes)?;
     Ok(())
 }
 
-/// Puts the frame of the end: the status, and what goes to the error output.
-pub fn put_over(out: &mut Vec<u8>, status: u8, err: &[u8]) -> Result<(), AllocError>
+/// Appends the last frame, of a status and these bytes.
+fn put_end(out: &mut Vec<u8>, status: u8, err: &[u8]) -> Result<(), AllocError>
     requires { length err.now + 1 < 2 ^ 32 }
-    ensures over { OnOk result (out.new.items ≡ out.old.items ++ frame_bytes (over status err.now)) }
+    ensures put { OnOk result (out.new.items ≡ out.old.items ++ frame_bytes (over status err.now)) }
     ensures kept { OnErr result (out.new.items ≡ out.old.items) }
 {
     let length = err.len() as u32 + 1;
     out.reserve(err.len() + HEAD + 1)?;
-    out.push(OVER)?;
+    out.push(FrameKind::Over.byte())?;
     out.extend_from_slice(&length.to_be_bytes())?;
     out.push(status)?;
     out.extend_from_slice(err)?;
     Ok(())
 }
 
-/// The bytes of a frame before those that it says: its kind and its length.
-const HEAD: usize = 5;
+/// Appends a frame that says these bytes for the output.
+pub fn put_said(out: &mut Vec<u8>, bytes: &[u8]) -> Result<(), AllocError>
+    requires { length bytes.now < 2 ^ 32 }
+    ensures said { OnOk result (out.new.items ≡ out.old.items ++ frame_bytes (said bytes.now)) }
+    ensures heard { OnOk result (AreWhole out.old.items → SaysMore out.old.items out.new.items bytes.now []) }
+    ensures err { OnErr result (out.new.items ≡ out.old.items) }
+{
+    put_frame(out, FrameKind::Said, bytes)?;
+    Ok(())
+}
 
-/// The kinds of frames.
-const SAID: u8 = 1;
+/// Appends a frame that says these bytes for the error output.
+pub fn put_said_err(out: &mut Vec<u8>, bytes: &[u8]) -> Result<(), AllocError>
+    requires { length bytes.now < 2 ^ 32 }
+    ensures said { OnOk result (out.new.items ≡ out.old.items ++ frame_bytes (said_err bytes.now)) }
+    ensures heard { OnOk result (AreWhole out.old.items → SaysMore out.old.items out.new.items [] bytes.now) }
+    ensures err { OnErr result (out.new.items ≡ out.old.items) }
+{
+    put_frame(out, FrameKind::SaidErr, bytes)?;
+    Ok(())
+}
 
-const OVER: u8 = 2;
+/// Appends the last frame: the status, and bytes for the error output.
+pub fn put_over(out: &mut Vec<u8>, status: u8, err: &[u8]) -> Result<(), AllocError>
+    requires { length err.now + 1 < 2 ^ 32 }
+    ensures over { OnOk result (out.new.items ≡ out.old.items ++ frame_bytes (over status err.now)) }
+    ensures heard { OnOk result (AreWhole out.old.items → SaysMore out.old.items out.new.items [] err.now × IsOver out.new.items status err.now) }
+    ensures kept { OnErr result (out.new.items ≡ out.old.items) }
+{
+    put_end(out, status, err)?;
+    Ok(())
+}
+
+/// Appends frames that say these bytes for the error output, until memory runs out.
+fn put_err_parts(out: &mut Vec<u8>, bytes: &[u8]) -> Result<(), AllocError>
+    ensures behind { take (length out.old.items) out.new.items ≡ out.old.items }
+    ensures heard { OnOk result (AreWhole out.old.items → SaysMore out.old.items out.new.items [] bytes.now) }
+{
+    let mut at = 0;
+    while at < bytes.len() {
+        let part = frame_part(&bytes[at..]);
+        put_said_err(out, part)?;
+        at += part.len();
+    }
+    Ok(())
+}
+
+/// Appends frames that say these bytes for the error output, 64 KiB at most in each.
+pub fn put_err_frames(out: &mut Vec<u8>, bytes: &[u8]) -> Result<(), AllocError>
+    ensures heard { OnOk result (AreWhole out.old.items → SaysMore out.old.items out.new.items [] bytes.now) }
+    ensures err { OnErr result (out.new.items ≡ out.old.items) }
+{
+    let start = out.len();
+    match put_err_parts(out, bytes) {
+        Ok(()) => Ok(()),
+        Err(error) => {
+            out.truncate(start);
+            Err(error)
+        }
+    }
+}
