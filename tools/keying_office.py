@@ -20,7 +20,7 @@ import time
 import keying_page
 
 HERE = "127.0.0.1"
-MOST_WRONG, SECONDS = 6000, 60
+MOST, SECONDS = 6000, 60
 
 
 def read_codes(path):
@@ -116,25 +116,29 @@ class Office:
 
 
 class Gate:
-    """Who is let in: a clerk with his code, always. Very many wrong codes within a minute, whoever sends them, are answered by 429."""
+    """Who may come in: a clerk with his code. From 6,000 wrong codes within a minute on, one is answered 429 in place of 401."""
 
     def __init__(self, codes):
-        self.codes, self.since, self.wrong, self.lock = codes, 0, 0, threading.Lock()
+        self.codes, self.since, self.wrong, self.lock = codes, 0.0, 0, threading.Lock()
 
-    def denied(self, clerk, values):
-        """Returns the status that denies a clerk, or 0, by the values of `Authorization`."""
-        code = self.codes.get(str(clerk), "")
-        wanted = "Basic " + base64.b64encode(f"{clerk}:{code}".encode()).decode()
-        if code and len(values) == 1 and hmac.compare_digest(values[0].strip().encode("latin-1"), wanted.encode()):
-            return 0
-        if not values:
-            return 401
+    def denies(self):
+        """The status that denies a wrong code, which is counted."""
         with self.lock:
             now = time.monotonic()
             if now - self.since >= SECONDS:
                 self.since, self.wrong = now, 0
+            if self.wrong >= MOST:
+                return 429
             self.wrong += 1
-            return 429 if self.wrong > MOST_WRONG else 401
+            return 401
+
+    def admits(self, clerk, values):
+        """The status that denies him, or 0, by the values of `Authorization`."""
+        code = self.codes.get(str(clerk), "")
+        wanted = "Basic " + base64.b64encode(f"{clerk}:{code}".encode()).decode()
+        if code and len(values) == 1 and hmac.compare_digest(values[0].strip().encode("latin-1"), wanted.encode()):
+            return 0
+        return self.denies() if values else 401
 
 
 class Answers(http.server.BaseHTTPRequestHandler):
@@ -167,7 +171,7 @@ class Answers(http.server.BaseHTTPRequestHandler):
             self.tell(403, {"error": "forbidden"})
             return True
         found = re.match("/clerks/([1-9][0-9]{0,4})/", self.path)
-        status = self.server.gate.denied(int(found[1]), self.headers.get_all("Authorization", [])) if found else 0
+        status = self.server.gate.admits(int(found[1]), self.headers.get_all("Authorization", [])) if found else 0
         if status == 401:
             self.tell(401, {"error": "unauthorized"}, [("WWW-Authenticate", f'Basic realm="clerk {found[1]}", charset="UTF-8"')])
         elif status == 429:
