@@ -5,6 +5,8 @@ use Rattle.gathering.specs.declared.client.Door.{Door}
 use Rattle.gathering.specs.declared.client.Door.TheVariants as doors
 use Rattle.gathering.specs.declared.doors.Admitted.{Admitted}
 use Rattle.gathering.specs.declared.doors.Admitted.TheVariants.{One, Nobody, NotNow, Full}
+use Rattle.sockets.specs.declared.loopback.Address.{Address}
+use Rattle.sockets.specs.declared.loopback.Address.TheVariants.{Ipv4, Ipv6}
 use Rattle.sockets.specs.declared.loopback.Loopback.{Loopback}
 use Rattle.sockets.specs.declared.socket.Socket.{Socket}
 use Rattle.sockets.specs.declared.socket.Socket.TheVariants as lines
@@ -19,6 +21,11 @@ IsWatched keeps None None = ⊤
 IsWatched keeps (Some old) (Some new) = keeps old new
 IsWatched keeps None (Some new) = ⊥
 IsWatched keeps (Some old) None = ⊥
+
+-- the other loopback address
+abbrev pub other_address : Address → Address
+other_address Ipv4 = Ipv6
+other_address Ipv6 = Ipv4
 
 -- the listeners at which clients come in: at 127.0.0.1 and, if there is one, at [::1]
 abbrev pub clients_of : Watch → Loopback

@@ -3,6 +3,7 @@
 ghost use Rattle.std.specs.Prelude.{◌≡◌, Some, option_map};
 ghost use Rattle.sockets.specs.declared.loopback.Address.{Address};
 ghost use Rattle.sockets.specs.Errors.{has_no_ipv6, loopback_of};
+ghost use Rattle.sockets.specs.Watches.{other_address};
 
 use crate::refusal::{EADDRNOTAVAIL, EAFNOSUPPORT, errno};
 use mio::net::TcpListener;
@@ -25,7 +26,9 @@ pub struct Loopback {
 
 impl Address {
     /// Returns the other one.
-    pub(crate) fn other(self) -> Address {
+    pub(crate) fn other(self) -> Address
+        ensures { result ≡ other_address self }
+    {
         match self {
             Address::Ipv4 => Address::Ipv6,
             Address::Ipv6 => Address::Ipv4,

@@ -4,7 +4,8 @@ ghost use Rattle.std.specs.Prelude.{◌≡◌, ◌+◌, ◌<◌, ◌⊎◌, IfNo
 ghost use Rattle.gathering.specs.declared.client.Door.{Door};
 ghost use Rattle.gathering.specs.declared.doors.Admitted.{Admitted};
 ghost use Rattle.gathering.specs.Rooms.{IsWanted};
-ghost use Rattle.sockets.specs.Watches.{ComesByDoor, IsAtDoor, IsWatched, clients_of, is_waited_at, orders_of};
+ghost use Rattle.sockets.specs.Watches.{ComesByDoor, IsAtDoor, IsWatched, clients_of, is_waited_at, orders_of, other_address};
+ghost use Rattle.sockets.specs.declared.watch.Waiting.{Waiting};
 
 use crate::loopback::{Address, Loopback};
 use crate::refusal::refusal;
@@ -169,7 +170,8 @@ impl Watch {
 
     /// Returns the next client at either address. They come first in turn, so that a crowd at one of them doesn't shut out the other.
     fn next_client(&mut self, number: u64) -> Admitted<Socket>
-        ensures { IsAtDoor Door.Clients result }
+        ensures at_door { IsAtDoor Door.Clients result }
+        ensures in_turn { self.new.next ≡ other_address self.old.next }
     {
         let first = self.next;
         self.next = first.other();
@@ -209,7 +211,8 @@ impl Watch {
     /// Notes what the doors returned, and returns it. The system reports that it is full before it looks whether anybody waits. So unless
     /// an event said that somebody does, the answer is that nobody waits, and the next wait says whether that is so.
     fn noted(&mut self, admitted: Admitted<Socket>, clients_too: bool) -> Admitted<Socket>
-        ensures { (result ≡ admitted) ⊎ (result ≡ Admitted.Nobody) }
+        ensures same { (result ≡ admitted) ⊎ ((admitted ≡ Admitted.Full) × (result ≡ Admitted.Nobody)) }
+        ensures seen { self.old.waiting ≡ Waiting.Somebody → result ≡ admitted }
     {
         match (&admitted, self.waiting) {
             (Admitted::Full, Waiting::Somebody) => {}
