@@ -167,10 +167,13 @@ fn is_reached_after(
     now: u64,
 ) -> Result<bool, AllocError> {
     let request = format!(in alloc; "PUT /clerks/4/x HTTP/1.1\r\nauthorization: {value}\r\n\r\n")?;
-    for _ in 0..times {
-        match knock_of(given, request.as_bytes()) {
-            Some(knock) if knock.is_wrong => limit.count_wrong(now),
-            _ => {}
+    let is_wrong = match knock_of(given, request.as_bytes()) {
+        Some(knock) => knock.is_wrong,
+        None => false,
+    };
+    if is_wrong {
+        for _ in 0..times {
+            limit.count_wrong(now);
         }
     }
     Ok(limit.is_reached(now))
