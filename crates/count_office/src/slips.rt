@@ -21,6 +21,7 @@ const RIGHTS_OF_OTHERS: u32 = 0o077;
 const RIGHTS_OF_ITS_OWNER: u32 = 0o600;
 
 /// The random bytes of the system, of which nothing is known.
+#[derive(Drop)]
 struct SystemBytes<'a> {
     rt: &'a HostRuntime,
     failures: u64,

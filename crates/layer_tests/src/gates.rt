@@ -126,7 +126,8 @@ const KNOCKS: [(&str, u32, u64, bool); 9] = [
 
 /// Bytes that draw the codes of clerks 4 and 5: the seventh and the eleventh draw no letter.
 const DRAWN: [u8; 26] = [
-    0, 1, 2, 3, 24, 239, 240, 5, 6, 20, 255, 21, 22, 23, 8, 9, 10, 11, 12, 13, 14, 15, 16, 17, 18, 19,
+    0, 1, 2, 3, 24, 239, 240, 5, 6, 20, 255, 21, 22, 23, 8, 9, 10, 11, 12, 13, 14, 15, 16, 17, 18,
+    19,
 ];
 
 /// The codes that these bytes draw.
@@ -166,16 +167,20 @@ fn is_reached_after(
     now: u64,
 ) -> Result<bool, AllocError> {
     let request = format!(in alloc; "PUT /clerks/4/x HTTP/1.1\r\nauthorization: {value}\r\n\r\n")?;
-    for _ in 0..times {
-        match knock_of(given, request.as_bytes()) {
-            Some(knock) if knock.is_wrong => limit.count_wrong(now),
-            _ => {}
+    let is_wrong = match knock_of(given, request.as_bytes()) {
+        Some(knock) => knock.is_wrong,
+        None => false,
+    };
+    if is_wrong {
+        for _ in 0..times {
+            limit.count_wrong(now);
         }
     }
     Ok(limit.is_reached(now))
 }
 
 /// Draws these bytes, one after the other. Then it fails.
+#[derive(Drop)]
 struct Known<'a> {
     bytes: &'a [u8],
     at: usize,
@@ -251,14 +256,13 @@ fn asks_beside(rt: &(impl Abort + AllocGlobal), given: Given<'_>) -> Result<(), 
 }
 
 /// When the limit of wrong codes is reached, and until when.
-fn limits_wrong_codes(
-    rt: &(impl Abort + AllocGlobal),
-    given: Given<'_>,
-) -> Result<(), Fail> {
+fn limits_wrong_codes(rt: &(impl Abort + AllocGlobal), given: Given<'_>) -> Result<(), Fail> {
     let alloc = rt.alloc();
     let mut limit = RateLimit::new();
     for (value, times, now, is_reached) in &KNOCKS {
-        assert!(rt; is_reached_after(alloc, given, &mut limit, *value, *times, *now)? == *is_reached);
+        assert!(rt;
+            is_reached_after(alloc, given, &mut limit, *value, *times, *now)? == *is_reached
+        );
     }
     Ok(())
 }
