@@ -18,13 +18,13 @@ use store::fault::fault_of;
 use votes::Sink;
 
 /// The pauses between the attempts of an order whose file is held: ten seconds of them.
-const PAUSES: u32 = 500;
+const PAUSES: u32 = 1000;
 
 /// The length of a pause, in milliseconds.
-const PAUSE: u64 = 20;
+const PAUSE: u64 = 10;
 
 /// After so many pauses somebody at a terminal reads why nothing happens.
-const PAUSES_UNSEEN: u32 = 25;
+const PAUSES_UNSEEN: u32 = 50;
 
 /// An order, its words from DB on, and the path of its database.
 #[derive(Clone, Copy)]

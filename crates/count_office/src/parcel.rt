@@ -1,5 +1,5 @@
-//! The words of an order, and the bytes of the files that it reads: read here, with the rights and in the folder of the
-//! person who gives the order, before it is handed over to the program that serves the database.
+//! The words of an order, and the bytes of the files that it reads. They are read with the rights and in the folder of the person
+//! who gives the order, before it is handed over to the program that serves the database.
 
 use desk::{Folder, Job, Order, Task, files_named_in};
 use std::alloc::{AllocError, Global};
