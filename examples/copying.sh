@@ -50,8 +50,7 @@ list_files() {
     office=mute_office play town.db copy noon.db
     play noon.db receipts 4
 
-    # a copy stands alone, may be read by whom the office may, and takes no second one
-    chmod 600 "$folder/town.db"
+    # a copy stands alone, is its owner's alone as the office is, and takes no second one
     play town.db copy evening.db
     echo "rights: $(stat -c %a "$folder/town.db" "$folder/evening.db" | paste -sd ' ')"
     play town.db copy evening.db

@@ -1,3 +1,4 @@
 pub mod CopyLemmas
 pub mod MemoryLemmas
 pub mod PieceLemmas
+pub mod ScreenLemmas

@@ -1,5 +1,5 @@
 -- What a terminal is shown of a text that may come from anyone.
-use Rattle.std.specs.Prelude.{ℕ, ◌==◌, ◌||◌, ◌&&◌, nat_le, Bool, not, if◌then◌else◌}
+use Rattle.std.specs.Prelude.{ℕ, List, [], ◌∷◌, ◌==◌, ◌||◌, ◌&&◌, nat_le, Bool, not, if◌then◌else◌}
 
 -- from one byte to another
 abbrev pub is_from : ℕ → ℕ → ℕ → Bool
@@ -9,8 +9,8 @@ is_from low high b = nat_le low b && nat_le b high
 abbrev pub controls : ℕ → Bool
 controls b = (is_from 0 31 b && not (b == 9 || b == 10)) || b == 127
 
--- the last byte of a character that steers a terminal, U+0080 to U+009F, or turns the direction of writing, U+061C, U+200E, U+200F, U+202A to
--- U+202E and U+2066 to U+2069, after the two bytes before it
+-- the last byte of a character that steers a terminal, after the two bytes before it. Those are U+0080 to U+009F. U+061C, U+200E, U+200F, U+202A
+-- to U+202E and U+2066 to U+2069 turn the direction of writing
 abbrev pub ends_steering : ℕ → ℕ → ℕ → Bool
 ends_steering first second b =
     (second == 194 && is_from 128 159 b) || ((second == 216 && b == 156)
@@ -19,3 +19,13 @@ ends_steering first second b =
 -- the byte that a terminal is shown, after the two bytes before it: a question mark, where it would be steered
 abbrev pub shown_byte : ℕ → ℕ → ℕ → ℕ
 shown_byte first second b = if controls b || ends_steering first second b then 63 else b
+
+-- bytes as a terminal is shown them, after the two bytes before them
+unfoldable pub masked : ℕ → ℕ → List ℕ → List ℕ
+masked first second [] = []
+masked first second (b ∷ bs) = shown_byte first second b ∷ masked second b bs
+
+-- the last two of some bytes, after the two bytes before them
+unfoldable pub last_two : ℕ → ℕ → List ℕ → ℕ × ℕ
+last_two first second [] = (first, second)
+last_two first second (b ∷ bs) = last_two second b bs

@@ -4,6 +4,7 @@
 ghost use Rattle.std.specs.Prelude.{◌≡◌, ◌-◌, ◌^◌, ◌<◌, OnErr, Some};
 
 use crate::handing::{Reply, Sent, print_reply, send_order};
+use crate::held::Held;
 use crate::notices::{Holder, say_foreign_log, say_if_open_to_others, say_waited, say_waiting};
 use crate::parcel::{Parcel, pack};
 use crate::traces::{Found, Site};
@@ -18,13 +19,13 @@ use store::fault::fault_of;
 use votes::Sink;
 
 /// The pauses between the attempts of an order whose file is held: ten seconds of them.
-const PAUSES: u32 = 500;
+const PAUSES: u32 = 1000;
 
 /// The length of a pause, in milliseconds.
-const PAUSE: u64 = 20;
+const PAUSE: u64 = 10;
 
 /// After so many pauses somebody at a terminal reads why nothing happens.
-const PAUSES_UNSEEN: u32 = 25;
+const PAUSES_UNSEEN: u32 = 50;
 
 /// An order, its words from DB on, and the path of its database.
 #[derive(Clone, Copy)]
@@ -164,10 +165,34 @@ fn is_held(rt: &HostRuntime, database: &str, error: &io::Error) -> bool {
     }
 }
 
-/// Does an order over the database at a path, and holds it meanwhile; or hands it over to the program that serves it. An error
-/// is that another program holds the file; nothing is printed then.
-fn attempt<O: Sink, E: Sink>(
+/// Does an order over the database at a path, which is held. An error is that another program has the file open; nothing is
+/// printed then.
+fn perform_held<O: Sink, E: Sink>(
     request: Request<'_>,
+    found: &Found,
+    held: &Held,
+    brought: &Option<Parcel>,
+    out: &mut O,
+    err: &mut E,
+) -> Result<u8, Holder>
+    requires out { O.failed out.old < 2 ^ 64 - 1 }
+    requires err { E.failed err.old < 2 ^ 64 - 1 }
+    ensures { OnErr result ((out.new ≡ out.old) × (err.new ≡ err.old)) }
+{
+    let place = Place {
+        path: request.path,
+        found,
+        held,
+        brought,
+    };
+    perform_in(request.rt, place, request.order, out, err)
+}
+
+/// Holds the database that was found, and does an order over it; or hands the order over to the program that serves it. An error is
+/// that another program holds the file; nothing is printed then.
+fn attempt_at<O: Sink, E: Sink>(
+    request: Request<'_>,
+    found: &Found,
     brought: &mut Option<Parcel>,
     out: &mut O,
     err: &mut E,
@@ -176,30 +201,10 @@ fn attempt<O: Sink, E: Sink>(
     requires err { E.failed err.old < 2 ^ 64 - 1 }
     ensures { OnErr result ((out.new ≡ out.old) × (err.new ≡ err.old)) }
 {
-    let Request {
-        rt,
-        path,
-        order,
-        ..
-    } = request;
-    let Ok(found) = Found::at(rt, path) else {
-        return Ok(tell_failure(Failure::Office(Fault::Memory), err));
-    };
-    if let Some(fault) = why_unopened(found.site, order) {
-        return Ok(tell_failure(Failure::Office(fault), err));
-    }
-    if found.has_foreign_log(rt) {
-        return Ok(refuse_log(rt, path, err));
-    }
+    let rt = request.rt;
     match found.hold(rt) {
         Ok(held) => {
-            let place = Place {
-                path,
-                found: &found,
-                held: &held,
-                brought: brought.as_ref(),
-            };
-            let done = perform_in(rt, place, order, out, err);
+            let done = perform_held(request, found, &held, &*brought, out, err);
             drop(held);
             done
         }
@@ -211,6 +216,30 @@ fn attempt<O: Sink, E: Sink>(
         }
         Err(_) => Ok(tell_failure(Failure::Office(Fault::Store), err)),
     }
+}
+
+/// Looks at what is at the path of an order's database, and does the order, if it may be done there. An error is that another program
+/// holds the file; nothing is printed then.
+fn attempt<O: Sink, E: Sink>(
+    request: Request<'_>,
+    brought: &mut Option<Parcel>,
+    out: &mut O,
+    err: &mut E,
+) -> Result<u8, Holder>
+    requires out { O.failed out.old < 2 ^ 64 - 1 }
+    requires err { E.failed err.old < 2 ^ 64 - 1 }
+    ensures { OnErr result ((out.new ≡ out.old) × (err.new ≡ err.old)) }
+{
+    let Ok(found) = Found::at(request.rt, request.path) else {
+        return Ok(tell_failure(Failure::Office(Fault::Memory), err));
+    };
+    if let Some(fault) = why_unopened(found.site, request.order) {
+        return Ok(tell_failure(Failure::Office(fault), err));
+    }
+    if found.has_foreign_log(request.rt) {
+        return Ok(refuse_log(request.rt, request.path, err));
+    }
+    attempt_at(request, &found, brought, out, err)
 }
 
 /// Does an order over the database at a path, and returns its status. While another program holds the file and doesn't serve it,

@@ -66,7 +66,7 @@ pub struct Place<'a> {
     pub path: &'a str,
     pub found: &'a Found,
     pub held: &'a Held,
-    pub brought: Option<&'a Parcel>,
+    pub brought: &'a Option<Parcel>,
 }
 
 /// The words from DB on.

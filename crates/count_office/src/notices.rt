@@ -57,13 +57,19 @@ fn is_open_to_others(rt: &HostRuntime, path: &str) -> bool {
     fs::metadata(rt, path).is_ok_and(|found| found.mode() & RIGHTS_OF_OTHERS != 0)
 }
 
-/// Prints on a terminal that the rights of a database let other accounts read it or write to it, if they do.
+/// Prints on a terminal that the rights of a database or its log let other accounts read it or write to it, if they do.
 pub fn say_if_open_to_others(rt: &HostRuntime, path: &str) {
     let mut told = rt.stderr();
-    if told.is_terminal() && is_open_to_others(rt, path) {
+    if !told.is_terminal() {
+        return;
+    }
+    let Ok(log) = format!(in rt.alloc(); "{path}-wal") else {
+        return;
+    };
+    if is_open_to_others(rt, path) || is_open_to_others(rt, log.as_str()) {
         let _ = writeln!(
             told,
-            "{path} is open to other accounts on this machine; 'chmod 600 {path} {path}-wal' closes it"
+            "{path} is open to other accounts on this machine; 'chmod 600 {path} {log}' closes it"
         );
     }
 }

@@ -1,5 +1,5 @@
-//! The words of an order, and the bytes of the files that it reads: read here, with the rights and in the folder of the
-//! person who gives the order, before it is handed over to the program that serves the database.
+//! The words of an order, and the bytes of the files that it reads. They are read with the rights and in the folder of the person
+//! who gives the order, before it is handed over to the program that serves the database.
 
 use desk::{Folder, Job, Order, Task, files_named_in};
 use std::alloc::{AllocError, Global};
@@ -130,7 +130,7 @@ pub fn pack(rt: &HostRuntime, words: &[&str], order: &Order<'_>) -> Result<Parce
 #[derive(Clone, Copy)]
 pub struct Paths<'a> {
     pub rt: &'a HostRuntime,
-    pub brought: Option<&'a Parcel>,
+    pub brought: &'a Option<Parcel>,
 }
 
 /// A file that an order names: open, or read before.
@@ -153,16 +153,21 @@ impl<'a> Folder for Paths<'a> {
     type File = Source<'a>;
 
     fn open(&self, path: &str) -> Option<Source<'a>> {
-        let Some(parcel) = self.brought else {
-            return opened(self.rt, path);
-        };
-        match parcel.file(path) {
-            Some(Part { bytes, .. }) => match bytes {
-                Some(bytes) => Some(Source::Brought(bytes.as_slice())),
-                None => None,
-            },
+        match self.brought {
+            Some(parcel) => brought_or_opened(self.rt, parcel, path),
             None => opened(self.rt, path),
         }
+    }
+}
+
+/// Returns the file at a path as it was read before, or opens it; `None` if it couldn't be read, or can't be opened.
+fn brought_or_opened<'a>(rt: &HostRuntime, parcel: &'a Parcel, path: &str) -> Option<Source<'a>> {
+    match parcel.file(path) {
+        Some(Part { bytes, .. }) => match bytes {
+            Some(bytes) => Some(Source::Brought(bytes.as_slice())),
+            None => None,
+        },
+        None => opened(rt, path),
     }
 }
 

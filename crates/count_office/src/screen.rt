@@ -3,8 +3,9 @@
 //! Names of wards and candidates may come from anyone. They have no control characters of ASCII, but they may have others, such as
 //! U+009B, by which a terminal can be told to move or to rename things, and characters that turn the direction of writing.
 
-ghost use Rattle.std.specs.Prelude.{◌≡◌, ◌≤◌, length, min, None};
-ghost use Rattle.count_office.specs.Screens.{controls, ends_steering, shown_byte};
+ghost use Rattle.std.specs.Prelude.{◌≡◌, ◌≤◌, ◌<◌, ◌+◌, ◌-◌, ◌^◌, length, take, IfOk, None, OnErr, OnOk};
+ghost use Rattle.std.specs.Io.KnownBytes.{Appends};
+ghost use Rattle.count_office.specs.Screens.{controls, ends_steering, last_two, masked, shown_byte};
 
 use votes::{Broken, Sink};
 
@@ -22,7 +23,8 @@ const MASK: u8 = b'?';
 pub struct Screen<S> {
     stream: S,
     is_terminal: bool,
-    last: [u8; 2],
+    first: u8,
+    second: u8,
 }
 
 /// Whether a byte is a control character of ASCII, other than a line feed and a tab.
@@ -56,28 +58,33 @@ fn shown_byte(first: u8, second: u8, byte: u8) -> u8
     }
 }
 
-/// Puts the beginning of some bytes into a room, as far as it goes, as a terminal is shown them after the last two bytes, and returns how
-/// many they are.
-fn mask(last: [u8; 2], bytes: &[u8], room: &mut [u8; ROOM]) -> usize
-    ensures { result ≡ min (length bytes.now) 512 }
+/// Returns bytes as a terminal is shown them, after the two bytes before them, at the front of an array.
+fn mask(first: u8, second: u8, bytes: &[u8]) -> [u8; ROOM]
+    requires { length bytes.now ≤ 512 }
+    ensures { take (length bytes.now) result ≡ masked first second bytes.now }
 {
-    let count = bytes.len().min(ROOM);
-    let [mut first, mut second] = last;
-    for i in 0..count {
-        room[i] = shown_byte(first, second, bytes[i]);
-        first = second;
-        second = bytes[i];
+    let mut room = [0; ROOM];
+    let mut before = first;
+    let mut last = second;
+    for i in 0..bytes.len() {
+        room[i] = shown_byte(before, last, bytes[i]);
+        before = last;
+        last = bytes[i];
     }
-    count
+    room
 }
 
-/// Returns the last two of some bytes and of those before them.
-fn last_of(last: [u8; 2], bytes: &[u8]) -> [u8; 2] {
-    match bytes {
-        [] => last,
-        [one] => [last[1], *one],
-        [.., first, second] => [*first, *second],
+/// Returns the last two of some bytes, after the two bytes before them.
+fn last_two(first: u8, second: u8, bytes: &[u8]) -> (u8, u8)
+    ensures { result ≡ last_two first second bytes.now }
+{
+    let mut before = first;
+    let mut last = second;
+    for i in 0..bytes.len() {
+        before = last;
+        last = bytes[i];
     }
+    (before, last)
 }
 
 impl<S: Sink> Screen<S> {
@@ -89,8 +96,28 @@ impl<S: Sink> Screen<S> {
         Screen {
             stream,
             is_terminal,
-            last: [0; 2],
+            first: 0,
+            second: 0,
         }
+    }
+
+    /// Writes bytes as a terminal is shown them, and returns how many of them.
+    fn put_masked(&mut self, bytes: &[u8]) -> Result<usize, Broken>
+        requires { S.failed self.old.stream < 2 ^ 64 - 1 }
+        ensures within { IfOk result (λ n. n ≤ length bytes.now) }
+        ensures some { IfOk result (λ n. 0 < length bytes.now → 0 < n) }
+        ensures shown { IfOk result (λ n. Appends (S.taken self.old.stream) (S.taken self.new.stream) (masked self.old.first self.old.second (take n bytes.now))) }
+        ensures next { IfOk result (λ n. last_two self.old.first self.old.second (take n bytes.now) ≡ (self.new.first, self.new.second)) }
+        ensures ok { OnOk result (S.failed self.new.stream ≡ S.failed self.old.stream) }
+        ensures err { OnErr result (S.failed self.new.stream ≡ S.failed self.old.stream + 1) }
+    {
+        let bytes = &bytes[..bytes.len().min(ROOM)];
+        let room = mask(self.first, self.second, bytes);
+        let count = self.stream.put(&room[..bytes.len()])?;
+        let (first, second) = last_two(self.first, self.second, &bytes[..count]);
+        self.first = first;
+        self.second = second;
+        Ok(count)
     }
 }
 
@@ -100,14 +127,11 @@ impl<S: Sink> Sink for Screen<S> {
     ghost failed = { λ s. S.failed s.stream };
 
     fn put(&mut self, bytes: &[u8]) -> Result<usize, Broken> {
-        if !self.is_terminal {
-            return self.stream.put(bytes);
+        if self.is_terminal {
+            self.put_masked(bytes)
+        } else {
+            self.stream.put(bytes)
         }
-        let mut room = [0; ROOM];
-        let count = mask(self.last, bytes, &mut room);
-        let taken = self.stream.put(&room[..count])?;
-        self.last = last_of(self.last, &bytes[..taken]);
-        Ok(taken)
     }
 
     fn failures(&self) -> u64 {
