@@ -1,11 +1,11 @@
 -- What was drawn, one draw after the other.
-use Rattle.std.proofs.Common.{◌≡◌, ◌∙◌, ◌+◌, ◌-◌, ◌*◌, ◌<◌, ◌≤◌, ◌++◌, ◌∷◌, true, false, List, [], None, Option, Some, ap, append-nil, append_assoc, arith, inl, inr, length, length-append, not, refl, sym, ℕ}
+use Rattle.std.proofs.Common.{◌≡◌, ◌∙◌, ◌+◌, ◌-◌, ◌*◌, ◌<◌, ◌≤◌, ◌++◌, ◌∷◌, Bool, true, false, List, [], None, Option, Some, ap, append-nil, append_assoc, arith, inl, inr, length, length-append, not, refl, sym, ℕ}
 use Rattle.std.specs.List.{concat, cons_option, list_all}
 use Rattle.std.specs.Io.KnownBytes.{append_known}
 use Rattle.std.proofs.lemmas.Bool.{and_from, eq-eqb}
 use Rattle.std.proofs.lemmas.List.Elements.{filter_map-append}
 use Rattle.std.proofs.lemmas.List.Folds.{concat-append, list_all-append}
-use Rattle.codes.specs.Drawing.{AreDrawn, IsDraw, IsDrawn, IsInVain, IsMadeOf, IsShort, IsUndrawn, IsUnmade, IsUnwritten, is_vain, letters_for, most_bytes, most_files}
+use Rattle.codes.specs.Drawing.{AreDrawn, AreTooFew, IsDraw, IsDrawn, IsInVain, IsMadeOf, IsShort, IsUndrawn, IsUnmade, IsUnwritten, is_vain, letters_for, most_bytes, most_files}
 use Rattle.codes.specs.Files.{codes_in}
 use Rattle.codes.specs.Making.{clerks_of, is_file_for, letter_of, letters_drawn, text_of}
 use Rattle.codes.specs.declared.fault.CodesFault.TheVariants.{BadRandom, NoRandom}

@@ -1,6 +1,6 @@
 -- New codes, and the clerks for whom they are made.
 use Rattle.std.specs.Prelude.{◌≡◌, ◌∷◌, ◌++◌, ◌+◌, ◌-◌, ◌==◌, ◌&&◌, ◌%◌, Bool, true, false, zero, suc, List, [], Option, Some, None, Result, Ok, Err}
-use Rattle.std.specs.Prelude.{codes, decimal, drop, if◌then◌else◌, length, map, nat_le, nat_lt, slice_index, slice_range, take, ℕ}
+use Rattle.std.specs.Prelude.{codes, decimal, drop, if◌then◌else◌, length, map, nat_le, nat_lt, not, slice_index, slice_range, take, ℕ}
 use Rattle.std.specs.List.{filter_map, list_all, list_any, prefix_len}
 use Rattle.codes.specs.Files.{CodeEntry, clerk_in, codes_in, is_no_hyphen}
 use Rattle.codes.specs.declared.fault.CodesFault.{CodesFault}

@@ -48,8 +48,8 @@ pub(crate) enum Outcome {
 }
 
 /// Why the program gives up. 101 to 106 and 108 are faults of the office. 107 is an output that fails, 109 a copy that is there
-/// already, 110 a copy that can't be written, and 111 an order that isn't for an office that is being served. 113 is a file that was
-/// removed or replaced while it was served.
+/// already, 110 a copy that can't be written, 111 an order that isn't for an office that is being served, and 113 an office whose
+/// file was removed or replaced while it was served.
 #[derive(Clone, Copy, Debug, PartialEq, Eq, Drop, Error)]
 #[error("{}", self.text())]
 pub enum Failure {
