@@ -15,11 +15,11 @@ def named(path, pattern):
 
 
 def version(root):
-    """The number, with which CHANGELOG.md has to begin. Anything else ends the program, which reports it."""
+    """The number of the newest version in CHANGELOG.md, before which only what comes next may be listed. Anything else ends the program, which reports it."""
     own = named(os.path.join(root, SOURCE), r'^pub const VERSION: &str = "(\d+\.\d+\.\d+)";$')
     if not own:
         raise SystemExit('%s names no version' % SOURCE)
-    newest = named(os.path.join(root, 'CHANGELOG.md'), r'^## (\S+)')
+    newest = named(os.path.join(root, 'CHANGELOG.md'), r'^## (?!Next$)(\S+)')
     if newest != own:
         raise SystemExit('CHANGELOG.md begins with version %s, and %s has %s' % (newest, SOURCE, own))
     return own
