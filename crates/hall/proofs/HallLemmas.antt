@@ -1,6 +1,6 @@
 -- From one moment of a hall to another.
 use Rattle.std.proofs.Common.{◌≡◌, ◌≤◌, ◌<◌, ◌+◌, ◌-◌, ◌^◌, ◌∙◌, ◌⊎◌, ◌∷◌, ◌++◌, ℕ, add-zero, true, List, [], None, Option, Some, ap, append-nil, append_assoc, arith, get_or, inl, inr, insert, length, length-set, map, option_map, refl, remove, set, subst, suc, sym, zero}
-use Rattle.std.specs.Prelude.{Bool, Err, IfOk, IfSome, Ok, OnOk, Result, false, unwrap_or}
+use Rattle.std.specs.Prelude.{Err, IfOk, IfSome, Ok, OnOk, Result, unwrap_or}
 use Rattle.std.specs.Result.{IsErr}
 use Rattle.std.specs.List.{FoldsTo}
 use Rattle.std.specs.Vec.{with_item}
@@ -26,7 +26,7 @@ use Rattle.gathering.specs.declared.room.Room.{Room}
 use Rattle.gathering.proofs.LineLemmas.{heard_more}
 use Rattle.hall.specs.Guests.{AreIn, Guest, HadFor, HasLeft, IsGathered, IsIn, IsSound, Stands, WentSo, visits_of}
 use Rattle.gathering.specs.Closing.{AreLetGo, IsClosed, IsLetGo, MayLeave, late_by}
-use Rattle.hall.specs.Halls.{GoesOn, GoesOnServing, HandsBackMore, IsCalled, IsEndedBy, IsRound, IsUnfailed, LetsInMore, ServesHall}
+use Rattle.hall.specs.Halls.{GoesOn, GoesOnServing, HandsBackMore, IsCalled, IsUnfailed, LetsInMore, ServesHall}
 use Rattle.hall.specs.declared.ended.Ended.{Ended}
 use Rattle.hall.specs.declared.ended.Ended.TheVariants as ended
 use Rattle.hall.specs.Reads.{Desk, KeptEntry, desk_at, with_none_kept}

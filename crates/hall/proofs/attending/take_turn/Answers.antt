@@ -20,7 +20,7 @@ returns-in-Waits-clause-turn g c =
       refl,
       subst (λ (bytes : List ℕ). ServesVisit (given_in c.args.terms) (state g.S.Store) (desk_at c.args.office.now (kept_in c.args.kept.now))
           (record { door = client.door; number = client.number; moment = c.args.now; got = bytes; answer = answer }) (desk_at c.answer_to-line.new.office (kept_in c.answer_to-line.new.kept)))
-          c.as_slice.ensures.value (c.answer_to-line.ensures.served client.number),
+          c.as_slice-2.ensures.value (c.answer_to-line.ensures.served client.number),
       c.tell_more.ensures.his,
     )
 
@@ -39,8 +39,8 @@ returns g c =
         refl,
         subst (λ (bytes : List ℕ). ServesVisit (given_in c.args.terms) (state g.S.Store) (desk_at c.args.office.now (kept_in c.args.kept.now))
             (record { door = client.door; number = client.number; moment = c.args.now; got = bytes; answer = answer }) (desk_at c.answer_to-line.new.office (kept_in c.answer_to-line.new.kept)))
-            c.as_slice.ensures.value (c.answer_to-line.ensures.served client.number),
+            c.as_slice-2.ensures.value (c.answer_to-line.ensures.served client.number),
         c.tell_more.ensures.his,
       );
-      done = c.tell_more.ensures.done;
+      leaves = c.tell_more.ensures.leaves;
     }

@@ -20,7 +20,7 @@ returns-in-Err-clause-followed g c = λ got message.
 
 pub returns-clause-followed : goal.returns-clause-followed
 returns-clause-followed g c = λ got message.
-    follows_read c.args.file (state g.S.Store) c.args.office.now c.tell_asked-2.new.office got c.tell_asked-2.result.1.bytes.items c.args.handed.now c.deref-2.result.now c.asked_by-asked.result message
+    follows_read c.args.file (state g.S.Store) c.args.office.now c.tell_asked-2.new.office got c.tell_asked-2.result.1.bytes.items c.args.handed.now c.deref-2.result.now c.unless_gone-asked.result message
     (c.is_for_file.ensures.0 (cc c.if-not-is_for_file.false)) c.deref-2.ensures.value
     (c.unless_gone-asked.ensures (handed_entry c.args.handed.now) (c.asked_by.ensures (handed_entry c.args.handed.now) (words_same c.args.handed.now c.deref.result.now c.in-Ok.words.items c.deref-3.result.now c.deref.ensures.value c.in-Ok.ensures.ok c.deref-3.ensures.value)))
     c.tell_asked-2.ensures.followed

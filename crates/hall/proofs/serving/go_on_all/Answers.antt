@@ -1,8 +1,7 @@
 -- Why `go_on_all` keeps its promise.
-use Rattle.std.proofs.Common.{◌∙◌, Ok, ap, refl}
+use Rattle.std.proofs.Common.{◌∙◌, Ok, refl}
 use Rattle.sqlite.specs.Held.{state}
 use Rattle.gathering.specs.Lines.{line_of}
-use Rattle.gathering.specs.Rooms.{DoorsEntry}
 use Rattle.hall.specs.Reads.{desk_at, kept_in}
 use Rattle.hall.specs.Terms.{given_in}
 use Rattle.hall.proofs.HallLemmas.{goes_none, serving_none, serving_still, serving_then, sound_later, still_known, unfailed_known, unfailed_then}

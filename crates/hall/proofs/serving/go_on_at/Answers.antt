@@ -7,9 +7,9 @@ use Rattle.gathering.specs.Rooms.{with_leaver}
 use Rattle.gathering.specs.declared.leaver.Leaver.{Leaver}
 use Rattle.hall.specs.Reads.{desk_at, kept_in}
 use Rattle.hall.specs.Terms.{given_in}
-use Rattle.gathering.proofs.BoundLemmas.{few_back, one_less, place_left, within_again}
+use Rattle.gathering.proofs.BoundLemmas.{few_back, within_again}
 use Rattle.gathering.proofs.ClosingLemmas.{bytes_outs}
-use Rattle.hall.proofs.HallLemmas.{back_after, called_one, goes_without, leaves_by, left_after, serving_none, serving_then, still_call, then_unfailed, unfailed_leavers, untold_at}
+use Rattle.hall.proofs.HallLemmas.{back_after, goes_without, leaves_by, left_after, serving_none, serving_then, still_call, untold_at}
 use Rattle.hall.proofs.serving.go_on_at.Goals as goal
 
 -- whoever is at the place was told nothing, if it has no response

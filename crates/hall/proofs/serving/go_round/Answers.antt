@@ -1,5 +1,4 @@
 -- Why `go_round` keeps its promise.
-use Rattle.std.proofs.Common.{[], ap}
 use Rattle.sqlite.specs.Held.{state}
 use Rattle.gathering.specs.Closing.{IsLetGo, late_by}
 use Rattle.gathering.specs.Lines.{line_of}
@@ -7,7 +6,7 @@ use Rattle.hall.specs.Reads.{desk_at, kept_in}
 use Rattle.hall.specs.Terms.{given_in}
 use Rattle.gathering.proofs.BoundLemmas.{within_still}
 use Rattle.gathering.proofs.ClosingLemmas.{late_outs}
-use Rattle.hall.proofs.HallLemmas.{goes_then, goes_without, serving_none, serving_round, serving_still, serving_then, still_call, still_wait}
+use Rattle.hall.proofs.HallLemmas.{serving_round, serving_still, still_call, still_wait}
 use Rattle.hall.proofs.serving.go_round.Goals as goal
 
 -- no more are in than may be, since some were closed

@@ -1,11 +1,10 @@
 -- Why `let_one_in` keeps its promise.
-use Rattle.std.proofs.Common.{[], ap, refl}
+use Rattle.std.proofs.Common.{[], refl}
 use Rattle.gathering.specs.Clients.{IsOf}
 use Rattle.gathering.specs.Closing.{IsLetGo, for_room_by}
 use Rattle.gathering.specs.Lines.{line_of}
-use Rattle.gathering.specs.Rooms.{DoorsEntry}
 use Rattle.gathering.proofs.BoundLemmas.{within_more, within_still}
-use Rattle.gathering.proofs.ClosingLemmas.{let_go_maybe, let_go_one, let_go_then, room_outs}
+use Rattle.gathering.proofs.ClosingLemmas.{let_go_maybe, room_outs}
 use Rattle.hall.proofs.HallLemmas.{goes_more, goes_none, goes_then, goes_without, still_known}
 use Rattle.hall.proofs.serving.let_one_in.Goals as goal
 
