@@ -209,14 +209,14 @@ fn follow<O: Sink, E: Sink>(rt: &HostRuntime, words: &[&str], out: &mut O, err: 
     requires out { O.failed out.old < 2 ^ 64 - 1 }
     requires err { E.failed err.old < 2 ^ 64 - 1 }
 {
-    match order(rt.alloc(), words) {
+    match order(rt.alloc(), &*words) {
         // codes are made without a database
         Ok(Order::Codes { path, clerks }) => make_codes(rt, path, clerks, out, err),
         Ok(order) => {
             let request = Request {
-                rt,
+                rt: &*rt,
                 path: words.first().copied().unwrap_or(""),
-                words,
+                words: &*words,
                 order: &order,
             };
             perform_at(request, out, err)
