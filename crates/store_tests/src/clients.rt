@@ -222,7 +222,7 @@ impl<'c, 'p> Doors for Coming<'c, 'p> {
     }
 
     fn leave(&mut self, leaver: Leaver<Talk<'c, 'p>>)
-        ensures { unknown ≡ with_leaver unknown leaver }
+        ensures { unknown ≡ with_leaver unknown leaver.entry }
     {
         drop(leaver);
     }
