@@ -1,6 +1,6 @@
 #!/usr/bin/env bash
 # Plays the check of sheets and declarations against ballots, by the program that needs no office.
-asks_for='- check'
+# shellcheck source=examples/play.bash
 source "$(dirname "$(readlink -f "${BASH_SOURCE[0]}")")/play.bash"
 
 data=$here/../crates/check_count/data

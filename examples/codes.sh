@@ -1,5 +1,6 @@
 #!/usr/bin/env bash
 # Plays clerks' codes: a new file of them, files that aren't taken, and who is let in over HTTP, beside wrong codes too.
+# shellcheck source=examples/play.bash
 source "$(dirname "$(readlink -f "${BASH_SOURCE[0]}")")/play.bash"
 
 port=$((20000 + RANDOM % 20000))
@@ -43,6 +44,7 @@ refuse() {
     local mode=$1
     shift
     rm -f "$folder/bad.txt"
+    # shellcheck disable=SC2059 # the first of the words is the form
     (umask 077 && printf "$@" >"$folder/bad.txt")
     chmod "$mode" "$folder/bad.txt"
     play town.db serve "$port" 1 --codes bad.txt | sed "s/ $port / PORT /"

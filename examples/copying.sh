@@ -1,5 +1,6 @@
 #!/usr/bin/env bash
 # Plays copies of an office, and what isn't copied.
+# shellcheck source=examples/play.bash
 source "$(dirname "$(readlink -f "${BASH_SOURCE[0]}")")/play.bash"
 
 mkdir "$folder/attic"
@@ -9,12 +10,12 @@ printf 'paper,1,2,3\n1,1,2,\n2,,1,\n' >"$folder/four.csv"
 
 # The office, where no file may grow past 20480 bytes.
 cramped_office() {
-    (ulimit -f 20 && "$here/launch" "$@")
+    (ulimit -f 20 && "$launcher" "$@")
 }
 
 # The office, whose output has no room.
 mute_office() {
-    "$here/launch" "$@" >/dev/full
+    "$launcher" "$@" >/dev/full
 }
 
 # Shows which files there are.

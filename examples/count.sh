@@ -1,5 +1,6 @@
 #!/usr/bin/env bash
 # Plays a contested election from `init` to its declaration, with a lot, and a ward that is uncontested.
+# shellcheck source=examples/play.bash
 source "$(dirname "$(readlink -f "${BASH_SOURCE[0]}")")/play.bash"
 
 # Makes a file in the folder that the orders are played in, a line for each word.

@@ -1,6 +1,7 @@
 #!/usr/bin/env bash
 # Plays import files that say whose keying they are, and files that must be the one of a digest: the files of two batches swapped, one
 # clerk's file for both, and a file that was written over since its digest was noted.
+# shellcheck source=examples/play.bash
 source "$(dirname "$(readlink -f "${BASH_SOURCE[0]}")")/play.bash"
 
 # Makes a file in the folder that the orders are played in, a line for each word.

@@ -1,5 +1,6 @@
 #!/usr/bin/env bash
 # Plays the first orders of an office over a new database.
+# shellcheck source=examples/play.bash
 source "$(dirname "$(readlink -f "${BASH_SOURCE[0]}")")/play.bash"
 
 echo 'Ann, Bob and Cy' >"$folder/names.txt"
@@ -7,7 +8,7 @@ echo 'Ann, Bob and Cy' >"$folder/names.txt"
 
 # The office, where no file may grow past 1024 bytes.
 cramped_office() {
-    (ulimit -f 1 && "$here/launch" "$@")
+    (ulimit -f 1 && "$launcher" "$@")
 }
 
 # Shows which files there are.

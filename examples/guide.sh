@@ -1,10 +1,8 @@
 #!/usr/bin/env bash
 # Plays docs/ELECTION.md: types each command line that the guide shows, in its order, over the files that it shows. What is
 # printed is compared with what the guide says, and, with the status of each line, with guide.expected.
+# shellcheck source=examples/play.bash
 source "$(dirname "$(readlink -f "${BASH_SOURCE[0]}")")/play.bash"
-
-# The guide checks a sheet too: the checker is there before the first line, so that what is printed is the lines' own.
-"$office" - check --help >/dev/null
 
 guide=$here/../docs/ELECTION.md
 # The guide serves on port 8080. Here it is a port that nothing answers on.

@@ -1,5 +1,6 @@
 #!/usr/bin/env bash
 # Plays the help: of the program, of each order, and where words aren't understood.
+# shellcheck source=examples/play.bash
 source "$(dirname "$(readlink -f "${BASH_SOURCE[0]}")")/play.bash"
 
 {

@@ -1,6 +1,7 @@
 #!/usr/bin/env bash
 # Plays a keying over HTTP: two clerks ask for their work, key a batch from a client, and a client asks for the sheet. Pages from
 # elsewhere get nothing.
+# shellcheck source=examples/play.bash
 source "$(dirname "$(readlink -f "${BASH_SOURCE[0]}")")/play.bash"
 
 # Asks the office that serves: a target, for a keying its body, and headers.

@@ -1,6 +1,7 @@
 #!/usr/bin/env bash
 # Plays an evening that is put right from its journal alone. A pile of papers was given out twice, a verdict was mistyped, and the tellers
 # wrote their files over. Then names that look like words of a script, and journals that were cut, doubled and mixed up.
+# shellcheck source=examples/play.bash
 source "$(dirname "$(readlink -f "${BASH_SOURCE[0]}")")/play.bash"
 
 # The tellers 4 and 9 key a batch, both from the one file that each has; it is written over each time.
@@ -19,7 +20,7 @@ keep_journal() {
 
 # The office, whose output has no room.
 mute_office() {
-    "$here/launch" "$@" >/dev/full
+    "$launcher" "$@" >/dev/full
 }
 
 # Shows which orders differ between a text and the journal of an office, as the guide has it.

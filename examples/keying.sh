@@ -1,6 +1,7 @@
 #!/usr/bin/env bash
 # Plays a ward from its nominations to its agreed papers: candidates from a file, three batches keyed by two clerks each, one of
 # them keyed again and one by a third clerk too, and a verdict on a doubtful paper.
+# shellcheck source=examples/play.bash
 source "$(dirname "$(readlink -f "${BASH_SOURCE[0]}")")/play.bash"
 
 # Makes a file in the folder that the orders are played in, a line for each word.
@@ -21,6 +22,7 @@ file semicolons.csv 'paper;1;2;3' '1;1;2;' '2;D;;'
 file spaces.csv 'paper, 1, 2, 3' '1, 1, 2,' '2, D,,'
 printf '\377\376p\0a\0p\0e\0r\0,\0001\0\n\0' >"$folder/utf-16.csv"
 file commas.csv paper,1,2,3 1,1,2, 2,D,, ,,,
+# shellcheck disable=SC2046 # each record is a word
 file many.csv paper,1,2,3 $(printf '%s,1,, ' {1..500}) ,,,
 
 {

@@ -1,5 +1,6 @@
 #!/usr/bin/env bash
 # Plays the nominations of two wards: Harbour is polled, and Quay isn't contested.
+# shellcheck source=examples/play.bash
 source "$(dirname "$(readlink -f "${BASH_SOURCE[0]}")")/play.bash"
 
 {

@@ -1,5 +1,6 @@
 #!/usr/bin/env bash
 # Plays the ten lines of an election that docs/ORDERS.md shows, in their order, over the files that they name.
+# shellcheck source=examples/play.bash
 source "$(dirname "$(readlink -f "${BASH_SOURCE[0]}")")/play.bash"
 
 printf '%s\n' ward,candidate,name 7,1,Ann 7,2,Bob 7,3,Cy >"$folder/candidates.csv"

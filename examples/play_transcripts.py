@@ -26,7 +26,7 @@ TOWN, COPY, FILE = "town.db", "copy.db", "FILE"
 SECONDS = 60
 
 sys.path.insert(0, str(HERE.parent / "tools"))
-import older_office  # noqa: E402
+from office_tools.tries import older_office  # noqa: E402
 from transcript import read  # noqa: E402
 
 
@@ -34,16 +34,16 @@ class Wrong(Exception):
     """The program printed something else than the transcript has, or the transcript can't be read."""
 
 
-def program(named, *words):
-    """The program that a variable names, or the one that the script count-office keeps for these words."""
+def program(named):
+    """The program that a variable names, or the one of this clone."""
     path = os.environ.get(named)
     if path:
         return os.path.realpath(path)
-    subprocess.run([HERE.parent / "count-office", *words, "--help"], stdout=subprocess.DEVNULL, check=True)
+    subprocess.run([HERE.parent / "count-office", "--help"], stdout=subprocess.DEVNULL, check=True)
     return str(HERE.parent / "out" / named.lower().replace("_", "-"))
 
 
-PROGRAM, CHECKER = program("COUNT_OFFICE"), program("CHECK_COUNT", "-", "check")
+PROGRAM, CHECKER = program("COUNT_OFFICE"), program("CHECK_COUNT")
 
 
 def copied(folder, other):

@@ -1,6 +1,7 @@
 #!/usr/bin/env bash
 # Plays an evening of an office that serves: clerks key over HTTP, and the office gives its orders meanwhile. Then the server is killed, and
 # something else lies where its socket would be.
+# shellcheck source=examples/play.bash
 source "$(dirname "$(readlink -f "${BASH_SOURCE[0]}")")/play.bash"
 
 port=$((20000 + RANDOM % 20000))
@@ -44,6 +45,18 @@ play_closed() {
     echo "\$ count-office $* >&-"
     (cd "$folder" && "$office" "$@" 2>errors >&-) || status=$?
     sed 's/^/error: /' "$folder/errors"
+    echo "status $status"
+}
+
+# Plays a script of which each order is refused, with more refusals than one frame of the socket has bytes.
+play_refused() {
+    local status=0
+    for number in {1..3000}; do echo "seal 8 --id m$number"; done >"$folder/refused.txt"
+    echo "\$ count-office town.db replay refused.txt --keep-going"
+    (cd "$folder" && "$office" town.db replay refused.txt --keep-going >output 2>errors) || status=$?
+    sed 's/^/output: /' "$folder/output"
+    echo "errors: $(wc -l <"$folder/errors") lines, $(wc -c <"$folder/errors") bytes, the last of them:"
+    tail -n 1 "$folder/errors" | sed 's/^/error: /'
     echo "status $status"
 }
 
@@ -94,6 +107,7 @@ CSV
     play town.db import-keying 9 12 1 nine.csv --id k1
     play town.db import-keying 9 12 1 none.csv --id k1
     play town.db replay evening.txt
+    play_refused
     play town.db status 7
     ask /clerks/9/work
     # words that mean nothing never reach the office, and these orders aren't for one that is served

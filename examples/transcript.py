@@ -20,6 +20,7 @@ A transcript has plays, each over a new file, in a folder of its own:
     = names.csv                            lines of a file that stays there for the play
     $ declare 7 --id d1
     1| refused 9: wrong phase              with a status that isn't 0, what goes to the error output (`0| ..` to the output)
+    !| note: b1 was kept ..                what goes to the error output where the status is 0
     2~ error: .. 'now'                     that it begins so, and what stands in it
     # UPDATE ward SET phase = 2            statements, by the stock SQLite
     @ 4                                    the work of a clerk, asked for over HTTP; below it a line a batch
@@ -63,6 +64,8 @@ class Asked:
             self.status, self.within = int(found[1]), found.groups()[1:]
         elif found := re.match(r"(\d+)\| ?(.*)$", line):
             self.tell(int(found[1]), found[2])
+        elif line.startswith("!| "):
+            self.is_told, self.err = True, self.err + line[3:] + "\n"
         else:
             self.tell(0, line)
 

@@ -1,7 +1,10 @@
-"""A Debian package of a release's files."""
-import os
-import subprocess
-import tempfile
+"""The Debian package of a release: made of the archive's files alone, without Debian's tools."""
+import io
+import lzma
+
+from releasing import archive
+
+ARCHITECTURE = 'amd64'
 
 CONTROL = """Package: count-office
 Version: {version}
@@ -15,7 +18,7 @@ Description: office of an election by the single transferable vote of Scotland
  work, counts, and prints stage sheets and declarations that anyone can check.
 """
 
-# The user as whom an office is served, where systemd is there. Offices that are served go on in the new program.
+# The service's user is made if systemd is there. Offices that are being served are served by the new program then.
 AFTER_INSTALL = """#!/bin/sh
 set -e
 if [ "$1" = configure ]; then
@@ -27,13 +30,13 @@ if [ "$1" = configure ]; then
 fi
 """
 
-# An upgrade leaves what is served as it is until the new program is there.
+# An upgrade leaves a served office alone until the new program is there.
 BEFORE_REMOVAL = """#!/bin/sh
 set -e
 if [ "$1" = remove ] && [ -d /run/systemd/system ]; then systemctl stop 'count-office@*.service'; fi
 """
 
-# Nothing of the package is left but the files of offices, and the user who owns them.
+# Nothing of the package stays but the files of offices, and the user who owns them.
 AFTER_REMOVAL = """#!/bin/sh
 set -e
 if [ "$1" = remove ] || [ "$1" = purge ]; then
@@ -48,36 +51,45 @@ if [ "$1" = purge ]; then rm -rf /etc/count-office; fi
 """
 
 
-def write(path, text, mode, time):
-    os.makedirs(os.path.dirname(path), exist_ok=True)
-    with open(path, 'wb') as file:
-        file.write(text)
-    os.chmod(path, mode)
+def with_folders(files):
+    """The files of a tar archive by the names that dpkg expects, with each folder that they are in."""
+    found = {'./': (0o755, b'')}
+    for path, value in files.items():
+        parts = path.split('/')
+        for end in range(1, len(parts)):
+            found['./%s/' % '/'.join(parts[:end])] = (0o755, b'')
+        if parts[-1]:
+            found['./' + path] = value
+    return found
 
 
-def same_time(folder, time):
-    for place, folders, names in os.walk(folder):
-        for name in folders + names:
-            os.utime(os.path.join(place, name), (time, time))
-        os.chmod(place, 0o755)
+def plain_parts(files, version, time):
+    """{name: bytes} of the package's two archives, as yet unpacked: the files below /usr, and the folder of the offices' settings."""
+    size = sum(len(text) for _, text in files.values()) // 1024 + 1
+    control = CONTROL.format(version=version, architecture=ARCHITECTURE, size=size)
+    scripts = {'postinst': AFTER_INSTALL, 'prerm': BEFORE_REMOVAL, 'postrm': AFTER_REMOVAL}
+    about = {'control': (0o644, control.encode()), **{name: (0o755, text.encode()) for name, text in scripts.items()}}
+    data = {'etc/count-office/': (0o755, b''), **{'usr/' + path: value for path, value in files.items()}}
+    return {'control.tar': archive.tar_bytes(with_folders(about), time), 'data.tar': archive.tar_bytes(with_folders(data), time)}
 
 
-def package(files, version, architecture, time):
-    """The package's bytes: {path: (mode, bytes)} below /usr, at one time; and the folder of its offices' settings."""
-    with tempfile.TemporaryDirectory() as room:
-        root = os.path.join(room, 'root')
-        for path, (mode, text) in files.items():
-            write(os.path.join(root, 'usr', path), text, mode, time)
-        os.makedirs(os.path.join(root, 'etc', 'count-office'))
-        size = sum(len(text) for _, text in files.values()) // 1024 + 1
-        control = CONTROL.format(version=version, architecture=architecture, size=size).encode()
-        write(os.path.join(root, 'DEBIAN', 'control'), control, 0o644, time)
-        write(os.path.join(root, 'DEBIAN', 'postinst'), AFTER_INSTALL.encode(), 0o755, time)
-        write(os.path.join(root, 'DEBIAN', 'prerm'), BEFORE_REMOVAL.encode(), 0o755, time)
-        write(os.path.join(root, 'DEBIAN', 'postrm'), AFTER_REMOVAL.encode(), 0o755, time)
-        same_time(root, time)
-        made = os.path.join(room, 'made.deb')
-        subprocess.run(['dpkg-deb', '--root-owner-group', '--build', '-Zxz', root, made], check=True,
-                       stdout=subprocess.DEVNULL, env={**os.environ, 'SOURCE_DATE_EPOCH': str(time)})
-        with open(made, 'rb') as file:
-            return file.read()
+def package(files, version, time):
+    """The package's bytes, of {path: (mode, bytes)} below /usr."""
+    members = {'debian-binary': b'2.0\n'}
+    for name, plain in plain_parts(files, version, time).items():
+        members[name + '.xz'] = archive.xzed(plain)
+    made = b'!<arch>\n'
+    for name, text in members.items():
+        made += b'%-16s%-12d%-6d%-6d%-8s%-10d`\n' % (name.encode(), time, 0, 0, b'100644', len(text)) + text + b'\n' * (len(text) % 2)
+    return made
+
+
+def parts_of(made):
+    """{name: bytes} of a package's two archives, unpacked."""
+    found, file = {}, io.BytesIO(made[len(b'!<arch>\n'):])
+    while head := file.read(60):
+        name, size = head[:16].decode().strip(), int(head[48:58])
+        text = file.read(size + size % 2)[:size]
+        if name.endswith('.xz'):
+            found[name.removesuffix('.xz')] = lzma.decompress(text)
+    return found

@@ -21,14 +21,14 @@ pub whole_at_zero : (cut : Cut) (old new : Outputs) (page : Page) (status : ℕ)
 whole_at_zero cut old new page status zero shown = shown_whole false cut old new page status shown (goes_after_zero false status zero)
 
 -- what is told of a copy of an open office
-copy_told : (s : OfficeState) (page : Page) (left : CopyState) (blank full : State) → IsCopiedOpen s page left blank full → IsCopyTold s page
-copy_told s page left blank full (inl made) = inl made.0
-copy_told s page left blank full (inr (failure, is, leaves)) = inr (inr (failure, is))
+copy_told : (s : OfficeState) (page : Page) (left : CopyState) (old new blank full : State) → IsCopiedOpen s page left old new blank full → IsCopyTold s page
+copy_told s page left old new blank full (inl made) = inl made.0
+copy_told s page left old new blank full (inr (failure, is, ends, leaves)) = inr (inr (failure, is))
 
 -- and, where it is told with status 0, that its log couldn't be put into it
-copy_unclosed : (s : OfficeState) (page : Page) (left : CopyState) (blank full : State) → page.status ≡ 0 → IsCopiedOpen s page left blank full → IsCopyTold s (below page (failed CopyFailed))
-copy_unclosed s page left blank full zero (inl made) = inr (inl (ap (λ (p : Page). below p (failed CopyFailed)) made.0))
-copy_unclosed s page left blank full zero (inr (failure, is, leaves)) = let three : page.status ≡ 3 = ap (λ (p : Page). p.status) is in absurd (omega arith)
+copy_unclosed : (s : OfficeState) (page : Page) (left : CopyState) (old new blank full : State) → page.status ≡ 0 → IsCopiedOpen s page left old new blank full → IsCopyTold s (below page (failed CopyFailed))
+copy_unclosed s page left old new blank full zero (inl made) = inr (inl (ap (λ (p : Page). below p (failed CopyFailed)) made.0))
+copy_unclosed s page left old new blank full zero (inr (failure, is, ends, leaves)) = let three : page.status ≡ 3 = ap (λ (p : Page). p.status) is in absurd (omega arith)
 
 -- a failure has status 3
 error_ends : {E : Type 0} (taken : E → Option (List ℕ)) (calls : E → ℕ) (old new : E) (text : List ℕ) (ends : ℕ) → IsErrorTold taken calls old new text 3 ends → ends ≡ 3
@@ -53,7 +53,7 @@ module _ {O E : Type 0} (taken : O → Option (List ℕ)) (calls : O → ℕ) (t
 
     -- what a copy tells, and behind it, with status 0, how its files are closed
     pub closed_told : (out out_new : O) (err err_mid err_new : E) (status ends : ℕ)
-        → Tells (outputs out err) (outputs out_new err_mid) status (λ cut page. HoldsCopy left page blank full × WhenOpenAt state_of old new (λ s. IsCopiedOpen s page left blank full) × (old.closed ≡ true → page ≡ closed_page))
+        → Tells (outputs out err) (outputs out_new err_mid) status (λ cut page. HoldsCopy left page blank full × WhenOpenAt state_of old new (λ s. IsCopiedOpen s page left (state_of old.held) (state_of new.held) blank full) × (old.closed ≡ true → page ≡ closed_page))
         → (¬ (status ≡ 0) → (ends ≡ status) × (err_new ≡ err_mid)) → (status ≡ 0 → EndsCopy taken_err calls_err err_mid err_new ends)
         → TellsCopy out out_new err err_new ends
     closed_told out out_new err err_mid err_new status ends told other whole = by (status == 0) refl
@@ -65,7 +65,7 @@ module _ {O E : Type 0} (taken : O → Option (List ℕ)) (calls : O → ℕ) (t
           cut = told.cut;
           shown = subst (λ e. IsShown told.cut (outputs out err) (outputs out_new e) told.page ends) (sym stays)
               (subst (λ n. IsShown told.cut (outputs out err) (outputs out_new err_mid) told.page n) (sym same) told.shown);
-          is = λ clean was s at. copy_told s told.page left blank full (told.is.1 clean was s at);
+          is = λ clean was s at. copy_told s told.page left (state_of old.held) (state_of new.held) blank full (told.is.1 clean was s at);
         }
 
         -- and the failure is told below it
@@ -79,7 +79,7 @@ module _ {O E : Type 0} (taken : O → Option (List ℕ)) (calls : O → ℕ) (t
               cut = cut_below told.page.out next.0;
               shown = shown_last next.0 (outputs out err) (outputs out_new err_mid) (outputs out_new err_new) told.page (failed CopyFailed) status ends first next.1 (λ none. absurd (omega (arith, three, none)));
               is = λ clean was s at.
-                  copy_unclosed s told.page left blank full (shown_zero told.cut (outputs out err) (outputs out_new err_mid) told.page status told.shown zero).1 (told.is.1 clean was s at);
+                  copy_unclosed s told.page left (state_of old.held) (state_of new.held) blank full (shown_zero told.cut (outputs out err) (outputs out_new err_mid) told.page status told.shown zero).1 (told.is.1 clean was s at);
             }
 
         at_zero : status ≡ 0 → EndsCopy taken_err calls_err err_mid err_new ends → TellsCopy out out_new err err_new ends

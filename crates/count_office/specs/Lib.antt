@@ -1,3 +1,5 @@
 -- What the program hands on.
 pub mod Done
 pub mod Screens
+pub mod Hosts
+pub mod Serving

@@ -14,10 +14,10 @@ use store::Fault;
 use votes::Sink;
 
 /// This machine, and the files of the office that is served.
-#[derive(Clone, Copy)]
+#[derive(Drop)]
 pub struct Machine<'a> {
     pub rt: &'a HostRuntime,
-    pub presence: &'a Presence<'a>,
+    pub presence: Presence<'a>,
 }
 
 /// A path as it is seen from a folder.

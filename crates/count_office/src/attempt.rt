@@ -5,6 +5,7 @@ ghost use Rattle.std.specs.Prelude.{◌≡◌, ◌-◌, ◌^◌, ◌<◌, OnErr,
 
 use crate::handing::{Reply, Sent, print_reply, send_order};
 use crate::held::Held;
+use crate::localhost::Localhost;
 use crate::notices::{Holder, say_foreign_log, say_if_open_to_others, say_waited, say_waiting};
 use crate::parcel::{Parcel, pack};
 use crate::traces::{Found, Site};
@@ -42,7 +43,6 @@ pub struct Request<'a> {
 /// Two stretches of writing rest on what `sqlite` states: `Connection::open_from` makes the log if it is missing and takes up
 /// what it holds, and `close` copies it. `perform` speaks of all between.
 fn perform_in<O: Sink, E: Sink>(
-    rt: &HostRuntime,
     place: Place<'_>,
     order: &Order<'_>,
     out: &mut O,
@@ -52,13 +52,15 @@ fn perform_in<O: Sink, E: Sink>(
     requires err { E.failed err.old < 2 ^ 64 - 1 }
     ensures { OnErr result ((out.new ≡ out.old) × (err.new ≡ err.old)) }
 {
+    let rt = place.rt;
     match Connection::open_from(rt, place.path, false, Wary) {
         Ok(conn) => {
             if place.found.has_foreign_log(rt) {
                 drop(conn);
                 return Ok(refuse_log(rt, place.path, err));
             }
-            let (status, conn) = perform_on(rt, place, order, conn, out, err);
+            let mut host = Localhost::at(place);
+            let (status, conn) = perform_on(place, &mut host, order, conn, out, err);
             if status != 0 {
                 place.found.leave(rt);
             }
@@ -113,9 +115,9 @@ fn print_watched<O: Sink, E: Sink>(
     match request.order {
         Order::Perform(task) if wants_progress(request.rt, task) => {
             let mut watched = Progress::new(out, request.rt.stderr());
-            print_reply(reply, &mut watched, err)
+            print_reply(request.rt.alloc(), reply, &mut watched, err)
         }
-        _ => print_reply(reply, out, err),
+        _ => print_reply(request.rt.alloc(), reply, out, err),
     }
 }
 
@@ -180,12 +182,13 @@ fn perform_held<O: Sink, E: Sink>(
     ensures { OnErr result ((out.new ≡ out.old) × (err.new ≡ err.old)) }
 {
     let place = Place {
+        rt: request.rt,
         path: request.path,
         found,
         held,
         brought,
     };
-    perform_in(request.rt, place, request.order, out, err)
+    perform_in(place, request.order, out, err)
 }
 
 /// Holds the database that was found, and does an order over it; or hands the order over to the program that serves it. An error is

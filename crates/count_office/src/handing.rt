@@ -1,13 +1,16 @@
 //! An order on a database that another program serves. It is handed over to that program, and the reply is printed as it comes.
 
-ghost use Rattle.std.specs.Prelude.{◌≡◌, ◌≢◌, ◌-◌, ◌^◌, ◌<◌, Err, IfOk, IfSome, OnErr};
+ghost use Rattle.std.specs.Prelude.{◌≡◌, ◌≢◌, ◌-◌, ◌^◌, ◌<◌, ◌≤◌, Err, IfOk, IfSome, Ok, OnErr, length, true};
 ghost use Rattle.handover.specs.Spelling.{PieceFits, PiecesFit, piece_entries, piece_entry};
 
 use crate::beside;
-use crate::parcel::{MAX_MESSAGE, Parcel, Part};
+use crate::parcel::{Parcel, Part};
 use desk::version::VERSION;
 use desk::{Failure, tell_failure};
-use handover::{Handed, Piece, write};
+use handover::{
+    FrameHead, FrameKind, Handed, MAX_MESSAGE, Piece, is_message_len, message_head,
+    read_frame_head, write,
+};
 use std::alloc::{AllocError, Global};
 use std::io::{self, ErrorKind, Read, Write};
 use std::os::unix::fs::MetadataExt;
@@ -18,11 +21,6 @@ use votes::{Sink, put_all};
 
 /// The most bytes of a frame that are read at once.
 const CHUNK: usize = 8192;
-
-/// The kinds of frames.
-const SAID: u8 = 1;
-
-const OVER: u8 = 2;
 
 /// A word or a file as it is handed over; none, where it is longer than a message may be.
 fn piece_of(part: &Part) -> Option<Piece<'_>>
@@ -92,31 +90,76 @@ fn message_of(rt: &HostRuntime, database: &str, parcel: &Parcel) -> Result<Vec<u
         files,
     };
     match write(rt.alloc(), &handed) {
-        Ok(message) if message.len() <= MAX_MESSAGE => Ok(message),
+        Ok(message) if is_message_len(message.len()) => Ok(message),
         Ok(_) => Err(Fault::Store),
         Err(_) => Err(Fault::Memory),
     }
 }
 
-/// What stands in front of a frame: its kind, and how many bytes it says.
-fn frame_in(stream: &mut UnixStream) -> io::Result<(u8, u32)> {
+/// Reads the head of the next frame. A frame of an unknown kind is an error.
+fn frame_in(stream: &mut UnixStream) -> io::Result<FrameHead> {
     let mut head = [0; 5];
     stream.read_exact(&mut head)?;
-    let len = u32::from_be_bytes([head[1], head[2], head[3], head[4]]);
-    Ok((head[0], len))
+    read_frame_head(head).ok_or(io::Error::from(ErrorKind::InvalidData))
 }
 
 /// Why nothing more is printed.
 #[derive(Clone, Copy)]
 enum Cut {
-    /// Whoever serves is gone, or says what isn't understood.
+    /// The server closed the connection, or sent what isn't understood.
     Server,
     /// The output fails.
     Output,
+    /// There is no memory for a line.
+    Memory,
 }
 
-/// Prints so many bytes as they come.
-fn print_said<O: Sink>(stream: &mut UnixStream, len: u32, out: &mut O) -> Result<(), Cut>
+/// What was received of the two outputs and isn't printed yet: of each the beginning of a line.
+#[derive(Drop)]
+struct Unfinished {
+    out: Vec<u8>,
+    err: Vec<u8>,
+}
+
+/// Returns how many of these bytes are whole lines.
+fn whole_lines(bytes: &[u8]) -> usize
+    ensures { result ≤ length bytes.now }
+{
+    let mut whole = 0;
+    for (place, byte) in bytes.iter().enumerate() {
+        if *byte == b'\n' {
+            whole = place + 1;
+        }
+    }
+    whole
+}
+
+/// Appends bytes to a line that isn't complete yet, prints the lines that are complete then, and keeps the rest. So a reply that
+/// breaks off prints no part of a line.
+fn print_lines<O: Sink>(line: &mut Vec<u8>, bytes: &[u8], out: &mut O) -> Result<(), Cut>
+    requires { O.failed out.old < 2 ^ 64 - 1 }
+    ensures { result ≢ Err Cut.Output → O.failed out.new ≡ O.failed out.old }
+{
+    if line.extend_from_slice(bytes).is_err() {
+        return Err(Cut::Memory);
+    }
+    let whole = whole_lines(line.as_slice());
+    if put_all(out, &line[..whole]).is_err() {
+        return Err(Cut::Output);
+    }
+    let rest = line.len() - whole;
+    line.rotate_left(whole);
+    line.truncate(rest);
+    Ok(())
+}
+
+/// Prints so many bytes as they arrive, line by line.
+fn print_said<O: Sink>(
+    stream: &mut UnixStream,
+    len: u32,
+    line: &mut Vec<u8>,
+    out: &mut O,
+) -> Result<(), Cut>
     requires { O.failed out.old < 2 ^ 64 - 1 }
     ensures { result ≢ Err Cut.Output → O.failed out.new ≡ O.failed out.old }
 {
@@ -127,9 +170,7 @@ fn print_said<O: Sink>(stream: &mut UnixStream, len: u32, out: &mut O) -> Result
         match stream.read(&mut room[..wanted]) {
             Ok(0) | Err(_) => return Err(Cut::Server),
             Ok(count) => {
-                if put_all(out, &room[..count]).is_err() {
-                    return Err(Cut::Output);
-                }
+                print_lines(line, &room[..count], out)?;
                 left -= count;
             }
         }
@@ -137,27 +178,31 @@ fn print_said<O: Sink>(stream: &mut UnixStream, len: u32, out: &mut O) -> Result
     Ok(())
 }
 
-/// The status of an order, once its frame of the end has come, and what goes to the error output is printed. Where that
-/// fails the status is 3.
-fn print_over<E: Sink>(stream: &mut UnixStream, len: u32, err: &mut E) -> Result<u8, Cut>
+/// Prints so many bytes for the error output as they arrive. Returns whether the error output took them.
+fn print_error<E: Sink>(
+    stream: &mut UnixStream,
+    len: u32,
+    line: &mut Vec<u8>,
+    err: &mut E,
+) -> Result<bool, Cut>
     requires { E.failed err.old < 2 ^ 64 - 1 }
-    ensures { OnErr result (E.failed err.new ≡ E.failed err.old) }
+    ensures unfailed { result ≡ Ok true → E.failed err.new ≡ E.failed err.old }
+    ensures err { OnErr result (E.failed err.new ≡ E.failed err.old) }
 {
-    let mut status = [0];
-    if stream.read_exact(&mut status).is_err() {
-        return Err(Cut::Server);
-    }
-    match print_said(stream, len.saturating_sub(1), err) {
-        Ok(()) => Ok(status[0]),
-        Err(Cut::Output) => Ok(3),
+    match print_said(stream, len, line, err) {
+        Ok(()) => Ok(true),
+        Err(Cut::Output) => Ok(false),
         Err(Cut::Server) => Err(Cut::Server),
+        Err(Cut::Memory) => Err(Cut::Memory),
     }
 }
 
-/// Prints the reply to an order as it comes, from its first frame on, and returns its status.
-fn print_frames<O: Sink, E: Sink>(
+/// Returns the status of an order from its last frame, once the rest of that frame is printed on the error output, and what is left
+/// of a line of either output. If the error output fails, the status is 3.
+fn print_over<O: Sink, E: Sink>(
     stream: &mut UnixStream,
-    first: (u8, u32),
+    len: u32,
+    unfinished: &mut Unfinished,
     out: &mut O,
     err: &mut E,
 ) -> Result<u8, Cut>
@@ -165,12 +210,48 @@ fn print_frames<O: Sink, E: Sink>(
     requires err { E.failed err.old < 2 ^ 64 - 1 }
     ensures { OnErr result (E.failed err.new ≡ E.failed err.old) }
 {
+    let mut status = [0];
+    if stream.read_exact(&mut status).is_err() {
+        return Err(Cut::Server);
+    }
+    if put_all(out, unfinished.out.as_slice()).is_err() {
+        return Err(Cut::Output);
+    }
+    if !print_error(stream, len.saturating_sub(1), &mut unfinished.err, err)? {
+        return Ok(3);
+    }
+    match put_all(err, unfinished.err.as_slice()) {
+        Ok(()) => Ok(status[0]),
+        Err(_) => Ok(3),
+    }
+}
+
+/// Prints the reply to an order line by line as it arrives, from its first frame on, and returns its status.
+fn print_frames<O: Sink, E: Sink>(
+    alloc: Global,
+    stream: &mut UnixStream,
+    first: FrameHead,
+    out: &mut O,
+    err: &mut E,
+) -> Result<u8, Cut>
+    requires out { O.failed out.old < 2 ^ 64 - 1 }
+    requires err { E.failed err.old < 2 ^ 64 - 1 }
+    ensures { OnErr result (E.failed err.new ≡ E.failed err.old) }
+{
+    let mut unfinished = Unfinished {
+        out: Vec::new(alloc),
+        err: Vec::new(alloc),
+    };
     let mut frame = first;
     for _ in 0..u64::MAX {
-        match frame {
-            (SAID, len) => print_said(stream, len, out)?,
-            (OVER, len) => return print_over(stream, len, err),
-            _ => return Err(Cut::Server),
+        match frame.kind {
+            FrameKind::Said => print_said(stream, frame.len, &mut unfinished.out, out)?,
+            FrameKind::SaidErr => {
+                if !print_error(stream, frame.len, &mut unfinished.err, err)? {
+                    return Ok(3);
+                }
+            }
+            FrameKind::Over => return print_over(stream, frame.len, &mut unfinished, out, err),
         }
         frame = match frame_in(stream) {
             Ok(next) => next,
@@ -182,7 +263,7 @@ fn print_frames<O: Sink, E: Sink>(
 
 /// Sends a message, with its length in front.
 fn send(stream: &mut UnixStream, message: &[u8]) -> io::Result<()> {
-    stream.write_all(&(message.len() as u64).to_be_bytes())?;
+    stream.write_all(&message_head(message.len()))?;
     stream.write_all(message)
 }
 
@@ -190,7 +271,7 @@ fn send(stream: &mut UnixStream, message: &[u8]) -> io::Result<()> {
 #[derive(Drop)]
 pub struct Reply {
     stream: UnixStream,
-    first: (u8, u32),
+    first: FrameHead,
 }
 
 /// What came of an order that was sent.
@@ -230,13 +311,14 @@ pub fn send_order(rt: &HostRuntime, database: &str, parcel: &Parcel) -> Sent {
 
 /// Prints the rest of a reply, and returns the order's status. If the server goes before the end, it prints fault 102: the order is
 /// to be sent again.
-pub fn print_reply<O: Sink, E: Sink>(reply: Reply, out: &mut O, err: &mut E) -> u8
+pub fn print_reply<O: Sink, E: Sink>(alloc: Global, reply: Reply, out: &mut O, err: &mut E) -> u8
     requires out { O.failed out.old < 2 ^ 64 - 1 }
     requires err { E.failed err.old < 2 ^ 64 - 1 }
 {
     let Reply { mut stream, first } = reply;
-    match print_frames(&mut stream, first, out, err) {
+    match print_frames(alloc, &mut stream, first, out, err) {
         Ok(status) => status,
+        Err(Cut::Memory) => tell_failure(Failure::Office(Fault::Memory), err),
         Err(Cut::Server) => tell_failure(Failure::Office(Fault::Store), err),
         Err(Cut::Output) => tell_failure(Failure::Output, err),
     }

@@ -18,8 +18,10 @@ ghost use Rattle.tables.specs.Contents.{RestsAt};
 ghost use Rattle.tables.specs.Reading.{OnlyReads};
 ghost use Rattle.store.specs.Openings.{IsLeftAt};
 ghost use Rattle.desk.specs.Journals.{IsJournalTold, IsToldElsewhere};
-ghost use Rattle.desk.specs.Pages.{Tells, outputs_of};
+ghost use Rattle.desk.specs.Pages.{IsErrorTold, Tells, outputs_of};
+ghost use Rattle.gathering.specs.Lines.{line_of};
 ghost use Rattle.count_office.specs.Done.{IsDone};
+ghost use Rattle.count_office.specs.Serving.{ServesOrder};
 ghost use Rattle.sqlite_wal.specs.Reads.{AreClean};
 ghost use Rattle.sqlite.specs.Closing.{IsCopied};
 
@@ -28,8 +30,11 @@ mod attempt;
 mod beside;
 mod copies;
 mod fresh;
+mod gate;
 mod handing;
 mod held;
+mod host;
+mod localhost;
 mod notices;
 mod parcel;
 mod presence;
@@ -45,6 +50,7 @@ use desk::{
     Failure, Order, Progress, Task, WordsFault, journal_office, order, tell_failure, tell_words,
 };
 use held::Held;
+use host::Host;
 use parcel::{Parcel, Paths};
 use screen::Screen;
 use serving::{Serving, serve};
@@ -63,6 +69,7 @@ use votes::{Counted, Sink};
 /// before, if anything was.
 #[derive(Clone, Copy)]
 pub struct Place<'a> {
+    pub rt: &'a HostRuntime,
     pub path: &'a str,
     pub found: &'a Found,
     pub held: &'a Held,
@@ -114,10 +121,10 @@ fn perform_watched<S: Alter, O: Sink, E: Sink>(
     perform(rt.alloc(), task, conn, &paths, out, err)
 }
 
-/// Does an order over an opened connection to the office at a place.
-fn perform_on<S: Alter, O: Sink, E: Sink>(
-    rt: &HostRuntime,
+/// Does an order over an opened connection to the office at a place. An order to serve is done on the host.
+fn perform_on<H: Host, S: Alter, O: Sink, E: Sink>(
     place: Place<'_>,
+    host: &mut H,
     order: &Order<'_>,
     conn: Connection<S>,
     out: &mut O,
@@ -129,7 +136,11 @@ fn perform_on<S: Alter, O: Sink, E: Sink>(
     ensures journals { order.now ≡ Order.Journal → (let outputs = outputs_of O.taken O.failed E.taken E.failed in Tells (outputs out.old err.old) (outputs out.new err.new) result.0
         (λ _ page. HasCleanDisk (state S.Store result.1) → ((db : Database) → RestsAt db (state S.Store conn) → (s : OfficeState) → IsLeftAt s db → IsJournalTold s page)
         × IsToldElsewhere page (state S.Store conn) (state S.Store result.1))) }
+    ensures serves { (serving : Serving) → order.now ≡ Order.Serve serving.port serving.connections serving.origin serving.codes
+        → (out.new ≡ out.old) × ServesOrder (IsErrorTold E.taken E.failed err.old err.new) (err.new ≡ err.old) result.0 serving (H.codes_at host.old) (H.file host.old)
+        (line_of H.Port.Line.held H.Port.Line.taken H.Port.Line.failed) (state S.Store) (H.known host.old) (H.known host.new) conn result.1 }
 {
+    let rt = place.rt;
     match order {
         Order::Perform(task) => {
             let paths = Paths {
@@ -150,7 +161,7 @@ fn perform_on<S: Alter, O: Sink, E: Sink>(
                 origin: *origin,
                 codes: *codes,
             };
-            serve(rt, place, serving, conn, err)
+            serve(rt.alloc(), host, serving, conn, err)
         }
         Order::Copy { path } => copy(rt, conn, path, out, err),
         Order::Journal => journal(rt, conn, out, err),

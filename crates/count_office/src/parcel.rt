@@ -2,13 +2,11 @@
 //! who gives the order, before it is handed over to the program that serves the database.
 
 use desk::{Folder, Job, Order, Task, files_named_in};
+use handover::{MAX_MESSAGE, is_message_len};
 use std::alloc::{AllocError, Global};
 use std::fs::File;
 use std::io::{self, Read};
 use store::Fault;
-
-/// The longest message that a server accepts.
-pub const MAX_MESSAGE: usize = 32 << 20;
 
 /// A word of an order; or a file that it names, with its bytes, or without if it can't be read.
 #[derive(Drop)]
@@ -28,7 +26,7 @@ impl Part {
     /// Whether all of the file was read: of a longer one than a message may be, only the beginning was.
     fn is_whole(&self) -> bool {
         match &self.bytes {
-            Some(bytes) => bytes.len() <= MAX_MESSAGE,
+            Some(bytes) => is_message_len(bytes.len()),
             None => true,
         }
     }

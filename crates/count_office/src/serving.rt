@@ -1,27 +1,24 @@
-//! The office is served: on a port of this machine, and by the socket beside its database.
+//! The order to serve: opens an office and serves it on a host, by the settings of the order and the codes that were read.
 
-ghost use Rattle.std.specs.Prelude.{◌≡◌, ◌-◌, ◌^◌, ◌<◌, IfOk, IfSome, IsSomeAnd, None, string_bytes};
-ghost use Rattle.keying_page.specs.Page.{page_text, policy_text};
+ghost use Rattle.std.specs.Prelude.{◌≡◌, ◌-◌, ◌^◌, ◌<◌, IfSome, option_map};
+ghost use Rattle.sqlite.specs.Held.{state};
+ghost use Rattle.desk.specs.Pages.{IsErrorTold};
+ghost use Rattle.gathering.specs.Lines.{line_of};
+ghost use Rattle.wire.specs.Origins.{given_by};
+ghost use Rattle.count_office.specs.Serving.{MayServe, ServesAtDoors, ServesOrder, TellsOutcome, failure_by, gate_at, given_by_settings, given_with};
 
-use crate::Place;
-use crate::aside::Machine;
-use crate::beside::{Beside, closed_streams, reason_of};
-use crate::presence::Presence;
-use crate::slips::{read_codes, tell_untaken};
-use codes::{Codes, ReadError};
+use crate::gate::{Porter, gate_of, porter_of};
+use crate::host::{Host, Opened};
+use crate::slips::tell_untaken;
 use desk::{Failure, tell_failure};
-use hall::{Ended, FileNumbers, Terms, serve_hall};
-use keying_page::{page_text, policy_text};
-use mio::net::UnixListener;
+use gathering::Doors;
+use hall::{Aside, Ended, FileNumbers, Terms, serve_hall};
 use office::Office;
-use sockets::{Doorway, Loopback, Watch};
 use sqlite::{Alter, Connection};
-use std::alloc::{AllocError, Global};
-use std::io;
-use std::io::{ErrorKind, Write};
+use std::alloc::Global;
 use store::Fault;
 use votes::Sink;
-use wire::{Gate, Given, Origin, Page};
+use wire::{Given, Origin};
 
 /// What `serve` was given: its port, after how many clients it ends, if it does, the origin of a proxy, and the path of a file
 /// of clerks' codes, if one is given.
@@ -33,198 +30,123 @@ pub struct Serving<'a> {
     pub codes: Option<&'a str>,
 }
 
-/// What stands at the gate: clerks' codes, their page, and its policy.
-#[derive(Drop)]
-struct Porter {
-    codes: Codes,
-    page: String,
-    policy: String,
+/// What an office is served by: what `serve` was given, what its gate is made of, if it has one, and its file.
+#[derive(Clone, Copy)]
+pub struct Settings<'a> {
+    pub serving: Serving<'a>,
+    pub porter: &'a Option<Porter>,
+    pub file: FileNumbers,
 }
 
-/// Reads what stands at the gate; none, where no file of codes is given.
-fn porter_of(rt: &HostRuntime, path: Option<&str>) -> Result<Option<Porter>, ReadError>
-    ensures none { path.entry ≡ None → IfOk result (λ porter. porter ≡ None) }
-    ensures some { IfSome path.entry (λ _. IfOk result (λ porter. IsSomeAnd porter (λ p. (string_bytes p.page ≡ page_text) × (string_bytes p.policy ≡ policy_text)))) }
+/// Returns the failure that is printed when serving ended early.
+fn failure_of(ended: Ended) -> Failure
+    ensures { result ≡ failure_by ended }
 {
-    let Some(path) = path else {
-        return Ok(None);
-    };
-    let codes = read_codes(rt, path)?;
-    let page = page_text(rt.alloc())?;
-    let policy = policy_text(rt.alloc())?;
-    Ok(Some(Porter {
-        codes,
-        page,
-        policy,
-    }))
+    match ended {
+        Ended::Memory => Failure::Office(Fault::Memory),
+        Ended::Doors | Ended::Rounds => Failure::Output,
+    }
 }
 
-/// The gate, if there is one: with the porter's codes, page and policy.
-fn gate_of(porter: &Option<Porter>) -> Option<Gate<'_>>
-    ensures none { porter.now ≡ None → result ≡ None }
-    ensures some { IfSome porter.now
-        (λ p. IsSomeAnd result (λ gate. (gate.codes.now ≡ p.codes) × (gate.page.text.now ≡ string_bytes p.page) × (gate.page.policy.now ≡ string_bytes p.policy))) }
+/// Returns the number of clients after which serving ends, in 64 bits.
+fn most_of(connections: Option<u32>) -> Option<u64>
+    ensures { result ≡ connections }
 {
-    match porter {
-        Some(porter) => Some(Gate {
-            codes: &porter.codes,
-            page: Page {
-                text: porter.page.as_str(),
-                policy: porter.policy.as_str(),
-            },
-        }),
+    match connections {
+        Some(connections) => Some(u64::from(connections)),
         None => None,
     }
 }
 
-/// Listens on a port of this machine's loopback addresses and, if there is one, on the socket for orders beside the database. Fails if
-/// one of the addresses is taken: no clause can say which are bound, and `tools/both-addresses` tries it.
-fn listen<'a>(
-    rt: &'a HostRuntime,
-    port: u32,
-    orders: Option<UnixListener>,
-) -> io::Result<Doorway<&'a HostRuntime>> {
-    let Ok(port) = u16::try_from(port) else {
-        return Err(io::Error::from(ErrorKind::InvalidInput));
-    };
-    let clients = Loopback::bind(rt, port)?;
-    let watch = Watch::new(rt, rt.alloc(), clients, orders)?;
-    Ok(Doorway { watch, clock: rt })
-}
-
-/// Why the doors can't be opened.
-fn failure_at_the_doors(error: &io::Error) -> Failure {
-    match error.kind() {
-        ErrorKind::OutOfMemory => Failure::Office(Fault::Memory),
-        _ => Failure::Output,
-    }
-}
-
-/// Answers clients at the doors of an open office, and follows orders there.
-fn serve_at<S: Alter>(
-    rt: &HostRuntime,
-    place: Place<'_>,
-    serving: Serving<'_>,
-    porter: &Option<Porter>,
-    orders: Option<UnixListener>,
+/// Serves an open office at its doors, by its settings.
+fn serve_through<D: Doors, A: Aside, S: Alter>(
+    alloc: Global,
+    doors: &mut D,
+    settings: Settings<'_>,
+    aside: &A,
     office: &mut Office<S>,
-) -> Result<(), Failure> {
-    let mut doors = match listen(rt, serving.port, orders) {
-        Ok(doors) => doors,
-        Err(error) => return Err(failure_at_the_doors(&error)),
-    };
-    let Ok((device, inode)) = place.held.numbers() else {
-        return Err(Failure::Office(Fault::Store));
-    };
+) -> Result<(), Ended>
+    ensures { ServesAtDoors (given_by_settings settings.entry) (line_of D.Line.held D.Line.taken D.Line.failed) (state S.Store)
+        (D.known doors.old) (D.known doors.new) settings.entry.serving.connections office.old office.new result }
+{
     let terms = Terms {
         given: Given {
-            origin: serving.origin,
-            gate: gate_of(porter),
+            origin: settings.serving.origin,
+            gate: gate_of(settings.porter),
         },
-        file: FileNumbers { device, inode },
+        file: settings.file,
     };
-    let Some(presence) = Presence::of(rt, place.found, place.held) else {
-        return Err(Failure::FileGone);
-    };
-    let aside = Machine {
-        rt,
-        presence: &presence,
-    };
-    let most = serving.connections.map(u64::from);
-    match serve_hall(rt.alloc(), &mut doors, terms, &aside, most, office) {
-        Ok(()) => Ok(()),
-        Err(Ended::Memory) => Err(Failure::Office(Fault::Memory)),
-        Err(Ended::Doors | Ended::Rounds) => Err(Failure::Output),
-    }
+    let most = most_of(settings.serving.connections);
+    serve_hall(alloc, doors, terms, aside, most, office)
 }
 
-/// Says on the error output that there is no socket for orders. Where nobody can read that, the office serves all the same.
-fn say_no_socket(rt: &HostRuntime, error: &io::Error) {
-    let mut told = rt.stderr();
-    let why = reason_of(error);
-    let _ = writeln!(told, "no socket for orders beside the database: {why}");
-}
-
-/// Returns numbers in a row, with commas between.
-fn list_of(alloc: Global, numbers: &[u32]) -> Result<String, AllocError> {
-    let mut list = String::new(alloc);
-    for number in numbers {
-        if !list.is_empty() {
-            list.push_str(", ")?;
-        }
-        list.push_str(format!(in alloc; "{number}")?.as_str())?;
-    }
-    Ok(list)
-}
-
-/// Prints a line on standard error if codes of clerks are weak. If it can't be printed, the office serves all the same.
-fn warn_of_weak(rt: &HostRuntime, porter: &Option<Porter>) {
-    let Some(porter) = porter else {
-        return;
-    };
-    let weak = porter.codes.weak_clerks();
-    if weak.is_empty() {
-        return;
-    }
-    if let Ok(clerks) = list_of(rt.alloc(), weak) {
-        let mut told = rt.stderr();
-        let _ = writeln!(
-            told,
-            "codes of clerks {clerks} are short, and may be guessed: make new ones with 'count-office DB codes FILE 1-40'"
-        );
-    }
-}
-
-/// Serves an open office, with the socket beside its database meanwhile. Where there can't be one, that is said on the error
-/// output, and no order is handed over.
-fn serve_in<S: Alter>(
-    rt: &HostRuntime,
-    place: Place<'_>,
+/// Opens the doors of a host, serves an open office there, and closes them. The error is that they can't be opened, or why serving
+/// ended early.
+fn serve_at<H: Host, S: Alter>(
+    alloc: Global,
+    host: &mut H,
     serving: Serving<'_>,
     porter: &Option<Porter>,
     office: &mut Office<S>,
-) -> Result<(), Failure> {
-    let streams = match closed_streams(rt) {
-        Ok(streams) => streams,
-        Err(error) => return Err(failure_at_the_doors(&error)),
+) -> Result<(), Failure>
+    ensures { MayServe (λ given. (given ≡ given_with (given_by serving.entry.origin) (option_map gate_at porter.now) given.file) × IfSome (H.file host.old) (λ numbers. given.file ≡ numbers))
+        (line_of H.Port.Line.held H.Port.Line.taken H.Port.Line.failed) (state S.Store)
+        serving.entry.port (H.known host.old) (H.known host.new) serving.entry.connections office.old office.new result }
+{
+    let Opened {
+        mut doors,
+        aside,
+        file,
+    } = host.open(serving.port)?;
+    let settings = Settings {
+        serving,
+        porter,
+        file,
     };
-    let served = match Beside::listen(rt, place.found.database()) {
-        Ok((beside, orders)) => {
-            let served = serve_at(rt, place, serving, porter, Some(orders), office);
-            beside.remove(rt);
-            served
-        }
-        Err(error) => {
-            say_no_socket(rt, &error);
-            serve_at(rt, place, serving, porter, None, office)
-        }
-    };
-    drop(streams);
-    served
+    let ended = serve_through(alloc, &mut doors, settings, &aside, office);
+    host.close(serving.port, Opened { doors, aside, file });
+    match ended {
+        Ok(()) => Ok(()),
+        Err(ended) => Err(failure_of(ended)),
+    }
 }
 
-/// Opens the office that a connection has, and serves it. A file of clerks' codes is read before.
-pub fn serve<S: Alter, E: Sink>(
-    rt: &HostRuntime,
-    place: Place<'_>,
+/// Prints the failure, if there is one, and returns the status.
+fn tell_outcome<E: Sink>(outcome: Result<(), Failure>, err: &mut E) -> u8
+    requires { E.failed err.old < 2 ^ 64 - 1 }
+    ensures { TellsOutcome (IsErrorTold E.taken E.failed err.old err.new) (err.new ≡ err.old) result outcome }
+{
+    match outcome {
+        Ok(()) => 0,
+        Err(failure) => tell_failure(failure, err),
+    }
+}
+
+/// Opens the office of a connection, serves it on a host, and returns the status and the connection.
+///
+/// If the settings name a file of clerks' codes, it is read first, and every client is served at a gate with just these codes. Without
+/// one there is no gate. If the codes can't be read, or the office or the doors can't be opened, nobody is served and nothing changes.
+/// The failure is printed.
+pub fn serve<H: Host, S: Alter, E: Sink>(
+    alloc: Global,
+    host: &mut H,
     serving: Serving<'_>,
     conn: Connection<S>,
     err: &mut E,
 ) -> (u8, Connection<S>)
     requires { E.failed err.old < 2 ^ 64 - 1 }
+    ensures { ServesOrder (IsErrorTold E.taken E.failed err.old err.new) (err.new ≡ err.old) result.0 serving.entry (H.codes_at host.old) (H.file host.old)
+        (line_of H.Port.Line.held H.Port.Line.taken H.Port.Line.failed) (state S.Store) (H.known host.old) (H.known host.new) conn result.1 }
 {
-    let porter = match porter_of(rt, serving.codes) {
+    let porter = match porter_of(alloc, &*host, serving.codes) {
         Ok(porter) => porter,
         Err(why) => return (tell_untaken(why, err), conn),
     };
-    warn_of_weak(rt, &porter);
-    let mut office = match Office::open_from(rt.alloc(), conn) {
+    let mut office = match Office::open_from(alloc, conn) {
         Ok(office) => office,
         Err((fault, conn)) => return (tell_failure(Failure::Office(fault), err), conn),
     };
-    let status = match serve_in(rt, place, serving, &porter, &mut office) {
-        Ok(()) => 0,
-        Err(failure) => tell_failure(failure, err),
-    };
+    let outcome = serve_at(alloc, host, serving, &porter, &mut office);
+    let status = tell_outcome(outcome, err);
     (status, office.into_connection())
 }

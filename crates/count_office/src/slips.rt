@@ -1,6 +1,8 @@
 //! A file of clerks' codes: read, where its rights let nobody else read it; or made anew, to be cut into slips.
 
 ghost use Rattle.std.specs.Prelude.{◌-◌, ◌^◌, ◌<◌, None};
+ghost use Rattle.desk.specs.Pages.{IsErrorTold};
+ghost use Rattle.count_office.specs.Serving.{untaken};
 
 use codes::{Clerks, Codes, CodesFault, DrawFailed, Draws, ReadError, make};
 use desk::{Failure, tell_codes_fault, tell_codes_made, tell_failure};
@@ -87,6 +89,7 @@ pub fn read_codes(rt: &HostRuntime, path: &str) -> Result<Codes, ReadError> {
 /// Prints why codes aren't taken, or not made, and gives the status.
 pub fn tell_untaken<E: Sink>(why: ReadError, err: &mut E) -> u8
     requires { E.failed err.old < 2 ^ 64 - 1 }
+    ensures { IsErrorTold E.taken E.failed err.old err.new (untaken why).err (untaken why).status result }
 {
     match why {
         ReadError::Memory => tell_failure(Failure::Office(Fault::Memory), err),

@@ -76,7 +76,7 @@ above_nothing own page =
 abbrev pub WentOn : Bool → Course → Type 0
 WentOn keep c = (goes_on keep c.page.status ≡ true) × (c.cut ≡ uncut)
 
-module _ (keep : Bool) (line : Option ℕ) (tells : Request → Told → Page) where
+module _ (keep : Bool) (line : Option ℕ) (tells : OfficeState → Request → Told → Page) where
   -- the page that tells of a request at a state
   abbrev pub page_at : OfficeState → Request → Page
   page_at s r = fronted line (answer tells s r)
@@ -133,24 +133,24 @@ module _ (keep : Bool) (line : Option ℕ) (tells : Request → Told → Page) w
   replied_all old closed st s (r ∷ rs) c gone (inr (answered, page, cut, is, ends, it)) = absurd (not_gone (r ∷ rs) answered page cut c is ends gone)
 
 -- The first of some requests were gone past, and this was told of them: the office is open where they led.
-pub record SentSo (keep : Bool) (line : Option ℕ) (tells : Request → Told → Page) (s : OfficeState) (rs : List Request) (i : ℕ) (said : Page) (closed : Bool) (st : State) : Type 0 where
+pub record SentSo (keep : Bool) (line : Option ℕ) (tells : OfficeState → Request → Told → Page) (s : OfficeState) (rs : List Request) (i : ℕ) (said : Page) (closed : Bool) (st : State) : Type 0 where
   pub end : OfficeState
   pub open_at : IsOpenAt end closed st
   pub replied : Replied keep line tells s (take i rs) said end
 
-pub none_sent : (keep : Bool) (line : Option ℕ) (tells : Request → Told → Page) (s : OfficeState) (rs : List Request) (closed : Bool) (st : State) → IsOpenAt s closed st → SentSo keep line tells s rs 0 empty_page closed st
+pub none_sent : (keep : Bool) (line : Option ℕ) (tells : OfficeState → Request → Told → Page) (s : OfficeState) (rs : List Request) (closed : Bool) (st : State) → IsOpenAt s closed st → SentSo keep line tells s rs 0 empty_page closed st
 none_sent keep line tells s rs closed st here = record { end = s; open_at = here; replied = (refl, refl) }
 
 -- ---- requests of one turn
 
 -- the machine's answer to a request that was answered and gone past
-pub went_past : (old : State) (closed : Bool) (st : State) (keep : Bool) (tells : Request → Told → Page) (s : OfficeState) (r : Request) (answered : ℕ) (page : Page) → IsAnswered old closed st tells s r answered page
+pub went_past : (old : State) (closed : Bool) (st : State) (keep : Bool) (tells : OfficeState → Request → Told → Page) (s : OfficeState) (r : Request) (answered : ℕ) (page : Page) → IsAnswered old closed st tells s r answered page
     → goes_on keep page.status ≡ true
     → (page ≡ answer tells s r) × IsOpenAt (after_one s r) closed st
 went_past old closed st keep tells s r answered page (inl told) goes = (told.1, told.2)
 went_past old closed st keep tells s r answered page (inr met) goes = absurd (true≢false (sym goes ∙ not_after_fault keep page.status (ap (λ (p : Page). p.status) met.1.1)))
 
-module _ (old : State) (keep : Bool) (line : Option ℕ) (tells : Request → Told → Page) (s : OfficeState) (rs : List Request) where
+module _ (old : State) (keep : Bool) (line : Option ℕ) (tells : OfficeState → Request → Told → Page) (s : OfficeState) (rs : List Request) where
   -- what comes of all
   abbrev pub AllSent : Bool → State → Course → Type 0
   AllSent closed st c = IsSent old closed st keep line tells (IsOver closed st) s rs c
@@ -190,7 +190,7 @@ module _ (old : State) (keep : Bool) (line : Option ℕ) (tells : Request → To
 
 -- ---- what came of a turn, told of an earlier moment, or with turns behind it
 
-pub answered_since : (a b : State) (closed : Bool) (st : State) (tells : Request → Told → Page) (s : OfficeState) (r : Request) (answered : ℕ) (page : Page) → TellsSince a b st
+pub answered_since : (a b : State) (closed : Bool) (st : State) (tells : OfficeState → Request → Told → Page) (s : OfficeState) (r : Request) (answered : ℕ) (page : Page) → TellsSince a b st
     → IsAnswered b closed st tells s r answered page
     → IsAnswered a closed st tells s r answered page
 answered_since a b closed st tells s r answered page since (inl told) = inl told
@@ -198,7 +198,7 @@ answered_since a b closed st tells s r answered page since (inr (none, (fault, i
 answered_since a b closed st tells s r answered page since (inr (none, (fault, is, (inr accepted, leaves)))) = inr (none, (fault, is, (inr accepted, leaves)))
 
 -- the same of requests in turn, where what comes then is turned too
-pub sent_turned : {Then Else : OfficeState → Course → Type 0} {Q : Type 0} (a b : State) (closed : Bool) (st : State) (keep : Bool) (line : Option ℕ) (tells : Request → Told → Page) → TellsSince a b st
+pub sent_turned : {Then Else : OfficeState → Course → Type 0} {Q : Type 0} (a b : State) (closed : Bool) (st : State) (keep : Bool) (line : Option ℕ) (tells : OfficeState → Request → Told → Page) → TellsSince a b st
     → ((x : OfficeState) (e : Course) → Then x e → (WentOn keep e → Q) → Else x e)
     → (s : OfficeState) (rs : List Request) (c : Course) → (WentOn keep c → Q) → IsSent b closed st keep line tells Then s rs c → IsSent a closed st keep line tells Else s rs c
 sent_turned a b closed st keep line tells since turn s [] c gone sent = turn s c sent gone

@@ -156,7 +156,7 @@ kept_above s page rest st kept =
     }
 
 -- the last that was sent
-kept_last : (old : State) (closed : Bool) (st : State) (keep : Bool) (line : Option ℕ) (tells : Request → Told → Page) (s : OfficeState) (r : Request) (rs : List Request) (answered : ℕ) (page : Page) (cut : Cut)
+kept_last : (old : State) (closed : Bool) (st : State) (keep : Bool) (line : Option ℕ) (tells : OfficeState → Request → Told → Page) (s : OfficeState) (r : Request) (rs : List Request) (answered : ℕ) (page : Page) (cut : Cut)
     → (goes_on keep page.status ≡ true → cut ≢ uncut) → IsAnswered old closed st tells s r answered page
     → Kept s (ended line (r ∷ rs) answered page cut) st
 kept_last old closed st keep line tells s r rs answered page cut ends it = record {
@@ -177,7 +177,7 @@ kept_last old closed st keep line tells s r rs answered page cut ends it = recor
       | inr next ↦ (x.0, (1, omega (arith, none), omega (arith, none), omega arith, next), x.2)
     ]
 
-kept_sent : {Then : OfficeState → Course → Type 0} (old : State) (closed : Bool) (st : State) (keep : Bool) (line : Option ℕ) (tells : Request → Told → Page) → ((x : OfficeState) (e : Course) → Then x e → Kept x e st)
+kept_sent : {Then : OfficeState → Course → Type 0} (old : State) (closed : Bool) (st : State) (keep : Bool) (line : Option ℕ) (tells : OfficeState → Request → Told → Page) → ((x : OfficeState) (e : Course) → Then x e → Kept x e st)
     → (s : OfficeState) (rs : List Request) (c : Course)
     → IsSent old closed st keep line tells Then s rs c → Kept s c st
 kept_sent old closed st keep line tells so s [] c sent = so s c sent

@@ -4,6 +4,7 @@ pub mod OrdersNamed
 pub mod OrderTables
 pub mod PageLemmas
 pub mod CauseLemmas
+mod NoteLemmas
 pub mod TellingLemmas
 pub mod CourseLemmas
 pub mod StageLemmas

@@ -29,13 +29,13 @@ module _ (old : State) (closed : Bool) (st : State) where
       let same : rest.answered ≡ rest.answered + 0 = omega arith in
       subst (λ n. IsOpenAt (after s (take n rest.requests)) closed st) same (so was)
 
-  open_last : (line : Option ℕ) (tells : Request → Told → Page) (s : OfficeState) (r : Request) (rs : List Request) (answered : ℕ) (page : Page) (cut : Cut) → IsAnswered old closed st tells s r answered page
+  open_last : (line : Option ℕ) (tells : OfficeState → Request → Told → Page) (s : OfficeState) (r : Request) (rs : List Request) (answered : ℕ) (page : Page) (cut : Cut) → IsAnswered old closed st tells s r answered page
       → IsOpenAfter s (ended line (r ∷ rs) answered page cut)
   open_last line tells s r rs answered page cut (inl told) was = subst (λ n. IsOpenAt (after s (take n (r ∷ rs))) closed st) (sym told.0) told.2
   open_last line tells s r rs answered page cut (inr (none, (fault, is, (cause, inl stays)))) was = subst (λ n. IsOpenAt (after s (take n (r ∷ rs))) closed st) (sym none) stays.open_at
   open_last line tells s r rs answered page cut (inr (none, (fault, is, (cause, inr shut)))) was = absurd (true≢false (sym shut.is_closed ∙ was))
 
-  open_sent : {Then : OfficeState → Course → Type 0} (keep : Bool) (line : Option ℕ) (tells : Request → Told → Page) → ((x : OfficeState) (e : Course) → Then x e → IsOpenAfter x e)
+  open_sent : {Then : OfficeState → Course → Type 0} (keep : Bool) (line : Option ℕ) (tells : OfficeState → Request → Told → Page) → ((x : OfficeState) (e : Course) → Then x e → IsOpenAfter x e)
       → (s : OfficeState) (rs : List Request) (c : Course) → IsSent old closed st keep line tells Then s rs c → IsOpenAfter s c
   open_sent keep line tells so s [] c sent = so s c sent
   open_sent keep line tells so s (r ∷ rs) c (inl (rest, goes, is, more)) =

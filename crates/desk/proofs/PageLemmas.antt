@@ -68,6 +68,27 @@ module _ {O E : Type 0} (taken : O → Option (List ℕ)) (failed_out : O → �
     | inr cut ↦ (cut_error, record { out = rw none (Appends-nil (taken out)); out_failed = refl; err = cut.0; err_failed = cut.1; ends = cut.2 })
   ]
 
+-- a page of which some goes to either output
+module _ {O E : Type 0} (taken : O → Option (List ℕ)) (failed_out : O → ℕ) (taken_err : E → Option (List ℕ)) (failed_err : E → ℕ) where
+  -- its text was put, and its line told, or a beginning of that
+  both_shown : {X F : Type 0} {x : X} (old new : O) (err told : E) (page : Page) (status : ℕ) → IsPut {E = F} taken failed_out old new page.out (Ok x)
+      → IsErrorTold taken_err failed_err err told page.err page.status status
+      → Shows (outputs_of taken failed_out taken_err failed_err old err) (outputs_of taken failed_out taken_err failed_err new told) page status
+  both_shown old new err told page status put line = elim line [
+    | inl whole ↦ (uncut, record { out = put.all; out_failed = put.ok; err = whole.0; err_failed = whole.1; ends = whole.2 })
+    | inr cut ↦ (cut_error, record { out = put.all; out_failed = put.ok; err = cut.0; err_failed = cut.1; ends = cut.2 })
+  ]
+
+  -- a beginning of its text was put, which is told behind its line
+  both_broken : {X F : Type 0} {f : F} (old new : O) (err told : E) (page : Page) (status : ℕ) → IsPut {X = X} taken failed_out old new page.out (Err f)
+      → IsErrorTold taken_err failed_err err told (page.err ++ (failed Output).err) 3 status
+      → Shows (outputs_of taken failed_out taken_err failed_err old err) (outputs_of taken failed_out taken_err failed_err new told) page status
+  both_broken old new err told page status put line =
+      (cut_behind (take n page.out), record { out = put.cut_off.appends; begins = (drop n page.out, take-append-drop n page.out); out_failed = put.err; told = line })
+    where
+      n : ℕ
+      n = put.cut_off.count
+
 -- the status where the output failed
 pub broken_ends : {took : Text} {old new : Outputs} {page : Page} {status : ℕ} → IsOutputBroken took old new page status → status ≡ 3
 broken_ends broken = elim broken.told [
@@ -189,3 +210,20 @@ module _ {O E : Type 0} (taken : O → Option (List ℕ)) (failed_out : O → �
   front_shown line out old new page status byte bytes none some told =
       error_shown taken failed_out taken_err failed_err out old new (fronted line page) status (fronted_out line page ∙ none)
       (rw (fronted_err line page byte bytes some, fronted_status line page) told)
+
+  -- a text on the output, and a line on the error output behind the number
+  pub both_fronted : {X F : Type 0} {x : X} (line : Option ℕ) (old new : O) (err told : E) (page : Page) (status byte : ℕ) (bytes : Text) → page.err ≡ byte ∷ bytes → IsPut {E = F} taken failed_out old new page.out (Ok x)
+      → IsErrorTold taken_err failed_err err told (line_front line ++ page.err) page.status status
+      → Shows (outputs_of taken failed_out taken_err failed_err old err) (outputs_of taken failed_out taken_err failed_err new told) (fronted line page) status
+  both_fronted {X} {F} {x} line old new err told page status byte bytes some put tells =
+      both_shown taken failed_out taken_err failed_err {X = X} {F = F} {x = x} old new err told (fronted line page) status (subst (λ text. IsPut {E = F} taken failed_out old new text (Ok x)) (sym (fronted_out line page)) put)
+      (subst (λ text. IsErrorTold taken_err failed_err err told text (fronted line page).status status) (sym (fronted_err line page byte bytes some))
+      (subst (λ n. IsErrorTold taken_err failed_err err told (line_front line ++ page.err) n status) (sym (fronted_status line page)) tells))
+
+  -- a beginning of the text, which is told behind that line
+  pub both_cut : {X F : Type 0} {f : F} (line : Option ℕ) (old new : O) (err told : E) (page : Page) (status byte : ℕ) (bytes : Text) → page.err ≡ byte ∷ bytes → IsPut {X = X} taken failed_out old new page.out (Err f)
+      → IsErrorTold taken_err failed_err err told ((line_front line ++ page.err) ++ (failed Output).err) 3 status
+      → Shows (outputs_of taken failed_out taken_err failed_err old err) (outputs_of taken failed_out taken_err failed_err new told) (fronted line page) status
+  both_cut {X} {F} {f} line old new err told page status byte bytes some put tells =
+      both_broken taken failed_out taken_err failed_err {X = X} {F = F} {f = f} old new err told (fronted line page) status (subst (λ text. IsPut {X = X} taken failed_out old new text (Err f)) (sym (fronted_out line page)) put)
+      (subst (λ text. IsErrorTold taken_err failed_err err told (text ++ (failed Output).err) 3 status) (sym (fronted_err line page byte bytes some)) tells)

@@ -40,18 +40,18 @@ reply_status first (kept reply) e = refl
 reply_status first (refused why) e = absurd (true≢false e)
 
 -- what is told of the answer to a request of an order that counts under an id
-abbrev pub page_under : Text → Request → Told → Page
-page_under id r = page_counted (is_first id r)
+abbrev pub page_under : Text → OfficeState → Request → Told → Page
+page_under id s r = page_counted (is_first id r)
 
 -- the same of a request of which it is known whether it is the first
 pub answered_under : (old : State) (closed : Bool) (st : State) (id : Text) (first : Bool) (s : OfficeState) (r : Request) (answered : ℕ) (page : Page) → first ≡ is_first id r
-    → IsAnswered old closed st (λ q. page_counted first) s r answered page → IsAnswered old closed st (page_under id) s r answered page
-answered_under old closed st id first s r answered page is met = subst (λ b. IsAnswered old closed st (λ q. page_counted b) s r answered page) is met
+    → IsAnswered old closed st (λ t q. page_counted first) s r answered page → IsAnswered old closed st (page_under id) s r answered page
+answered_under old closed st id first s r answered page is met = subst (λ b. IsAnswered old closed st (λ t q. page_counted b) s r answered page) is met
 
 -- what came of a request, told of an earlier moment
 pub stage_since : (a b : State) (closed : Bool) (st : State) (first : Bool) (s : OfficeState) (r : Request) (page : Page) (goes : Bool) → TellsSince a b st → IsStage b closed st first s r page goes
     → IsStage a closed st first s r page goes
-stage_since a b closed st first s r page goes since (answered, met, goes_is) = (answered, answered_since a b closed st (λ q. page_counted first) s r answered page since met, goes_is)
+stage_since a b closed st first s r page goes since (answered, met, goes_is) = (answered, answered_since a b closed st (λ t q. page_counted first) s r answered page since met, goes_is)
 
 -- a test that is met, or isn't, whatever the other is
 or_true : (b : Bool) → (b || true) ≡ true

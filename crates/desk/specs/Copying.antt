@@ -1,5 +1,5 @@
 -- What comes of an order to copy the office.
-use Rattle.std.specs.Prelude.{◌≡◌, ◌⊎◌, ◌++◌, ⊤, true, false, List, codes}
+use Rattle.std.specs.Prelude.{◌≡◌, ◌⊎◌, ◌++◌, ⊤, true, false, IsTrue, List, codes}
 use Rattle.std.specs.Fmt.{decimal}
 use Rattle.clap.specs.Words.{Text}
 use Rattle.sqlite.specs.Effect.{Database}
@@ -82,9 +82,10 @@ pub record IsCopied (page : Page) (left : CopyState) (old new copy_old copy_new 
   pub reads : OnlyReads old new
   pub leaves : (db : Database) → RestsAt db old → (earlier : List Request) → IsLeftAt (after empty_office earlier) db → LeavesState new (λ x. x ≡ after empty_office earlier)
 
--- What comes of the order in an office that is open at a state, and goes on. The copy keeps that very state, and the page says how much it has. Or the
--- page has a failure, and a stop leaves of the copy what it could leave before, or the whole of it.
-abbrev pub IsCopiedOpen : OfficeState → Page → CopyState → State → State → Type 0
-IsCopiedOpen s page left copy_old copy_new =
+-- The result of the order in an office that is open at a state, and stays open. The copy keeps that very state, and the page says how much it has. Or the
+-- page has a failure, with its cause while the store was open, and a stop leaves of the copy what it could leave before, or the whole of it.
+abbrev pub IsCopiedOpen : OfficeState → Page → CopyState → State → State → State → State → Type 0
+IsCopiedOpen s page left old new copy_old copy_new =
     ((page ≡ replied (copied_text (holdings_of s))) × (left ≡ Whole) × (HasCleanDisk copy_new → IsBlank copy_old → IsAt s copy_new))
-    ⊎ ((failure : Failure) × (page ≡ failed failure) × (HasCleanDisk copy_new → IsBlank copy_old → LeavesNoneOrAll s copy_old copy_new))
+    ⊎ ((failure : Failure) × (page ≡ failed failure) × (IsTrue old.is_open → IsBlank copy_old → EndsCopying old new failure)
+    × (HasCleanDisk copy_new → IsBlank copy_old → LeavesNoneOrAll s copy_old copy_new))

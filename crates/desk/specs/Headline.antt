@@ -30,8 +30,9 @@ abbrev pub ended : Option ℕ → List Request → ℕ → Page → Cut → Cour
 ended line requests answered page cut = record { requests = requests; answered = answered; page = fronted line page; cut = cut }
 
 -- What the machine answers to a request at a state, as a page of the errand that sends it. The page has status 0 and the reply, or status 1 and the reason of the refusal.
-abbrev pub answer : (Request → Told → Page) → OfficeState → Request → Page
-answer tells s r = tells r (told_of (step_of s r))
+-- With the reply to a request that was kept before with other words it has a note that nothing was changed.
+abbrev pub answer : (OfficeState → Request → Told → Page) → OfficeState → Request → Page
+answer tells s r = tells s r (told_of (step_of s r))
 
 -- The page has a fault of some kind.
 abbrev pub IsFailed : (Fault → Type 0) → Page → Type 0
@@ -41,13 +42,13 @@ IsFailed Is page = (fault : Fault) × (page ≡ failed (Office fault)) × Is fau
 module _ (old : State) (closed : Bool) (st : State) where
   -- A request is answered as the machine says, and the office is open at the state after it. Or the page has a fault. Then memory was wanting, or the
   -- store failed, or the request was accepted, and why it couldn't be written isn't said; a stop leaves the state before it or, if accepted, after it.
-  abbrev pub IsAnswered : (Request → Told → Page) → OfficeState → Request → ℕ → Page → Type 0
+  abbrev pub IsAnswered : (OfficeState → Request → Told → Page) → OfficeState → Request → ℕ → Page → Type 0
   IsAnswered tells s r answered page =
       ((answered ≡ 1) × (page ≡ answer tells s r) × IsOpenAt (after_one s r) closed st)
       ⊎ ((answered ≡ 0) × IsFailed (λ fault. (FailsBy old st fault ⊎ (is_accepted (step_of s r) ≡ true)) × (IsKeptOpen s fault closed st ⊎ IsClosedIn s (step_of s r) fault closed st)) page)
 
   -- Requests are sent in turn, each after a page that was taken whole and that it goes on after. Behind the last one comes what `Then` says. Else it ends.
-  abbrev pub IsSent : Bool → Option ℕ → (Request → Told → Page) → (OfficeState → Course → Type 0) → OfficeState → List Request → Course → Type 0
+  abbrev pub IsSent : Bool → Option ℕ → (OfficeState → Request → Told → Page) → (OfficeState → Course → Type 0) → OfficeState → List Request → Course → Type 0
   IsSent keep line tells Then s [] course = Then s course
   IsSent keep line tells Then s (r ∷ rs) course =
       ((rest : Course) × (goes_on keep (answer tells s r).status ≡ true) × (course ≡ told_above (r ∷ []) (fronted line (answer tells s r)) rest) × IsSent keep line tells Then (after_one s r) rs rest)

@@ -5,6 +5,8 @@ use Rattle.std.specs.Io.KnownBytes.{Appends}
 use Rattle.std.specs.List.{flat_map}
 use Rattle.clap.specs.Words.{Text}
 use Rattle.votes.specs.Streams.{AppendsBeginning}
+use Rattle.register.specs.Offices.{OfficeState}
+use Rattle.register.specs.Keepings.{is_kept_otherwise}
 use Rattle.register.specs.Reasons.{reason_number, reason_text}
 use Rattle.register.specs.declared.refusal.Reason.{Reason}
 use Rattle.register.specs.declared.refusal.Reason.TheVariants.{CountFinished, LotNeeded, WrongPhase}
@@ -137,15 +139,23 @@ closed_page = failed (Office fault.Closed)
 abbrev pub unjournalled : Page
 unjournalled = record { out = []; err = line (codes "no journal: what was written does not make this office"); status = 1 }
 
--- what is printed of the machine's answer
-abbrev pub page_told : Told → Page
-page_told (done reply) = replied reply
-page_told (again reply) = replied reply
-page_told (no why) = refused why
+-- the note that a request was kept before, and that what it says now did nothing
+abbrev pub note_line : Text → Text
+note_line id = joined (codes "note: " ∷ id ∷ codes " was kept before with other words; nothing was changed\n" ∷ [])
 
--- the same, whichever request it answers
-abbrev pub page_for : Request → Told → Page
-page_for r told = page_told told
+-- a reply, in a line, and that note on the error output
+abbrev pub noted : Text → Text → Page
+noted id reply = record { out = line reply; err = note_line id; status = 0 }
+
+-- the reply to a request that was kept before, with the note if what is kept differs from what the request says
+abbrev pub page_kept : Text → Text → Bool → Page
+page_kept id reply differs = if differs then noted id reply else replied reply
+
+-- what is printed of the machine's answer to a request at a state
+abbrev pub page_for : OfficeState → Request → Told → Page
+page_for s r (done reply) = replied reply
+page_for s r (again reply) = page_kept (string_bytes r.id) reply (is_kept_otherwise s r)
+page_for s r (no why) = refused why
 
 -- why a count goes no further. That no seat is left, and that a lot is needed, are replies. So is, behind the first request, that the ward was declared since.
 abbrev pub page_at_rest : Bool → Reason → Page
@@ -180,6 +190,7 @@ abbrev pub page_of : Outcome → Page
 page_of outcome.Ready = replied (codes "office ready")
 page_of (outcome.Migrated migrated) = replied (migrated_text migrated)
 page_of (outcome.Replied reply) = replied (string_bytes reply)
+page_of (outcome.Noted reply id) = noted (string_bytes id) (string_bytes reply)
 page_of (outcome.Printed text) = printed (string_bytes text)
 page_of outcome.CountFinished = replied (codes "count finished")
 page_of (outcome.LotNeeded why) = replied (reason_text why)

@@ -30,12 +30,12 @@ IsOver closed st s course = (course ≡ ended None [] 0 empty_page uncut) × IsO
 
 -- What came of a request for one stage more, the first or not, and whether the count goes on behind it: where the machine doesn't refuse it, and no fault was met.
 abbrev pub IsStage : State → Bool → State → Bool → OfficeState → Request → Page → Bool → Type 0
-IsStage old closed st first s r page goes = (answered : ℕ) × IsAnswered old closed st (λ q. page_counted first) s r answered page × (goes ≡ (answered == 1 && not (is_refused (step_of s r))))
+IsStage old closed st first s r page goes = (answered : ℕ) × IsAnswered old closed st (λ t q. page_counted first) s r answered page × (goes ≡ (answered == 1 && not (is_refused (step_of s r))))
 
 -- the stages of a ward were counted, by requests of an id from the first on
 abbrev pub IsCounted : State → Bool → State → Bool → Option ℕ → OfficeState → ℕ → Text → Course → Type 0
 IsCounted old closed st keep line s ward id course =
-    (requests : List Request) × AreAdvances s ward id 1 requests × IsSent old closed st keep line (λ r. page_counted (is_first id r)) (IsOver closed st) s requests course
+    (requests : List Request) × AreAdvances s ward id 1 requests × IsSent old closed st keep line (λ t r. page_counted (is_first id r)) (IsOver closed st) s requests course
 
 -- the page has what is found of a state, or why there is nothing; or a fault
 abbrev pub IsFound : {X : Type 0} → OfficeState → (X → Page) → Result X Reason → Page → Bool → State → State → Type 0

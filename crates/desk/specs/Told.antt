@@ -29,9 +29,10 @@ use Rattle.desk.specs.declared.orders.KeyingFile.{KeyingFile}
 use Rattle.desk.specs.declared.scripts.LineFlaw.{LineFlaw}
 use Rattle.desk.specs.declared.scripts.ScriptFault.TheVariants as script
 
--- what an errand prints of the answer to a request that it sends: one that counts prints why the count rests
-abbrev pub page_answered : Errand → Request → Told → Page
-page_answered (errand.Count ward id) = λ r. page_counted (is_first id.now r)
+-- What an errand prints of the answer to a request that it sends. One that counts prints why the count rests; and since the subject of such a request says all
+-- of it, none of these has a note.
+abbrev pub page_answered : Errand → OfficeState → Request → Told → Page
+page_answered (errand.Count ward id) = λ s r. page_counted (is_first id.now r)
 page_answered other = page_for
 
 -- that a file can't be opened or read

@@ -3,7 +3,7 @@
 ghost use Rattle.std.specs.Prelude.{◌≡◌, ◌⊎◌, ◌-◌, ◌^◌, ◌<◌, ◌++◌, ◌∷◌, [], codes};
 ghost use Rattle.std.specs.List.{flat_map};
 ghost use Rattle.keyfile.specs.Faults.{flaw_batch, flaw_between, flaw_clerk};
-ghost use Rattle.desk.specs.Pages.{IsErrorTold, IsPut, Shows, fronted, line_front, migrated_text, numbered_line, outputs_of, printed, status_of_file};
+ghost use Rattle.desk.specs.Pages.{IsErrorTold, IsPut, Shows, fronted, line_front, migrated_text, note_line, noted, numbered_line, outputs_of, printed, status_of_file};
 ghost use Rattle.codes.specs.Faults.{fault_line, fault_text as codes_text};
 ghost use Rattle.desk.specs.Pages.{codes_made_page, codes_page, codes_place, failed, failure_number, failure_of, failure_text, page_of, refused, script_page, unjournalled, unread, words_page};
 
@@ -29,6 +29,8 @@ pub(crate) enum Outcome {
     Migrated(Migrated),
     /// This is the reply to a request that was accepted, now or before; or it says how a ward stands, or what comes next.
     Replied(Reply),
+    /// This is the reply to a request that was accepted before under this id, with other words. A note says so.
+    Noted { reply: Reply, id: String },
     /// This text is printed as it is, its lines ended.
     Printed(String),
     /// No seat is left in a count.
@@ -47,8 +49,8 @@ pub(crate) enum Outcome {
     Unjournalled,
 }
 
-/// Why the program gives up. 101 to 106 and 108 are faults of the office. 107 is an output that fails, 109 a copy that is there
-/// already, 110 a copy that can't be written, 111 an order that isn't for an office that is being served, and 113 an office whose
+/// Why the program gives up. 101 to 106 and 108 are faults of the office. 107 is an output that fails. 109 is a copy that is there
+/// already, and 110 one that can't be written. 111 is an order that isn't for an office that is being served. 113 is an office whose
 /// file was removed or replaced while it was served.
 #[derive(Clone, Copy, Debug, PartialEq, Eq, Drop, Error)]
 #[error("{}", self.text())]
@@ -333,6 +335,61 @@ fn migrated_text(migrated: Migrated) -> &'static str
     }
 }
 
+/// Puts the note that the request of an id was kept before with other words. If it is about a script's line, the number of that
+/// comes first.
+fn put_note<W: Sink>(line: Option<usize>, id: &str, sink: &mut W) -> Result<(), Broken>
+    requires { W.failed sink.old < 2 ^ 64 - 1 }
+    ensures { IsPut W.taken W.failed sink.old sink.new (line_front line ++ note_line id.now) result }
+{
+    let pieces = [
+        "note: ",
+        id,
+        " was kept before with other words; nothing was changed\n",
+    ];
+    put_line(line, &pieces, sink)
+}
+
+/// Prints that note on the error output, and returns the status: 0, or 3 if the error output fails.
+fn tell_note<E: Sink>(line: Option<usize>, id: &str, err: &mut E) -> u8
+    requires { E.failed err.old < 2 ^ 64 - 1 }
+    ensures { IsErrorTold E.taken E.failed err.old err.new (line_front line ++ note_line id.now) 0 result }
+{
+    match put_note(line, id, err) {
+        Ok(()) => 0,
+        Err(Broken) => 3,
+    }
+}
+
+/// Prints that note, and after it that the output failed. Returns the status, 3.
+fn tell_note_and_failure<E: Sink>(line: Option<usize>, id: &str, err: &mut E) -> u8
+    requires { E.failed err.old < 2 ^ 64 - 1 }
+    ensures { IsErrorTold E.taken E.failed err.old err.new ((line_front line ++ note_line id.now) ++ (failed Failure.Output).err) 3 result }
+{
+    match put_note(line, id, err) {
+        Ok(()) => tell_failure(Failure::Output, err),
+        Err(Broken) => 3,
+    }
+}
+
+/// Prints the reply to a request that was kept before with other words, and the note that says so. Returns the status: 0, or 3 if
+/// one of the two outputs fails; that one has taken a beginning then.
+fn tell_noted<O: Sink, E: Sink>(
+    line: Option<usize>,
+    reply: &str,
+    id: &str,
+    out: &mut O,
+    err: &mut E,
+) -> u8
+    requires out { O.failed out.old < 2 ^ 64 - 1 }
+    requires err { E.failed err.old < 2 ^ 64 - 1 }
+    ensures { let outputs = outputs_of O.taken O.failed E.taken E.failed in Shows (outputs out.old err.old) (outputs out.new err.new) (fronted line (noted id.now reply.now)) result }
+{
+    match put_pieces(&[reply, "\n"], out) {
+        Ok(()) => tell_note(line, id, err),
+        Err(Broken) => tell_note_and_failure(line, id, err),
+    }
+}
+
 /// Prints an outcome, and gives its status. The status is 0 where the outcome goes to the output. On the error output it is 1 for
 /// a refusal of a request or a file, and for an office without a journal, and 3 for a fault or a file that couldn't be read.
 /// Where one of the two fails it is 3, and that output has taken a beginning. If the outcome is that of a script's line, what
@@ -351,6 +408,7 @@ pub(crate) fn tell<O: Sink, E: Sink>(
         Outcome::Ready => tell_text(&["office ready", "\n"], out, err),
         Outcome::Migrated(migrated) => tell_text(&[migrated_text(*migrated), "\n"], out, err),
         Outcome::Replied(reply) => tell_text(&[reply.as_str(), "\n"], out, err),
+        Outcome::Noted { reply, id } => tell_noted(line, reply.as_str(), id.as_str(), out, err),
         Outcome::Printed(text) => tell_text(&[text.as_str()], out, err),
         Outcome::CountFinished => tell_text(&["count finished", "\n"], out, err),
         Outcome::LotNeeded(refusal) => tell_text(&[refusal.text(), "\n"], out, err),

@@ -1,18 +1,21 @@
 //! Requests sent to an office, and what came of them.
 
-ghost use Rattle.std.specs.Prelude.{◌≡◌, ◌-◌, ◌^◌, ◌<◌, ℕ};
+ghost use Rattle.std.specs.Prelude.{◌≡◌, ◌-◌, ◌^◌, ◌<◌, ℕ, Ok, string_bytes};
 ghost use Rattle.sqlite.specs.State.{HasCleanDisk};
 ghost use Rattle.sqlite.specs.Held.{state};
+ghost use Rattle.register.specs.Keepings.{is_kept_otherwise};
+ghost use Rattle.tables.specs.Reading.{OnlyReads};
 ghost use Rattle.store.specs.Offices.{Wears};
 ghost use Rattle.office.specs.Answers.{WhenOpenAt};
 ghost use Rattle.desk.specs.Headline.{IsAnswered, IsSent};
-ghost use Rattle.desk.specs.Pages.{Tells, goes_on, outputs_of, page_for, page_of, status_behind};
-ghost use Rattle.desk.specs.Parts.{ComesTo, IsOver};
+ghost use Rattle.desk.specs.Pages.{Tells, goes_on, outputs_of, page_for, page_kept, page_of, status_behind};
+ghost use Rattle.desk.specs.Parts.{ComesTo, IsFound, IsOver};
 
 use crate::lines::{Outcome, tell};
-use office::{Answer, Office};
-use register::Request;
+use office::{Answer, Office, Stop};
+use register::{Reply, Request};
 use sqlite::Alter;
+use store::Fault;
 use votes::Sink;
 
 /// Whether an order goes on after a page of this status: after one of status 0, and after a refusal where it is to keep
@@ -30,6 +33,25 @@ pub(crate) fn status_behind(before: u8, status: u8) -> u8
     if status == 0 { before } else { status }
 }
 
+/// Returns what comes of a request that was kept before: its reply, with a note if what is kept differs from what the request says
+/// now. A fault of that read comes in place of the reply.
+fn kept_before<S: Alter>(office: &mut Office<S>, request: &Request, reply: Reply) -> Outcome
+    ensures found { WhenOpenAt (state S.Store) office.old office.new
+        (λ s. IsFound s (page_kept (string_bytes request.now.id) (string_bytes reply)) (Ok (is_kept_otherwise s request.now)) (page_of result)
+        office.new.closed (state S.Store office.old.held) (state S.Store office.new.held)) }
+    ensures same { OnlyReads (state S.Store office.old.held) (state S.Store office.new.held) }
+{
+    match office.keeps_other(request) {
+        Ok(false) => Outcome::Replied(reply),
+        Ok(true) => match request.id.clone() {
+            Ok(id) => Outcome::Noted { reply, id },
+            Err(_) => Outcome::Failed(Fault::Memory),
+        },
+        Err(Stop::Refused(refusal)) => Outcome::Refused(refusal),
+        Err(Stop::Fault(fault)) => Outcome::Failed(fault),
+    }
+}
+
 /// What comes of one request to an office.
 fn outcome_of<S: Alter>(office: &mut Office<S>, request: &Request) -> Outcome
     ensures told { WhenOpenAt (state S.Store) office.old office.new
@@ -39,13 +61,14 @@ fn outcome_of<S: Alter>(office: &mut Office<S>, request: &Request) -> Outcome
 {
     match office.handle(request.actor, request.id.as_str(), &request.command) {
         Ok(Answer::Done(reply)) => Outcome::Replied(reply),
-        Ok(Answer::Kept(reply)) => Outcome::Replied(reply),
+        Ok(Answer::Kept(reply)) => kept_before(office, request, reply),
         Ok(Answer::Refused(refusal)) => Outcome::Refused(refusal),
         Err(fault) => Outcome::Failed(fault),
     }
 }
 
-/// Sends requests to an office in turn, and prints each reply. The first fault ends it, and is printed too. So does the first
+/// Sends requests to an office in turn, and prints each reply, with a note if a request was kept before
+/// with other words. The first fault ends it, and is printed too. So does the first
 /// output that fails; and the first refusal, but where the order is to keep going. If the requests are those of a script's line,
 /// a refusal or fault is printed behind the number of that line. The status is the last one other than 0 that came of them.
 pub(crate) fn send_all<S: Alter, O: Sink, E: Sink>(

@@ -1,5 +1,5 @@
 -- No more are in a room than may be, whoever comes in, goes on or leaves.
-use Rattle.std.proofs.Common.{◌≡◌, ◌≤◌, ◌<◌, ◌+◌, ◌∙◌, ◌⊎◌, ◌∷◌, ◌++◌, ℕ, List, [], Option, ap, arith, inl, inr, insert, length, remove, subst, sym}
+use Rattle.std.proofs.Common.{◌≡◌, ◌≤◌, ◌<◌, ◌+◌, ◌∙◌, ◌∷◌, ◌++◌, ℕ, List, [], Option, ap, arith, insert, length, remove, subst, sym}
 use Rattle.std.specs.List.{FoldsTo}
 use Rattle.std.proofs.lemmas.List.{length_push}
 use Rattle.std.proofs.lemmas.List.Edits.{length-insert, length-remove}

@@ -1,12 +1,12 @@
 -- Clients that are let go, one after the other.
-use Rattle.std.proofs.Common.{◌≡◌, ◌≤◌, ◌<◌, ◌+◌, ◌-◌, ◌∙◌, ◌⊎◌, ◌∷◌, ◌++◌, Bool, false, true, ℕ, List, [], None, Option, Some, ap, append-nil, append_assoc, arith, cond, get_or, inl, inr, length, option_map, refl, remove, subst, sym}
-use Rattle.std.proofs.lemmas.List.{get_or_default, get_or_read, nil_from_length}
+use Rattle.std.proofs.Common.{◌≡◌, ◌≤◌, ◌<◌, ◌+◌, ◌-◌, ◌∙◌, ◌⊎◌, ◌∷◌, ◌++◌, Bool, false, true, ℕ, List, [], None, Option, Some, ap, append-nil, append_assoc, arith, get_or, inl, inr, length, map, option_map, refl, remove, subst, sym}
+use Rattle.std.proofs.lemmas.List.{get_or_read, map-append, nil_from_length}
 use Rattle.std.proofs.lemmas.List.Edits.{length-remove}
 use Rattle.std.proofs.lemmas.List.Elements.{All-nil, All-weaker}
 use Rattle.std.specs.List.{All, FoldsTo}
 use Rattle.gathering.specs.Leavers.{leaver_of}
 use Rattle.gathering.specs.Lines.{Line}
-use Rattle.gathering.specs.Rooms.{AreUnseen, DoorsEntry, IsLongest, bytes_held, is_among, most_bytes, with_leaver}
+use Rattle.gathering.specs.Rooms.{AreUnseen, DoorsEntry, Event, IsLongest, bytes_held, handed_back, is_among, most_bytes, with_leaver}
 use Rattle.gathering.specs.declared.client.Client.{Client}
 use Rattle.gathering.specs.declared.client.Door.{Door}
 use Rattle.gathering.specs.declared.client.Door.TheVariants.{Clients, Orders}
@@ -14,7 +14,7 @@ use Rattle.gathering.specs.declared.leaver.Leaver.{Leaver}
 use Rattle.gathering.specs.declared.leaver.Leaving.{Leaving}
 use Rattle.gathering.specs.declared.leaver.Leaving.TheVariants.{Closing}
 use Rattle.gathering.specs.declared.room.Room.{Room}
-use Rattle.gathering.specs.Closing.{MayLeave, AreLetGo, IsClosed, IsClosedAt, IsLetGo, IsLetGoForBytes, IsOut, LetsOneGo, OneGoes, for_bytes, for_room_by, late_by, patience, with_leavers}
+use Rattle.gathering.specs.Closing.{MayLeave, AreFull, AreLetGo, IsClosed, IsClosedAt, IsLetGo, IsLetGoForBytes, IsLetGoForRoom, IsOut, LetsOneGo, OneGoes, for_bytes, for_room_by, late_by, patience, with_leavers}
 use Rattle.gathering.specs.declared.closing.Rule.{Rule}
 
 pub folds_then : {P A : Type 0} (R : P → A → P → Type 0) (xs ys : List A) (old mid new : P) → FoldsTo R old xs mid → FoldsTo R mid ys new → FoldsTo R old (xs ++ ys) new
@@ -23,7 +23,7 @@ folds_then R (x ∷ xs) ys old mid new (next, step, first) rest = (next, step, f
 
 -- ---- those that were handed back
 
-none_more : {X : Type 0} (count : Option (List X)) → option_map (λ (xs : List X). xs ++ []) count ≡ count
+pub none_more : {X : Type 0} (count : Option (List X)) → option_map (λ (xs : List X). xs ++ []) count ≡ count
 none_more None = refl
 none_more (Some xs) = ap Some (append-nil xs)
 
@@ -32,10 +32,16 @@ more_then None a b = refl
 more_then (Some xs) a b = ap Some (append_assoc xs a b)
 
 pub with_none : {L : Type 0} (doors : DoorsEntry L) → doors ≡ with_leavers doors []
-with_none {L} doors = ap (λ (left : Option (List (Leaver L))). record doors { left = left }) (sym (none_more doors.left))
+with_none {L} doors =
+    ap (λ (left : Option (List (Leaver L))). record doors { left = left }) (sym (none_more doors.left))
+    ∙ ap (λ (events : Option (List (Event L))). record doors { left = option_map (λ (xs : List (Leaver L)). xs ++ []) doors.left; events = events }) (sym (none_more doors.events))
 
 pub with_both : {L : Type 0} (doors : DoorsEntry L) (a b : List (Leaver L)) → with_leavers (with_leavers doors a) b ≡ with_leavers doors (a ++ b)
-with_both {L} doors a b = ap (λ (left : Option (List (Leaver L))). record doors { left = left }) (more_then doors.left a b)
+with_both {L} doors a b =
+    let first : Option (List (Event L)) = option_map (λ (xs : List (Event L)). xs ++ map handed_back b) (option_map (λ (xs : List (Event L)). xs ++ map handed_back a) doors.events) in
+    let again = more_then doors.events (map handed_back a) (map handed_back b) ∙ ap (λ (es : List (Event L)). option_map (λ (xs : List (Event L)). xs ++ es) doors.events) (sym (map-append handed_back a b)) in
+    ap (λ (left : Option (List (Leaver L))). record doors { left = left; events = first }) (more_then doors.left a b)
+    ∙ ap (λ (events : Option (List (Event L))). record doors { left = option_map (λ (xs : List (Leaver L)). xs ++ (a ++ b)) doors.left; events = events }) again
 
 module _ {L : Type 0} (Goes : List (Client L) → Leaver L → List (Client L) → Type 0) where
   pub let_go_none : (doors : DoorsEntry L) (room : Room L) → AreLetGo Goes doors doors room room
@@ -58,6 +64,11 @@ module _ {L : Type 0} (Goes : List (Client L) → Leaver L → List (Client L) �
     each = folds_then Goes a.gone b.gone old.clients.items went.clients.items new.clients.items a.each b.each;
   }
 
+-- one is let go from a full room, or none
+pub let_go_full : {L : Type 0} (now : ℕ) (one : Bool) (before later : DoorsEntry L) (old new : Room L) → AreFull old.clients.items → LetsOneGo (IsLetGo (for_room_by now)) one before later old new → AreLetGo (IsLetGoForRoom now) before later old new
+let_go_full {L} now true before later old new full goes = let_go_one (IsLetGoForRoom now) before later old new (record { came = goes.came; counted = goes.counted; leaver = goes.leaver; goes = (full, goes.goes); back = goes.back })
+let_go_full {L} now false before later old new full goes = let_go_maybe (IsLetGoForRoom now) false before later old new goes
+
 -- ---- who is out
 
 -- whoever goes so is out of its place, for a reason that says nothing of it
@@ -76,6 +87,9 @@ module _ {L : Type 0} where
 
   pub room_outs : (now : ℕ) → Outs {L = L} (IsLetGo (for_room_by now))
   room_outs now old leaver new it = record { why = (for_room_by now).why; place = it.place; out = it.out; may = λ line client. tt }
+
+  pub crowd_outs : (now : ℕ) → Outs {L = L} (IsLetGoForRoom now)
+  crowd_outs now old leaver new (full, it) = room_outs now old leaver new it
 
   pub bytes_outs : Outs {L = L} IsLetGoForBytes
   bytes_outs old leaver new (over, inl it) = record { why = (for_bytes false).why; place = it.place; out = it.out; may = λ line client. tt }

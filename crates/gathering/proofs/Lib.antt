@@ -3,4 +3,5 @@ pub mod LineLemmas
 pub mod RoomLemmas
 pub mod OfLemmas
 pub mod ClosingLemmas
+pub mod CourseLemmas
 pub mod BoundLemmas

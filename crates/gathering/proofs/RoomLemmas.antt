@@ -1,11 +1,11 @@
 -- Who has waited longest of those that are looked at, among so many, and one more.
-use Rattle.std.proofs.Common.{◌≡◌, ◌<◌, ◌≤◌, ◌∙◌, ◌++◌, ◌∷◌, ℕ, Bool, true, false, List, [], Option, None, Some, IfSome, IfNone, add-one, ap, arith, get_or, length, option_map, refl, subst, sym}
-use Rattle.std.proofs.Common.{◌+◌, cond, nat_le, suc, take}
+use Rattle.std.proofs.Common.{◌≡◌, ◌<◌, ◌≤◌, ◌∙◌, ◌++◌, ◌∷◌, ℕ, Bool, true, false, List, [], Option, None, Some, IfSome, add-one, ap, arith, get_or, length, refl, subst, sym}
+use Rattle.std.proofs.Common.{◌+◌, cond, nat_le, take}
 use Rattle.std.proofs.Math.Seq.{take-suc}
 use Rattle.std.proofs.lemmas.Bool.{leb-false, leb-true}
 use Rattle.std.specs.List.{All}
 use Rattle.std.proofs.lemmas.List.{take_all, get_or_append_left, get_or_push, length-take-le, length_push}
-use Rattle.std.proofs.lemmas.List.Elements.{All-nil, All-push, All-weaker}
+use Rattle.std.proofs.lemmas.List.Elements.{All-push, All-weaker}
 use Rattle.gathering.specs.declared.client.Client.{Client}
 use Rattle.gathering.specs.Rooms.{AreUnseen, IsLongest, earlier, is_among}
 

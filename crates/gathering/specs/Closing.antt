@@ -1,9 +1,9 @@
 -- Which connections are closed before they have their response, and what is handed back.
-use Rattle.std.specs.Prelude.{◌≡◌, ◌≤◌, ◌<◌, ◌-◌, ◌⊎◌, ⊤, Bool, true, false, List, ◌++◌, IsSomeAnd, length, option_map, slice_index_or, ℕ}
+use Rattle.std.specs.Prelude.{◌≡◌, ◌≤◌, ◌<◌, ◌-◌, ◌⊎◌, ⊤, Bool, true, false, List, ◌++◌, IsSomeAnd, None, length, map, option_map, slice_index_or, ℕ}
 use Rattle.std.specs.List.{FoldsTo, remove}
 use Rattle.gathering.specs.Lines.{HasFailed, Line}
 use Rattle.gathering.specs.Leavers.{leaver_of}
-use Rattle.gathering.specs.Rooms.{AreUnseen, DoorsEntry, IsLongest, bytes_held, most_bytes, most_clients, with_leaver}
+use Rattle.gathering.specs.Rooms.{AreUnseen, DoorsEntry, IsLongest, bytes_held, handed_back, most_bytes, most_clients, with_leaver}
 use Rattle.gathering.specs.declared.client.Client.{Client}
 use Rattle.gathering.specs.declared.closing.Rule.{Rule}
 use Rattle.gathering.specs.declared.leaver.Leaver.{Leaver}
@@ -26,6 +26,15 @@ MayLeave line Late client = ⊤
 MayLeave line ForRoom client = ⊤
 MayLeave line Closing client = ⊤
 
+-- Why a client leaves that was just heard or told: it has its whole response, a call of its line failed, or it has no response yet and there was no memory for it.
+abbrev pub EndsFor : {L : Type 0} → Line L → Leaving → Client L → Type 0
+EndsFor line Done client = IsToldAll client
+EndsFor line Broken client = HasFailed (line.failed client.line)
+EndsFor line Unheard client = client.answer ≡ None
+EndsFor line Late client = ⊥
+EndsFor line ForRoom client = ⊥
+EndsFor line Closing client = ⊥
+
 -- ---- how many may be in
 
 -- no more clients are in a room than may be, and no more bytes are held of them
@@ -44,9 +53,13 @@ grace = 1000
 abbrev pub IsLate : {L : Type 0} → ℕ → Client L → Type 0
 IsLate now client = patience ≤ now - client.since
 
+-- nobody more may be in, beside these clients
+abbrev pub AreFull : {L : Type 0} → List (Client L) → Type 0
+AreFull clients = (most_clients ≤ length clients) ⊎ (most_bytes ≤ bytes_held clients)
+
 -- nobody more may be in a room
 abbrev pub IsFull : {L : Type 0} → Room L → Type 0
-IsFull room = (most_clients ≤ length room.clients.items) ⊎ (most_bytes ≤ bytes_held room.clients.items)
+IsFull room = AreFull room.clients.items
 
 -- who is late: clients and orders
 abbrev pub late_by : ℕ → Rule
@@ -77,13 +90,17 @@ pub record IsLetGo {L : Type 0} (rule : Rule) (old : List (Client L)) (leaver : 
 abbrev pub IsLetGoForBytes : {L : Type 0} → List (Client L) → Leaver L → List (Client L) → Type 0
 IsLetGoForBytes old leaver new = (most_bytes < bytes_held old) × (IsLetGo (for_bytes false) old leaver new ⊎ (AreUnseen false old × IsLetGo (for_bytes true) old leaver new))
 
+-- one is let go since the room is full
+abbrev pub IsLetGoForRoom : {L : Type 0} → ℕ → List (Client L) → Leaver L → List (Client L) → Type 0
+IsLetGoForRoom now old leaver new = AreFull old × IsLetGo (for_room_by now) old leaver new
+
 -- serving ends, and the first one is closed
 abbrev pub IsClosed : {L : Type 0} → List (Client L) → Leaver L → List (Client L) → Type 0
 IsClosed old leaver new = IsOut Closing 0 old leaver new
 
 -- doors had these handed back, one after the other
 abbrev pub with_leavers : {L : Type 0} → DoorsEntry L → List (Leaver L) → DoorsEntry L
-with_leavers doors gone = record doors { left = option_map (λ before. before ++ gone) doors.left }
+with_leavers doors gone = record doors { left = option_map (λ before. before ++ gone) doors.left; events = option_map (λ earlier. earlier ++ map handed_back gone) doors.events }
 
 -- the one at a place is out, and was handed back to the doors
 abbrev pub IsClosedAt : {L : Type 0} → Leaving → ℕ → List (Client L) → DoorsEntry L → List (Client L) → DoorsEntry L → Type 0

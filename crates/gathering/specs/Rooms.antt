@@ -85,30 +85,59 @@ IsWanted clients_too Nobody = ⊤
 IsWanted clients_too NotNow = ⊤
 IsWanted clients_too Full = ⊤
 
--- What is known of doors: those that were let in so far, as they came in, and those that were handed back; how many calls failed, and how many waits didn't.
+-- What happens at doors: one is let in, one is handed back, one is named that may go on, the clock shows a moment, the system has nothing left for one more
+-- connection, or a call fails.
+pub data Event (L : Type 0) : Type 0 where
+  let_in : Comer L → Event L
+  handed_back : Leaver L → Event L
+  named : ℕ → Event L
+  showed : ℕ → Event L
+  ran_out : Event L
+  broke : Event L
+
+-- What is known of doors: those that were let in so far, as they came in, and those that were handed back. How many calls failed, and how many waits didn't. And
+-- all that happened at them, one after the other.
 pub record DoorsEntry (L : Type 0) : Type 0 where
   pub came : Option (List (Comer L))
   pub left : Option (List (Leaver L))
   pub failed : Option ℕ
   pub waits : Option ℕ
+  pub events : Option (List (Event L))
+
+-- this happened at them, too
+abbrev pub followed : {L : Type 0} → Event L → Option (List (Event L)) → Option (List (Event L))
+followed event events = option_map (λ earlier. earlier ++ event ∷ []) events
 
 -- those that came in grow by whoever is let in
 abbrev pub after_admit : {L : Type 0} → Admitted L → DoorsEntry L → DoorsEntry L
-after_admit (One comer) doors = record doors { came = option_map (λ comers. comers ++ comer ∷ []) doors.came }
+after_admit (One comer) doors = record doors { came = option_map (λ comers. comers ++ comer ∷ []) doors.came; events = followed (let_in comer) doors.events }
 after_admit Nobody doors = doors
 after_admit NotNow doors = doors
-after_admit Full doors = doors
+after_admit Full doors = record doors { events = followed ran_out doors.events }
 
 -- those that left grow by one more
 abbrev pub with_leaver : {L : Type 0} → DoorsEntry L → Leaver L → DoorsEntry L
-with_leaver doors leaver = record doors { left = option_map (λ leavers. leavers ++ leaver ∷ []) doors.left }
+with_leaver doors leaver = record doors { left = option_map (λ leavers. leavers ++ leaver ∷ []) doors.left; events = followed (handed_back leaver) doors.events }
 
--- after one more call, which may have failed
-abbrev pub after_call : {L A : Type 0} → Result A Broken → DoorsEntry L → DoorsEntry L
-after_call (Ok value) doors = doors
-after_call (Err broken) doors = record doors { failed = one_more doors.failed }
+-- one was named that may go on
+abbrev pub after_ready : {L : Type 0} → Option ℕ → DoorsEntry L → DoorsEntry L
+after_ready (Some number) doors = record doors { events = followed (named number) doors.events }
+after_ready None doors = doors
+
+-- a call failed
+abbrev pub with_failure : {L : Type 0} → DoorsEntry L → DoorsEntry L
+with_failure doors = record doors { failed = one_more doors.failed; events = followed broke doors.events }
+
+-- the clock showed a moment
+abbrev pub with_moment : {L : Type 0} → DoorsEntry L → ℕ → DoorsEntry L
+with_moment doors now = record doors { events = followed (showed now) doors.events }
+
+-- after a look at the clock, which may have failed
+abbrev pub after_look : {L : Type 0} → Result ℕ Broken → DoorsEntry L → DoorsEntry L
+after_look (Ok now) doors = with_moment doors now
+after_look (Err broken) doors = with_failure doors
 
 -- and after one more wait
 abbrev pub after_wait : {L : Type 0} → Result (Unit {0}) Broken → DoorsEntry L → DoorsEntry L
 after_wait (Ok value) doors = record doors { waits = one_more doors.waits }
-after_wait (Err broken) doors = record doors { failed = one_more doors.failed }
+after_wait (Err broken) doors = with_failure doors

@@ -3,7 +3,7 @@
 ghost use Rattle.std.specs.Prelude.{◌≡◌, ◌⊎◌, ◌≤◌, ◌<◌, ◌-◌, [], false, length, true};
 ghost use Rattle.std.specs.List.{All};
 ghost use Rattle.gathering.specs.Rooms.{bytes_held, is_among, most_bytes, most_clients};
-ghost use Rattle.gathering.specs.Closing.{AreLetGo, IsClosed, IsClosedAt, IsFull, IsLetGo, IsLetGoForBytes, IsWithin, LetsOneGo, for_bytes, for_room_by, grace, late_by, patience};
+ghost use Rattle.gathering.specs.Closing.{AreLetGo, IsClosed, IsClosedAt, IsFull, IsLetGo, IsLetGoForBytes, IsLetGoForRoom, IsWithin, LetsOneGo, for_bytes, for_room_by, grace, late_by, patience};
 
 use crate::doors::Doors;
 use crate::leaver::Leaving;
@@ -140,7 +140,7 @@ pub fn make_way<D: Doors>(doors: &mut D, room: &mut Room<D::Line>, now: u64) -> 
 /// Sees that one more may come in, and returns whether one may. If nobody more may be in, and clients may be closed for it, the
 /// client is closed that has waited longest, if that is a second at least. An order is never closed for another.
 pub fn make_room<D: Doors>(doors: &mut D, room: &mut Room<D::Line>, lets_go: bool, now: u64) -> bool
-    ensures go { AreLetGo (IsLetGo (for_room_by now)) (D.known doors.old) (D.known doors.new) room.old room.new }
+    ensures go { AreLetGo (IsLetGoForRoom now) (D.known doors.old) (D.known doors.new) room.old room.new }
     ensures room { result ≡ true → length room.new.clients.items < most_clients }
     ensures only { (room.new ≡ room.old) ⊎ IsFull room.old }
     ensures denied { result ≡ false → IsFull room.old }

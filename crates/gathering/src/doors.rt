@@ -1,7 +1,7 @@
 //! Where clients and orders come in and leave, and what says which of them may go on.
 
 ghost use Rattle.std.specs.Prelude.{◌≡◌, Bool};
-ghost use Rattle.gathering.specs.Rooms.{DoorsEntry, IsFresh, IsWanted, after_admit, after_call, after_wait, with_leaver};
+ghost use Rattle.gathering.specs.Rooms.{DoorsEntry, IsFresh, IsWanted, after_admit, after_look, after_ready, after_wait, with_leaver};
 
 use crate::client::Comer;
 use crate::leaver::Leaver;
@@ -35,7 +35,7 @@ pub trait Doors {
 
     /// Returns the time of the clock, in milliseconds.
     fn now(&mut self) -> Result<u64, Broken>
-        ensures { known self.new ≡ after_call result (known self.old) };
+        ensures { known self.new ≡ after_look result (known self.old) };
 
     /// Waits until somebody may go on or come in, so long at most.
     fn wait(&mut self, most: Duration) -> Result<(), Broken>
@@ -43,7 +43,7 @@ pub trait Doors {
 
     /// Returns the number of the next that may go on; none, once all were named.
     fn next_ready(&mut self) -> Option<u64>
-        ensures { known self.new ≡ known self.old };
+        ensures { known self.new ≡ after_ready result (known self.old) };
 
     /// Lets in the next that waits at a door, and names it by this number from then on. Orders come in first, and clients only if
     /// they are wanted, too.

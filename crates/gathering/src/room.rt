@@ -90,6 +90,7 @@ pub fn longest<L>(clients: &[Client<L>], orders_too: bool) -> Option<usize>
 pub fn place_of<L>(clients: &[Client<L>], number: u64) -> Option<usize>
     ensures place { result ≡ place_in clients.now number }
     ensures within { IfSome result (λ place. place < length clients.now) }
+    ensures his { IfSome result (λ place. (client : Client L) → (slice_index_or clients.now place client).number ≡ number) }
 {
     clients.iter().position(|client| client.number == number)
 }

@@ -1,10 +1,10 @@
 -- From one moment of a hall to another.
 use Rattle.std.proofs.Common.{◌≡◌, ◌≤◌, ◌<◌, ◌+◌, ◌-◌, ◌^◌, ◌∙◌, ◌⊎◌, ◌∷◌, ◌++◌, ℕ, add-zero, true, List, [], None, Option, Some, ap, append-nil, append_assoc, arith, get_or, inl, inr, insert, length, length-set, map, option_map, refl, remove, set, subst, suc, sym, zero}
-use Rattle.std.specs.Prelude.{Err, IfOk, IfSome, Ok, OnOk, Result, unwrap_or}
+use Rattle.std.specs.Prelude.{Bool, Err, IfOk, IfSome, Ok, OnOk, Result, is_some, unwrap_or}
 use Rattle.std.specs.Result.{IsErr}
-use Rattle.std.specs.List.{FoldsTo}
+use Rattle.std.specs.List.{All, FoldsTo}
 use Rattle.std.specs.Vec.{with_item}
-use Rattle.std.proofs.lemmas.List.{get_or-set_same, get_or_default, get_or_read, map_push}
+use Rattle.std.proofs.lemmas.List.{get_or-set_same, get_or_default, get_or_read, map-append, map_push}
 use Rattle.std.proofs.lemmas.List.Elements.{All-nil, All-push}
 use Rattle.std.proofs.lemmas.List.Sums.{sum_by-append}
 use Rattle.sqlite.specs.Held.{Held}
@@ -14,28 +14,31 @@ use Rattle.votes.specs.declared.streams.Broken.{Broken}
 use Rattle.gathering.specs.Leavers.{leaver_of}
 use Rattle.gathering.specs.Lines.{HasTaken, Line, failed_after, one_more}
 use Rattle.gathering.specs.Clients.{IsNew, IsOf}
-use Rattle.gathering.specs.Rooms.{DoorsEntry, after_admit, after_call, after_wait, clients_among, count_at, with_leaver}
+use Rattle.gathering.specs.Courses.{ComesOf, Course, HadTurns, Turn, with_gate}
+use Rattle.gathering.specs.Rooms.{DoorsEntry, after_admit, after_look, after_ready, after_wait, clients_among, count_at, with_failure, with_leaver, with_moment}
 use Rattle.gathering.specs.declared.client.Answer.{Answer}
 use Rattle.gathering.specs.declared.client.Client.{Client}
 use Rattle.gathering.specs.declared.client.Comer.{Comer}
 use Rattle.gathering.specs.declared.client.Door.{Door}
-use Rattle.gathering.specs.declared.doors.Admitted.TheVariants.{One}
+use Rattle.gathering.specs.declared.doors.Admitted.TheVariants.{Full, One}
 use Rattle.gathering.specs.declared.leaver.Leaver.{Leaver}
 use Rattle.gathering.specs.declared.leaver.Leaving.{Leaving}
+use Rattle.gathering.specs.declared.leaver.Leaving.TheVariants.{Broken as broken_off, Closing, Done, ForRoom, Late, Unheard}
 use Rattle.gathering.specs.declared.room.Room.{Room}
 use Rattle.gathering.proofs.LineLemmas.{heard_more}
 use Rattle.hall.specs.Guests.{AreIn, Guest, HadFor, HasLeft, IsGathered, IsIn, IsSound, Stands, WentSo, visits_of}
-use Rattle.gathering.specs.Closing.{AreLetGo, IsClosed, IsLetGo, MayLeave, late_by}
-use Rattle.hall.specs.Halls.{GoesOn, GoesOnServing, HandsBackMore, IsCalled, IsUnfailed, LetsInMore, ServesHall}
+use Rattle.gathering.specs.Closing.{AreLetGo, EndsFor, IsClosed, IsLetGo, IsLetGoForBytes, MayLeave, late_by, patience}
+use Rattle.hall.specs.Halls.{GoesOn, GoesOnServing, HandsBackMore, IsCalled, IsNumbered, IsUnfailed, LetsInMore, ServesHall, ServesOn}
 use Rattle.hall.specs.declared.ended.Ended.{Ended}
 use Rattle.hall.specs.declared.ended.Ended.TheVariants as ended
 use Rattle.hall.specs.Reads.{Desk, KeptEntry, desk_at, with_none_kept}
 use Rattle.hall.specs.Terms.{Given}
-use Rattle.hall.specs.Turns.{HasComeAt, HasTurn, IsUntold, MayHaveTurn, answer_of}
+use Rattle.hall.specs.Turns.{HasComeAt, HasTurn, HasVisits, IsAtGate, IsUntold, WentOn, answer_of, moment_of, turn_of}
 use Rattle.hall.specs.Visits.{ServesVisit, Visit}
 use Rattle.hall.proofs.GuestLemmas.{are_same, first_under, gathered_for, none_in, one_entered, one_left, one_went_on, same_under, with_one}
 use Rattle.hall.proofs.KeptLemmas.{cleans, kept_of, turned_away}
-use Rattle.gathering.proofs.ClosingLemmas.{Outs, closed_outs, folds_then, late_outs, more_then}
+use Rattle.gathering.proofs.ClosingLemmas.{Outs, bytes_outs, closed_outs, folds_then, late_outs, more_then, with_none}
+use Rattle.gathering.proofs.CourseLemmas.{bytes_due, course_closes, course_fails, course_leaves, course_look, course_misses, course_none, course_stays, course_stops, course_then}
 use Rattle.hall.proofs.TurnLemmas.{is_heard}
 
 -- ---- a place
@@ -72,16 +75,52 @@ clients_append first next = sum_by-append (λ comer. count_at comer.door) first 
 abbrev pub IsStill : {L : Type 0} → DoorsEntry L → DoorsEntry L → Type 0
 IsStill before later = (later.came ≡ before.came) × (later.left ≡ before.left)
 
-pub still_call : {L A : Type 0} (result : Result A Broken) (before later : DoorsEntry L) → later ≡ after_call result before → IsStill before later
-still_call (Ok value) before later is = (ap (λ (d : DoorsEntry _). d.came) is, ap (λ (d : DoorsEntry _). d.left) is)
-still_call (Err broken) before later is = (ap (λ (d : DoorsEntry _). d.came) is, ap (λ (d : DoorsEntry _). d.left) is)
+pub still_look : {L : Type 0} (result : Result ℕ Broken) (before later : DoorsEntry L) → later ≡ after_look result before → IsStill before later
+still_look (Ok value) before later is = (ap (λ (d : DoorsEntry _). d.came) is, ap (λ (d : DoorsEntry _). d.left) is)
+still_look (Err broken) before later is = (ap (λ (d : DoorsEntry _). d.came) is, ap (λ (d : DoorsEntry _). d.left) is)
+
+-- the clock may have shown a moment at the gate
+gate_still : {L : Type 0} (gate : Option ℕ) (before : DoorsEntry L)
+    → ((with_gate gate before).came ≡ before.came) × ((with_gate gate before).left ≡ before.left) × ((with_gate gate before).failed ≡ before.failed) × ((with_gate gate before).waits ≡ before.waits)
+gate_still None before = (refl, refl, refl, refl)
+gate_still (Some now) before = (refl, refl, refl, refl)
 
 pub still_wait : {L : Type 0} (result : Result (Unit {0}) Broken) (before later : DoorsEntry L) → later ≡ after_wait result before → IsStill before later
 still_wait (Ok value) before later is = (ap (λ (d : DoorsEntry _). d.came) is, ap (λ (d : DoorsEntry _). d.left) is)
 still_wait (Err broken) before later is = (ap (λ (d : DoorsEntry _). d.came) is, ap (λ (d : DoorsEntry _). d.left) is)
 
+-- nobody was named
+pub known_still : {L : Type 0} (result : Option ℕ) (before later : DoorsEntry L) → later ≡ after_ready result before → ((number : ℕ) → result ≡ Some number → ⊥) → later ≡ before
+known_still None before later is none = is
+known_still (Some number) before later is none = absurd (none number refl)
+
+-- one of those that are in went on
+pub still_comes : {L : Type 0} (line : Line L) (turns : List Turn) (old new : Client L) (result : Result (Option Leaving) Broken) (gate : Option ℕ) (before later : DoorsEntry L)
+    → ComesOf line turns old new result (with_gate gate before) later → IsStill before later
+still_comes {L} line turns old new (Ok None) gate before later (inl (none, since, is)) =
+    let still = gate_still gate before in (ap (λ (d : DoorsEntry L). d.came) is ∙ still.0, ap (λ (d : DoorsEntry L). d.left) is ∙ still.1)
+still_comes {L} line turns old new (Ok None) gate before later (inr (one, is)) =
+    let still = gate_still gate before in (ap (λ (d : DoorsEntry L). d.came) is ∙ still.0, ap (λ (d : DoorsEntry L). d.left) is ∙ still.1)
+still_comes {L} line turns old new (Ok (Some why)) gate before later (since, ends, is) =
+    let still = gate_still gate before in (ap (λ (d : DoorsEntry L). d.came) is ∙ still.0, ap (λ (d : DoorsEntry L). d.left) is ∙ still.1)
+still_comes {L} line turns old new (Err broken) gate before later (since, is) =
+    let still = gate_still gate before in (ap (λ (d : DoorsEntry L). d.came) is ∙ still.0, ap (λ (d : DoorsEntry L). d.left) is ∙ still.1)
+
 pub still_known : {L : Type 0} (before later : DoorsEntry L) → later ≡ before → IsStill before later
 still_known {L} before later is = (ap (λ (d : DoorsEntry L). d.came) is, ap (λ (d : DoorsEntry L). d.left) is)
+
+-- who may leave where it ends so
+may_leave : {L : Type 0} (line : Line L) (why : Leaving) (client : Client L) → EndsFor line why client → MayLeave line why client
+may_leave line Done client ends = ends
+may_leave line broken_off client ends = ends
+may_leave line Unheard client ends = tt
+may_leave line Late client ends = absurd ends
+may_leave line ForRoom client ends = absurd ends
+may_leave line Closing client ends = absurd ends
+
+-- the system had no room for one more
+pub still_full : {L : Type 0} (before later : DoorsEntry L) → later ≡ after_admit Full before → IsStill before later
+still_full {L} before later is = (ap (λ (d : DoorsEntry L). d.came) is, ap (λ (d : DoorsEntry L). d.left) is)
 
 module _ {L : Type 0} (given : Given) (line : Line L) where
   -- ---- a room
@@ -217,111 +256,221 @@ module _ {L : Type 0} (given : Given) (line : Line L) where
   abbrev pub room_with : Room L → ℕ → Client L → Room L
   room_with room place client = record room { clients = with_item room.clients place client }
 
+  -- one went on, with these visits
+  abbrev pub ServesJust : {S : Type 0} → (Held S → State) → List Visit → DoorsEntry L → DoorsEntry L → Room L → Room L → Desk S → Desk S → Type 0
+  ServesJust state_of visits before later old new at behind = (it : GoesOnServing given line state_of before later old new at behind) × (it.visits ≡ visits)
+
   -- he went on, and stands in his place again
-  pub goes_on_at : {S : Type 0} (state_of : Held S → State) (before later : DoorsEntry L) (room after : Room L) (place : ℕ) (old new : Client L) (at behind : Desk S) → IsStill before later → place < length room.clients.items
-      → old ≡ get_or room.clients.items place old → new.door ≡ old.door → new.number ≡ old.number → ((start : L) → IsOf line start old → IsOf line start new) → (now : ℕ) × MayHaveTurn given line state_of now old new at behind
-      → after.clients.items ≡ set room.clients.items place new → after.came ≡ room.came → after.counted ≡ room.counted
-      → GoesOnServing given line state_of before later room after at behind
-  goes_on_at state_of before later room after place old new at behind (same_in, same_left) within here door number is (now, inl turn) items came counted = record {
-    visits = turn.visit ∷ [];
-    each = (behind, turn.served, refl);
-    goes_on = record {
-      comers = [];
-      told = grows_same before.came later.came same_in;
-      counted = omega (arith, counted);
-      gone = [];
-      back = grows_same before.left later.left same_left;
-      own = λ guests earlier left are.
-          let (all, all_came, all_are) = one_went_on given line guests earlier (turn.visit ∷ []) left room.came room.clients.items place old new are within here door number
-          (All-push (λ (v : Visit). v.number ≡ old.number) [] turn.visit (All-nil (λ (v : Visit). v.number ≡ old.number)) turn.number)
-          (λ guest stood went. had_turn state_of guest earlier now old new at behind turn is stood) in (
-            all,
-            all_came ∙ sym (append-nil (map (λ (g : Guest L). g.came) guests)),
-            subst (λ (ls : List (Leaver L)). AreIn given line all (earlier ++ turn.visit ∷ []) ls after.came after.clients.items) (sym (append-nil left))
-                (are_same given line all (earlier ++ turn.visit ∷ []) left room.came after.came (set room.clients.items place new) after.clients.items came items all_are),
-          );
-    };
-  }
-  goes_on_at state_of before later room after place old new at behind (same_in, same_left) within here door number is (now, inr (same, answer)) items came counted = record {
-    visits = [];
-    each = sym same;
-    goes_on = record {
-      comers = [];
-      told = grows_same before.came later.came same_in;
-      counted = omega (arith, counted);
-      gone = [];
-      back = grows_same before.left later.left same_left;
-      own = λ guests earlier left are.
-          let (all, all_came, all_are) = one_went_on given line guests earlier [] left room.came room.clients.items place old new are within here door number (All-nil (λ (v : Visit). v.number ≡ old.number))
-          (λ guest stood went. had_still guest earlier old new answer is stood went) in (
-            all,
-            all_came ∙ sym (append-nil (map (λ (g : Guest L). g.came) guests)),
-            subst (λ (ls : List (Leaver L)). AreIn given line all (earlier ++ []) ls after.came after.clients.items) (sym (append-nil left))
-                (are_same given line all (earlier ++ []) left room.came after.came (set room.clients.items place new) after.clients.items came items all_are),
-          );
-    };
-  }
+  pub goes_on_at : {S : Type 0} (state_of : Held S → State) (before later : DoorsEntry L) (room after : Room L) (place : ℕ) (old new : Client L) (at behind : Desk S) (now : ℕ) (visits : List Visit) → IsStill before later
+      → place < length room.clients.items → old ≡ get_or room.clients.items place old → new.door ≡ old.door → new.number ≡ old.number → ((start : L) → IsOf line start old → IsOf line start new)
+      → HasVisits given line state_of now visits old new at behind → after.clients.items ≡ set room.clients.items place new → after.came ≡ room.came → after.counted ≡ room.counted
+      → ServesJust state_of visits before later room after at behind
+  goes_on_at state_of before later room after place old new at behind now (visit ∷ []) (same_in, same_left) within here door number is (turn, one) items came counted = (
+    record {
+      visits = turn.visit ∷ [];
+      each = (behind, turn.served, refl);
+      goes_on = record {
+        comers = [];
+        told = grows_same before.came later.came same_in;
+        counted = omega (arith, counted);
+        gone = [];
+        back = grows_same before.left later.left same_left;
+        own = λ guests earlier left are.
+            let (all, all_came, all_are) = one_went_on given line guests earlier (turn.visit ∷ []) left room.came room.clients.items place old new are within here door number
+            (All-push (λ (v : Visit). v.number ≡ old.number) [] turn.visit (All-nil (λ (v : Visit). v.number ≡ old.number)) turn.number)
+            (λ guest stood went. had_turn state_of guest earlier now old new at behind turn is stood) in (
+              all,
+              all_came ∙ sym (append-nil (map (λ (g : Guest L). g.came) guests)),
+              subst (λ (ls : List (Leaver L)). AreIn given line all (earlier ++ turn.visit ∷ []) ls after.came after.clients.items) (sym (append-nil left))
+                  (are_same given line all (earlier ++ turn.visit ∷ []) left room.came after.came (set room.clients.items place new) after.clients.items came items all_are),
+            );
+      };
+    },
+    ap (λ (v : Visit). v ∷ []) one,
+  )
+  goes_on_at state_of before later room after place old new at behind now [] (same_in, same_left) within here door number is (same, answer) items came counted = (
+    record {
+      visits = [];
+      each = sym same;
+      goes_on = record {
+        comers = [];
+        told = grows_same before.came later.came same_in;
+        counted = omega (arith, counted);
+        gone = [];
+        back = grows_same before.left later.left same_left;
+        own = λ guests earlier left are.
+            let (all, all_came, all_are) = one_went_on given line guests earlier [] left room.came room.clients.items place old new are within here door number (All-nil (λ (v : Visit). v.number ≡ old.number))
+            (λ guest stood went. had_still guest earlier old new answer is stood went) in (
+              all,
+              all_came ∙ sym (append-nil (map (λ (g : Guest L). g.came) guests)),
+              subst (λ (ls : List (Leaver L)). AreIn given line all (earlier ++ []) ls after.came after.clients.items) (sym (append-nil left))
+                  (are_same given line all (earlier ++ []) left room.came after.came (set room.clients.items place new) after.clients.items came items all_are),
+            );
+      };
+    },
+    refl,
+  )
+  goes_on_at state_of before later room after place old new at behind now (visit ∷ other ∷ more) still within here door number is never items came counted = absurd never
 
   -- ---- an office that serves them
 
   module _ {S : Type 0} (state_of : Held S → State) where
+    abbrev gated : Bool
+    gated = is_some given.clients.gate
+
+    -- those that are in change so, whatever moment the clock showed last
+    abbrev pub CourseBy : List Visit → DoorsEntry L → DoorsEntry L → List (Client L) → List (Client L) → Type 0
+    CourseBy visits before later old new = (from : Option ℕ) → (to : Option ℕ) × Course gated line (map turn_of visits) from to before later old new
+
     -- nobody had a turn
-    pub serving_none : (before later : DoorsEntry L) (old new : Room L) (office : Desk S) → GoesOn given line [] before later old new
-        → GoesOnServing given line state_of before later old new office office
-    serving_none before later old new office goes = record { visits = []; each = refl; goes_on = goes }
+    pub serves_none : (before later : DoorsEntry L) (old new : Room L) (office : Desk S) → GoesOn given line [] before later old new → CourseBy [] before later old.clients.items new.clients.items
+        → ServesOn given line state_of before later old new office office
+    serves_none before later old new office goes course = λ from. let (to, it) = course from in (to, record { visits = []; each = refl; goes_on = goes }, it)
 
-    pub serving_then : (before mid later : DoorsEntry L) (old went new : Room L) (at between behind : Desk S)
-        → GoesOnServing given line state_of before mid old went at between → GoesOnServing given line state_of mid later went new between behind
-        → GoesOnServing given line state_of before later old new at behind
-    serving_then before mid later old went new at between behind a b = record {
-      visits = a.visits ++ b.visits;
-      each = folds_then (ServesVisit given state_of) a.visits b.visits at between behind a.each b.each;
-      goes_on = goes_then a.visits b.visits before mid later old went new a.goes_on b.goes_on;
-    }
+    pub serves_then : (before mid later : DoorsEntry L) (old went new : Room L) (at between behind : Desk S)
+        → ServesOn given line state_of before mid old went at between → ServesOn given line state_of mid later went new between behind → ServesOn given line state_of before later old new at behind
+    serves_then before mid later old went new at between behind first next = λ from.
+        let (between_shown, a, first_course) = first from in
+        let (to, b, next_course) = next between_shown in (
+          to,
+          record {
+            visits = a.visits ++ b.visits;
+            each = folds_then (ServesVisit given state_of) a.visits b.visits at between behind a.each b.each;
+            goes_on = goes_then a.visits b.visits before mid later old went new a.goes_on b.goes_on;
+          },
+          subst (λ (ts : List Turn). Course gated line ts from to before later old.clients.items new.clients.items) (sym (map-append turn_of a.visits b.visits))
+              (course_then gated line (map turn_of a.visits) (map turn_of b.visits) from between_shown to before mid later old.clients.items went.clients.items new.clients.items first_course next_course),
+        )
 
-    -- nothing is known of the doors behind that but what was
-    pub serving_still : (before mid later : DoorsEntry L) (old new : Room L) (at behind : Desk S) → IsStill mid later
-        → GoesOnServing given line state_of before mid old new at behind → GoesOnServing given line state_of before later old new at behind
-    serving_still before mid later old new at behind still it =
-        serving_then before mid later old new new at behind behind it (serving_none mid later new new behind (goes_none mid later new still))
+    -- one had these visits
+    serves_just : (visits : List Visit) (before later : DoorsEntry L) (old new : Room L) (at behind : Desk S) → ServesJust state_of visits before later old new at behind
+        → CourseBy visits before later old.clients.items new.clients.items → ServesOn given line state_of before later old new at behind
+    serves_just visits before later old new at behind (it, just) course = λ from.
+        let (to, so) = course from in
+        (to, it, subst (λ (vs : List Visit). Course gated line (map turn_of vs) from to before later old.clients.items new.clients.items) (sym just) so)
 
-    -- one went on, and left
-    pub left_after : (before mid later : DoorsEntry L) (room left : Room L) (place : ℕ) (old new : Client L) (why : Leaving) (at behind : Desk S) → IsStill before mid → later ≡ with_leaver mid (leaver_of new why)
-        → place < length room.clients.items → old ≡ get_or room.clients.items place old → new.door ≡ old.door → new.number ≡ old.number → ((start : L) → IsOf line start old → IsOf line start new)
-        → (now : ℕ) × MayHaveTurn given line state_of now old new at behind → MayLeave line why new → left.clients.items ≡ remove room.clients.items place → left.came ≡ room.came → left.counted ≡ room.counted
-        → GoesOnServing given line state_of before later room left at behind
-    left_after before mid later room left place old new why at behind still back within here door number is turn may items came counted =
-        let went = room_with room place new in
-        serving_then before mid later room went left at behind behind (goes_on_at state_of before mid room went place old new at behind still within here door number is turn refl refl refl)
-        (serving_none mid later went left behind
-        (goes_less mid later went left place new why back (omega (arith, within, length-set room.clients.items place new)) (λ d. sym (get_or-set_same room.clients.items place new d within)) may
-        (items ∙ sym (remove_set room.clients.items place new within)) came counted))
+    -- a wait, which may fail
+    pub serves_wait : (result : Result (Unit {0}) Broken) (before mid later : DoorsEntry L) (old new : Room L) (at behind : Desk S) → later ≡ after_wait result mid
+        → ServesOn given line state_of before mid old new at behind → ServesOn given line state_of before later old new at behind
+    serves_wait result before mid later old new at behind is on =
+        serves_then before mid later old new new at behind behind on (serves_none mid later new new behind (goes_none mid later new (still_wait result mid later is)) (by result is))
+      where
+        by : (r : Result (Unit {0}) Broken) → later ≡ after_wait r mid → CourseBy [] mid later new.clients.items new.clients.items
+        by (Ok value) same = λ from. (from, course_none gated line from mid later new.clients.items (ap (λ (d : DoorsEntry L). d.events) same))
+        by (Err broken) same = λ from. (from, course_fails gated line from mid later new.clients.items same)
 
-    -- one went on, and stands in its place again
-    pub back_after : (before later : DoorsEntry L) (room taken back : Room L) (place : ℕ) (old new : Client L) (at behind : Desk S) → IsStill before later → place < length room.clients.items
-        → old ≡ get_or room.clients.items place old → new.door ≡ old.door → new.number ≡ old.number → ((start : L) → IsOf line start old → IsOf line start new)
-        → (now : ℕ) × MayHaveTurn given line state_of now old new at behind
-        → taken.clients.items ≡ remove room.clients.items place → back.clients.items ≡ insert taken.clients.items place new → back.came ≡ room.came → back.counted ≡ room.counted
-        → GoesOnServing given line state_of before later room back at behind
-    back_after before later room taken back place old new at behind still within here door number is turn out items came counted =
-        goes_on_at state_of before later room back place old new at behind still within here door number is turn
-        (items ∙ ap (λ (cs : List (Client L)). insert cs place new) out ∙ set_again room.clients.items place new within) came counted
+    -- the clock failed
+    pub serves_failure : (before mid later : DoorsEntry L) (old new : Room L) (at behind : Desk S) → later ≡ with_failure mid
+        → ServesOn given line state_of before mid old new at behind → ServesOn given line state_of before later old new at behind
+    serves_failure before mid later old new at behind is on =
+        serves_then before mid later old new new at behind behind on (serves_none mid later new new behind (goes_none mid later new (ap (λ (d : DoorsEntry L). d.came) is, ap (λ (d : DoorsEntry L). d.left) is))
+        (λ from. (from, course_fails gated line from mid later new.clients.items is)))
+
+    -- nothing is known of the doors but what was
+    pub serves_still : (before later : DoorsEntry L) (room : Room L) (office : Desk S) → later ≡ before → ServesOn given line state_of before later room room office office
+    serves_still before later room office is =
+        serves_none before later room room office (goes_none before later room (still_known before later is)) (λ from. (from, course_none gated line from before later room.clients.items (ap (λ (d : DoorsEntry L). d.events) is)))
+
+    -- one was named that isn't in
+    pub serves_nobody : (number : ℕ) (before later : DoorsEntry L) (room : Room L) (office : Desk S) → later ≡ after_ready (Some number) before → ServesOn given line state_of before later room room office office
+    serves_nobody number before later room office is =
+        serves_none before later room room office (goes_none before later room (ap (λ (d : DoorsEntry L). d.came) is, ap (λ (d : DoorsEntry L). d.left) is))
+        (λ from. (from, course_misses gated line from number before later room.clients.items is))
+
+    -- some were closed until no more bytes were held than may be
+    pub serves_within : (before later : DoorsEntry L) (old new : Room L) (office : Desk S) → AreLetGo IsLetGoForBytes before later old new → ServesOn given line state_of before later old new office office
+    serves_within before later old new office gone =
+        serves_none before later old new office (goes_without IsLetGoForBytes bytes_outs before later old new gone)
+        (λ from. (from, course_closes gated line IsLetGoForBytes from (bytes_due gated line from) before later old new gone))
+
+    -- ---- one that was named went on
+
+    -- the visits that it had are its turns
+    had_turns : (gate : Option ℕ) (visits : List Visit) (old new : Client L) (at behind : Desk S) → HasVisits given line state_of (moment_of gate) visits old new at behind → IsAtGate gated gate visits
+        → HadTurns gated gate (map turn_of visits) old new
+    had_turns gate [] old new at behind (same, answer) at_gate = answer
+    had_turns gate (visit ∷ []) old new at behind (turn, one) at_gate =
+        (sym (ap (λ (v : Visit). v.number) one) ∙ turn.number, turn.unanswered, turn.his ∙ ap (λ (v : Visit). Some v.answer) one, at_gate)
+    had_turns gate (visit ∷ other ∷ more) old new at behind never at_gate = absurd never
+
+    module _ (before ready : DoorsEntry L) (room : Room L) (place number : ℕ) (old new : Client L) (at behind : Desk S) (named : ready ≡ after_ready (Some number) before) (within : place < length room.clients.items)
+        (here : old ≡ get_or room.clients.items place old) (numbered : IsNumbered room.clients.items place number) (door : new.door ≡ old.door) (same : new.number ≡ old.number)
+        (is : (start : L) → IsOf line start old → IsOf line start new) where
+      his_number : old.number ≡ number
+      his_number = ap (λ (c : Client L). c.number) here ∙ numbered old
+
+      named_still : (later : DoorsEntry L) → IsStill ready later → IsStill before later
+      named_still later (in_same, left_same) = (in_same ∙ ap (λ (d : DoorsEntry L). d.came) named, left_same ∙ ap (λ (d : DoorsEntry L). d.left) named)
+
+      serves_back : (result : Result (Option Leaving) Broken) (later : DoorsEntry L) (taken back : Room L) → (went : WentOn gated given line state_of result ready later old new at behind)
+          → CourseBy went.visits before later room.clients.items (set room.clients.items place new)
+          → taken.clients.items ≡ remove room.clients.items place → back.clients.items ≡ insert taken.clients.items place new → back.came ≡ room.came → back.counted ≡ room.counted
+          → ServesOn given line state_of before later room back at behind
+      serves_back result later taken back went course out items came counted =
+          let again : back.clients.items ≡ set room.clients.items place new =
+          items ∙ ap (λ (cs : List (Client L)). insert cs place new) out ∙ set_again room.clients.items place new within in
+          serves_just went.visits before later room back at behind
+          (goes_on_at state_of before later room back place old new at behind (moment_of went.gate) went.visits
+          (named_still later (still_comes line (map turn_of went.visits) old new result went.gate ready later went.comes)) within here door same is went.had again came counted)
+          (subst (λ (cs : List (Client L)). CourseBy went.visits before later room.clients.items cs) (sym again) course)
+
+      -- it is in its place again
+      pub serves_stays : (later : DoorsEntry L) (taken back : Room L) → WentOn gated given line state_of (Ok None) ready later old new at behind
+          → taken.clients.items ≡ remove room.clients.items place → back.clients.items ≡ insert taken.clients.items place new → back.came ≡ room.came → back.counted ≡ room.counted
+          → ServesOn given line state_of before later room back at behind
+      serves_stays later taken back went out items came counted =
+          serves_back (Ok None) later taken back went
+          (λ from. course_stays gated line from room.clients.items place number old new went.gate (map turn_of went.visits) within here his_number (door, same) is
+          (had_turns went.gate went.visits old new at behind went.had went.at_gate) before ready later named went.comes) out items came counted
+
+      -- so it is where the clock failed
+      pub serves_stops : (broken : Broken) (later : DoorsEntry L) (taken back : Room L) → WentOn gated given line state_of (Err broken) ready later old new at behind
+          → taken.clients.items ≡ remove room.clients.items place → back.clients.items ≡ insert taken.clients.items place new → back.came ≡ room.came → back.counted ≡ room.counted
+          → ServesOn given line state_of before later room back at behind
+      serves_stops broken later taken back went out items came counted =
+          serves_back (Err broken) later taken back went
+          (λ from. course_stops gated line from room.clients.items place number old new went.gate (map turn_of went.visits) within here his_number (door, same) is
+          (had_turns went.gate went.visits old new at behind went.had went.at_gate) broken before ready later named went.comes) out items came counted
+
+      -- it left
+      pub serves_leaves : (why : Leaving) (mid later : DoorsEntry L) (left : Room L) → WentOn gated given line state_of (Ok (Some why)) ready mid old new at behind → later ≡ with_leaver mid (leaver_of new why)
+          → left.clients.items ≡ remove room.clients.items place → left.came ≡ room.came → left.counted ≡ room.counted → ServesOn given line state_of before later room left at behind
+      serves_leaves why mid later left went back items came counted =
+          let stands = room_with room place new in
+          let (it, just) = goes_on_at state_of before mid room stands place old new at behind (moment_of went.gate) went.visits
+          (named_still mid (still_comes line (map turn_of went.visits) old new (Ok (Some why)) went.gate ready mid went.comes)) within here door same is went.had refl refl refl in
+          let (since, ends, known) = went.comes in
+          serves_just went.visits before later room left at behind (
+            record {
+              visits = it.visits ++ [];
+              each = folds_then (ServesVisit given state_of) it.visits [] at behind behind it.each refl;
+              goes_on = goes_then it.visits [] before mid later room stands left it.goes_on
+                  (goes_less mid later stands left place new why back (omega (arith, within, length-set room.clients.items place new)) (λ d. sym (get_or-set_same room.clients.items place new d within))
+                  (may_leave line why new ends) (items ∙ sym (remove_set room.clients.items place new within)) came counted);
+            },
+            append-nil it.visits ∙ just,
+          )
+          (subst (λ (cs : List (Client L)). CourseBy went.visits before later room.clients.items cs) (sym items)
+          (λ from. course_leaves gated line from room.clients.items place number old new went.gate (map turn_of went.visits) within here his_number (door, same) is
+          (had_turns went.gate went.visits old new at behind went.had went.at_gate) why before ready mid later named went.comes back))
+
+    -- ---- a round
 
     -- those that were in went on, late ones were closed, and more came in
-    pub serving_round : (before mid now gone later : DoorsEntry L) (old went left new : Room L) (at behind : Desk S) (moment : ℕ)
-        → GoesOnServing given line state_of before mid old went at behind → IsStill mid now → AreLetGo (IsLetGo (late_by moment)) now gone went left → GoesOn given line [] gone later left new
-        → GoesOnServing given line state_of before later old new at behind
-    serving_round before mid now gone later old went left new at behind moment on still late more =
-        serving_then before now later old went new at behind behind (serving_still before mid now old went at behind still on)
-        (serving_none now later went new behind
+    pub serves_round : (before mid now gone later : DoorsEntry L) (old went left new : Room L) (at behind : Desk S) (moment : ℕ)
+        → ServesOn given line state_of before mid old went at behind → now ≡ with_moment mid moment → AreLetGo (IsLetGo (late_by moment)) now gone went left
+        → All (λ (c : Client L). moment - c.since < patience) left.clients.items → GoesOn given line [] gone later left new
+        → Course gated line [] (Some moment) (Some moment) gone later left.clients.items new.clients.items → ServesOn given line state_of before later old new at behind
+    serves_round before mid now gone later old went left new at behind moment on shown late none more course =
+        serves_then before mid later old went new at behind behind on
+        (serves_none mid later went new behind
+        (goes_then [] [] mid now later went went new (goes_none mid now went (ap (λ (d : DoorsEntry L). d.came) shown, ap (λ (d : DoorsEntry L). d.left) shown))
         (goes_then [] [] now gone later went left new (goes_without (IsLetGo (late_by moment)) (late_outs moment) now gone went left late) more))
-
-    -- all went on, and whoever was in then was closed
-    pub all_went : (before mid later : DoorsEntry L) (room went closed : Room L) (at : OfficeValue S) (kept : KeptEntry) (behind : Desk S) → kept ≡ (with_none_kept at).kept
-        → GoesOnServing given line state_of before mid room went (desk_at at kept) behind → AreLetGo IsClosed mid later went closed → GoesOnServing given line state_of before later room closed (with_none_kept at) behind
-    all_went before mid later room went closed at kept behind none on gone =
-        serving_then before mid later room went closed (with_none_kept at) behind behind (subst (λ (k : KeptEntry). GoesOnServing given line state_of before mid room went (desk_at at k) behind) none on)
-        (serving_none mid later went closed behind (goes_without IsClosed closed_outs mid later went closed gone))
+        (λ from. (
+          Some moment,
+          course_then gated line [] [] from (Some moment) (Some moment) mid gone later went.clients.items left.clients.items new.clients.items
+              (course_look gated line from moment mid now gone went left shown late none) course,
+        )))
 
     -- there was no room, so nobody came in
     pub nobody_served : (before : DoorsEntry L) (most : Option ℕ) (at : OfficeValue S) → ServesHall given line state_of before before most at at (Err ended.Memory)
@@ -336,6 +485,16 @@ module _ {L : Type 0} (given : Given) (line : Line L) where
       went = (none_in given line).went;
       left = λ k d lt. absurd (omega (arith, lt));
       once = refl;
+      closes = record {
+        end = before;
+        shown = None;
+        rest = [];
+        course = course_none gated line None before before [] refl;
+        closed = [];
+        back = with_none before;
+        each = refl;
+        none = tt;
+      };
       kept = (with_none_kept at).kept;
       each = refl;
       keeps = λ clean is_open earlier rests. kept_of given state_of earlier [] at (with_none_kept at) refl clean is_open rests;
@@ -346,53 +505,68 @@ module _ {L : Type 0} (given : Given) (line : Line L) where
         none_few (Some n) = omega arith
 
     -- a closed office stays as it is
-    pub serving_closed : (before later : DoorsEntry L) (old new : Room L) (at behind : Desk S) → GoesOnServing given line state_of before later old new at behind
-        → at.office.closed ≡ true → behind.office ≡ at.office
-    serving_closed before later old new at behind it closed = let away = turned_away given state_of it.visits at behind it.each closed in away.1
+    pub serving_closed : (before later : DoorsEntry L) (old new : Room L) (at : OfficeValue S) (kept : KeptEntry) (behind : Desk S) → ServesOn given line state_of before later old new (desk_at at kept) behind
+        → at.closed ≡ true → behind.office ≡ at
+    serving_closed before later old new at kept behind on closed = let (to, it, course) = on None in let away = turned_away given state_of it.visits (desk_at at kept) behind it.each closed in away.1
 
-    pub serving_clean : (before later : DoorsEntry L) (old new : Room L) (at behind : Desk S) → GoesOnServing given line state_of before later old new at behind
-        → HasCleanDisk (state_of behind.office.held) → HasCleanDisk (state_of at.office.held)
-    serving_clean before later old new at behind it clean = cleans given state_of it.visits at behind it.each clean
+    pub serving_clean : (before later : DoorsEntry L) (old new : Room L) (at : OfficeValue S) (kept : KeptEntry) (behind : Desk S) → ServesOn given line state_of before later old new (desk_at at kept) behind
+        → HasCleanDisk (state_of behind.office.held) → HasCleanDisk (state_of at.held)
+    serving_clean before later old new at kept behind on clean = let (to, it, course) = on None in cleans given state_of it.visits (desk_at at kept) behind it.each clean
 
     -- where it is sound with a room, it is so later
-    pub sound_later : (before later : DoorsEntry L) (old new : Room L) (at behind : Desk S) → GoesOnServing given line state_of before later old new at behind
+    pub sound_later : (before later : DoorsEntry L) (old new : Room L) (at behind : Desk S) → ServesOn given line state_of before later old new at behind
         → IsSound given line old → IsSound given line new
-    sound_later before later old new at behind it (guests, visits, left, are) =
-        let (all, came, now) = it.goes_on.own guests visits left are in (all, visits ++ it.visits, left ++ it.goes_on.gone, now)
+    sound_later before later old new at behind on (guests, visits, left, are) =
+        let (to, it, course) = on None in let (all, came, now) = it.goes_on.own guests visits left are in (all, visits ++ it.visits, left ++ it.goes_on.gone, now)
 
     -- nobody is in any more, so each was handed back
     none_is_in : (k : ℕ) (clients : List (Client L)) → clients ≡ [] → IsIn clients k → ⊥
     none_is_in k clients none it = let some = it.within in let zero : length clients ≡ 0 = ap (λ (cs : List (Client L)). length cs) none in omega (arith, some, zero)
 
-    -- all that came since the doors were opened, where nobody was in before, and nobody is in any more
-    pub hall_serves : (before later : DoorsEntry L) (most : Option ℕ) (old new : Room L) (at : OfficeValue S) (behind : Desk S) (result : Result (Unit {0}) Ended)
-        → GoesOnServing given line state_of before later old new (with_none_kept at) behind → old.clients.items ≡ [] → old.came ≡ 0 → old.counted ≡ 0 → new.clients.items ≡ [] → IfSome most (λ n. new.counted ≤ n)
+    -- all that came since the doors were opened, where nobody was in before, and those that were in at the end were closed
+    pub hall_serves : (before end later : DoorsEntry L) (most : Option ℕ) (old went new : Room L) (at : OfficeValue S) (kept : KeptEntry) (behind : Desk S) (result : Result (Unit {0}) Ended)
+        → kept ≡ (with_none_kept at).kept → ServesOn given line state_of before end old went (desk_at at kept) behind → AreLetGo IsClosed end later went new
+        → old.clients.items ≡ [] → old.came ≡ 0 → old.counted ≡ 0 → new.clients.items ≡ [] → OnOk result (went.clients.items ≡ []) → IfSome most (λ n. new.counted ≤ n)
         → OnOk result (IfSome most (λ n. new.counted ≡ n))
         → ServesHall given line state_of before later most at behind.office result
-    hall_serves before later most old new at behind result it none first uncounted empty few all =
-        let (guests, came, are) = it.goes_on.own [] [] [] (are_same given line [] [] [] 0 old.came [] old.clients.items first none (none_in given line)) in
-        let sum = it.goes_on.counted in
+    hall_serves before end later most old went new at kept behind result unkept on closing none first uncounted empty nobody few all =
+        let (shown, it, course) = on None in
+        let goes = goes_then it.visits [] before end later old went new it.goes_on (goes_without IsClosed closed_outs end later went new closing) in
+        let each = subst (λ (k : KeptEntry). FoldsTo (ServesVisit given state_of) (desk_at at k) it.visits behind) unkept it.each in
+        let (guests, came, are_so) = goes.own [] [] [] (are_same given line [] [] [] 0 old.came [] old.clients.items first none (none_in given line)) in
+        let are = subst (λ (vs : List Visit). AreIn given line guests vs goes.gone new.came new.clients.items) (append-nil it.visits) are_so in
+        let sum = goes.counted in
         let counted : new.counted ≡ clients_among (map (λ (g : Guest L). g.came) guests) =
         subst (λ (cs : List (Comer L)). new.counted ≡ clients_among cs) (sym came) (omega (arith, sum, uncounted)) in
         record {
           guests = guests;
           visits = it.visits;
-          gone = it.goes_on.gone;
-          came = subst (λ (cs : List (Comer L)). LetsInMore before.came later.came cs) (sym came) it.goes_on.told;
-          back = it.goes_on.back;
+          gone = goes.gone;
+          came = subst (λ (cs : List (Comer L)). LetsInMore before.came later.came cs) (sym came) goes.told;
+          back = goes.back;
           few = subst (λ (m : ℕ). IfSome most (λ n. m ≤ n)) counted few;
           all = subst (λ (m : ℕ). OnOk result (IfSome most (λ n. m ≡ n))) counted all;
           went = are.went;
-          left = λ k d lt. out k (get_or guests k d) (are.left k d lt);
+          left = λ k d lt. out goes.gone it.visits k (get_or guests k d) (are.left k d lt);
           once = let zero : length new.clients.items ≡ 0 = ap (λ (cs : List (Client L)). length cs) empty in omega (arith, are.sum, zero);
+          closes = record {
+            end = end;
+            shown = shown;
+            rest = went.clients.items;
+            course = subst (λ (cs : List (Client L)). Course gated line (map turn_of it.visits) None shown before end cs went.clients.items) none course;
+            closed = closing.gone;
+            back = closing.back;
+            each = subst (λ (cs : List (Client L)). FoldsTo IsClosed went.clients.items closing.gone cs) empty closing.each;
+            none = nobody;
+          };
           kept = behind.kept;
-          each = it.each;
-          keeps = λ clean is_open earlier rests. kept_of given state_of earlier it.visits at behind it.each clean is_open rests;
+          each = each;
+          keeps = λ clean is_open earlier rests. kept_of given state_of earlier it.visits at behind each clean is_open rests;
         }
       where
-        out : (k : ℕ) (guest : Guest L) → IsIn new.clients.items k ⊎ HasLeft line it.goes_on.gone it.visits k guest → HasLeft line it.goes_on.gone it.visits k guest
-        out k guest (inl is_in) = absurd (none_is_in k new.clients.items empty is_in)
-        out k guest (inr left) = left
+        out : (gone : List (Leaver L)) (visits : List Visit) (k : ℕ) (guest : Guest L) → IsIn new.clients.items k ⊎ HasLeft line gone visits k guest → HasLeft line gone visits k guest
+        out gone visits k guest (inl is_in) = absurd (none_is_in k new.clients.items empty is_in)
+        out gone visits k guest (inr left) = left
 
 -- ---- who was told nothing
 
@@ -439,9 +613,24 @@ on_err (Err e) P failed = tt
 -- ---- calls of the doors
 
 module _ {L : Type 0} where
-  pub called_one : {A : Type 0} (result : Result A Broken) (before later : DoorsEntry L) → later ≡ after_call result before → IsCalled result before later
-  called_one (Ok value) before later is = (ap (λ (d : DoorsEntry L). d.failed) is, ap (λ (d : DoorsEntry L). d.waits) is)
-  called_one (Err broken) before later is = (ap (λ (d : DoorsEntry L). d.failed) is, ap (λ (d : DoorsEntry L). d.waits) is)
+  -- one of those that are in went on: no call failed, or the clock did
+  pub called_well : (line : Line L) (turns : List Turn) (old new : Client L) (next : Option Leaving) (gate : Option ℕ) (before later : DoorsEntry L) → ComesOf line turns old new (Ok next) (with_gate gate before) later → IsUnfailed before later
+  called_well line turns old new None gate before later (inl (none, since, is)) =
+      let still = gate_still gate before in (ap (λ (d : DoorsEntry L). d.failed) is ∙ still.2, ap (λ (d : DoorsEntry L). d.waits) is ∙ still.3)
+  called_well line turns old new None gate before later (inr (one, is)) =
+      let still = gate_still gate before in (ap (λ (d : DoorsEntry L). d.failed) is ∙ still.2, ap (λ (d : DoorsEntry L). d.waits) is ∙ still.3)
+  called_well line turns old new (Some why) gate before later (since, ends, is) =
+      let still = gate_still gate before in (ap (λ (d : DoorsEntry L). d.failed) is ∙ still.2, ap (λ (d : DoorsEntry L). d.waits) is ∙ still.3)
+
+  pub called_in_vain : (line : Line L) (turns : List Turn) (old new : Client L) (broken : Broken) (gate : Option ℕ) (before later : DoorsEntry L) → ComesOf line turns old new (Err broken) (with_gate gate before) later
+      → (later.failed ≡ one_more before.failed) × (later.waits ≡ before.waits)
+  called_in_vain line turns old new broken gate before later (since, is) =
+      let still = gate_still gate before in (ap (λ (d : DoorsEntry L). d.failed) is ∙ ap one_more still.2, ap (λ (d : DoorsEntry L). d.waits) is ∙ still.3)
+
+  -- one was named
+  pub unfailed_ready : (result : Option ℕ) (before mid later : DoorsEntry L) → IsUnfailed before mid → later ≡ after_ready result mid → IsUnfailed before later
+  unfailed_ready None before mid later (failed, waits) is = (ap (λ (d : DoorsEntry L). d.failed) is ∙ failed, ap (λ (d : DoorsEntry L). d.waits) is ∙ waits)
+  unfailed_ready (Some number) before mid later (failed, waits) is = (ap (λ (d : DoorsEntry L). d.failed) is ∙ failed, ap (λ (d : DoorsEntry L). d.waits) is ∙ waits)
 
   pub unfailed_then : {A : Type 0} (result : Result A Broken) (before mid later : DoorsEntry L) → IsUnfailed before mid → IsCalled result mid later → IsCalled result before later
   unfailed_then result before mid later (failed, waits) (failed_then, waits_then) = (failed_then ∙ ap (failed_after result) failed, waits_then ∙ waits)

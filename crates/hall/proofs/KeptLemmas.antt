@@ -10,16 +10,17 @@ use Rattle.sqlite.specs.State.{HasCleanDisk, State}
 use Rattle.register.specs.Machine.{after, after_one, state_after}
 use Rattle.register.specs.Offices.{OfficeState, empty_office}
 use Rattle.register.specs.declared.command.Request.{Request}
+use Rattle.tables.specs.Faults.{fault_number}
 use Rattle.tables.specs.declared.fault.Fault.{Fault}
 use Rattle.tables.specs.declared.fault.Fault.TheVariants.{Memory}
 use Rattle.store.specs.Offices.{IsAt, LeavesState}
-use Rattle.office.specs.Answers.{IsOpenAt, IsReadAt, told_of}
+use Rattle.office.specs.Answers.{IsMemoryOrStore, IsOpenAt, IsReadAt, told_of}
 use Rattle.office.specs.Values.{OfficeValue}
 use Rattle.office.proofs.RunLemmas.{beginning}
 use Rattle.wire.specs.Asking.{AskedEntry, Asks, denied, keying, reading, shown}
-use Rattle.wire.specs.Responses.{ResponseEntry}
+use Rattle.wire.specs.Responses.{ResponseEntry, fault_response}
 use Rattle.wire.specs.Serving.{FaultLeaves, IsAnswered, IsServed, ReadiesFor, TellsAsked, TellsFault, TellsFor, told_response}
-use Rattle.wire.specs.Told.{IsTold}
+use Rattle.wire.specs.Told.{IsTold, IsWritten}
 use Rattle.wire.specs.declared.target.Reading.{Reading}
 use Rattle.wire.proofs.AskingLemmas.{AsksOneThing-all}
 use Rattle.gathering.specs.declared.client.Door.{Door}
@@ -77,20 +78,33 @@ ready_answered given bytes s (keying clerk batch entry) answer response closed s
       subst (λ x. IsOpenAt x closed st) (next ∙ ap (state_after s) same) it.open_at,
     )
 
+-- a fault that is want of memory is told as that
+tells_memory : (fault : Fault) (response : _) → fault ≡ Memory → IsTold (fault_response (fault_number fault)) response → IsWritten (fault_response 101) response
+tells_memory fault response is tells = by (subst (λ (f : Fault). IsTold (fault_response (fault_number f)) response) is tells)
+  where
+    by : IsTold (fault_response 101) response → IsWritten (fault_response 101) response
+    by (inl written) = written
+    by (inr written) = written
+
+-- and one of the store, or of either, has its number
+tells_fault : (fault : Fault) (response : _) → IsMemoryOrStore fault → IsTold (fault_response (fault_number fault)) response → TellsFault response
+tells_fault fault response (inl memory) tells = inr (tells_memory fault response memory tells)
+tells_fault fault response (inr store) tells = subst (λ (f : Fault). IsTold (fault_response (fault_number f)) response) store tells
+
 ready_failed : (given : GivenEntry) (bytes : List ℕ) (s : OfficeState) (asked : AskedEntry) (fault : Fault) (response : _) (closed : Bool) (st : State)
     → Asks given bytes asked
-    → TellsFault response → FaultLeaves s asked fault closed st → ReadyLeaves given bytes s (λ sent. TellsFor given (Some bytes) s sent response) (TellsFault response) closed st
+    → IsTold (fault_response (fault_number fault)) response → FaultLeaves s asked fault closed st → ReadyLeaves given bytes s (λ sent. TellsFor given (Some bytes) s sent response) (TellsFault response) closed st
 ready_failed given bytes s (denied why) fault response closed st asks tells leaves = absurd leaves
 ready_failed given bytes s (shown clerk show) fault response closed st asks tells leaves = absurd leaves
-ready_failed given bytes s (reading what) fault response closed st asks tells (inl kept) = inl ([], inr (tells, refl), kept.open_at)
-ready_failed given bytes s (reading what) fault response closed st asks tells (inr shut) = inr ([], tells, inl refl, (shut.is_closed, leaves_as st _ _ (before_last s []) shut.leaves))
-ready_failed given bytes s (keying clerk batch entry) fault response closed st asks tells (outcome, is, inl kept) = inl ([], inr (tells, refl), kept.open_at)
+ready_failed given bytes s (reading what) fault response closed st asks tells (inl kept) = inl ([], inr (tells_memory fault response kept.memory tells, refl), kept.open_at)
+ready_failed given bytes s (reading what) fault response closed st asks tells (inr shut) = inr ([], tells_fault fault response (inr shut.fault) tells, inl refl, (shut.is_closed, leaves_as st _ _ (before_last s []) shut.leaves))
+ready_failed given bytes s (keying clerk batch entry) fault response closed st asks tells (outcome, is, inl kept) = inl ([], inr (tells_memory fault response kept.memory tells, refl), kept.open_at)
 ready_failed given bytes s (keying clerk batch entry) fault response closed st asks tells (outcome, is, inr shut) =
     let last = is.request ∷ [] in
     let same = is.each is.request is.is in
     inr (
       last,
-      tells,
+      tells_fault fault response shut.fault tells,
       inr (clerk, batch, entry, is.request, asks, is.is, refl),
       (
         shut.is_closed,
@@ -103,12 +117,12 @@ ready_failed given bytes s (keying clerk batch entry) fault response closed st a
 
 ready_leaves : (given : GivenEntry) (bytes : List ℕ) (s : OfficeState) (response : _) (closed : Bool) (st : State) → ReadiesFor given (Some bytes) s response closed st
     → ReadyLeaves given bytes s (λ sent. TellsFor given (Some bytes) s sent response) (TellsFault response) closed st
-ready_leaves given bytes s response closed st (inr wanting) = inl ([], inr ((Memory, inl wanting.0), refl), wanting.1)
+ready_leaves given bytes s response closed st (inr wanting) = inl ([], inr (wanting.0, refl), wanting.1)
 ready_leaves given bytes s response closed st (inl ready) =
     let (answer, tells, leaves) = ready.readies in
     elim leaves [
       | inl answered ↦ ready_answered given bytes s ready.asked answer response closed st ready.asks tells answered
-      | inr failed ↦ ready_failed given bytes s ready.asked failed.0 response closed st ready.asks (failed.0, subst (λ a. IsTold a response) failed.1 tells) failed.2
+      | inr failed ↦ ready_failed given bytes s ready.asked failed.0 response closed st ready.asks (subst (λ a. IsTold a response) failed.1 tells) failed.2
     ]
 
 -- what a client who was served leaves

@@ -8,3 +8,5 @@ pub mod AnswerLemmas
 pub mod TurnLemmas
 pub mod GuestLemmas
 pub mod HallLemmas
+pub mod BlindLemmas
+pub mod AlikeLemmas

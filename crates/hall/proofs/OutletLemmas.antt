@@ -1,16 +1,17 @@
 -- What goes out of an order, one frame behind the other.
-use Rattle.std.proofs.Common.{◌≡◌, ◌∙◌, ◌<◌, ◌+◌, ◌^◌, ◌++◌, ◌⊎◌, Bool, false, true, ◌&&◌, cond, ℕ, List, None, Option, Some, ap, arith, fold, inl, inr, length, length-append, refl, subst, sym, take}
+use Rattle.std.proofs.Common.{◌≡◌, ◌∙◌, ◌<◌, ◌+◌, ◌^◌, ◌++◌, ◌⊎◌, Bool, false, true, ◌&&◌, cond, ℕ, List, [], None, Option, Some, ap, arith, drop, fold, inl, inr, length, length-append, refl, subst, sym, take}
 use Rattle.std.proofs.Common.{leb}
+use Rattle.std.specs.Prelude.{⊤, bytes_eq}
 use Rattle.std.proofs.lemmas.Bool.{le-leb, leb-true}
-use Rattle.std.proofs.lemmas.List.{take-append-le}
+use Rattle.std.proofs.lemmas.List.{append-nil, take-append-drop, take-append-le}
 use Rattle.std.proofs.lemmas.Slice.Eq.{bytes_eq-Decides}
 use Rattle.std.specs.Io.KnownBytes.{Appends, Keeps}
 use Rattle.gathering.specs.Clients.{IsTold}
 use Rattle.gathering.specs.Lines.{Delivers, HasTaken, Line}
 use Rattle.gathering.specs.declared.client.Answer.{Answer}
 use Rattle.gathering.proofs.LineLemmas.{told_more}
-use Rattle.handover.specs.Frames.{AreWhole, Place, at_kind, frame_bytes, hear, in_bytes, in_length, nothing_heard, over, said, said_by}
-use Rattle.handover.proofs.FrameLemmas.{over_more, said_more}
+use Rattle.handover.specs.Frames.{AreWhole, IsOver, Place, SaysMore, at_kind, erred_by, frame_bytes, hear, in_bytes, in_length, nothing_heard, said, said_by}
+use Rattle.handover.proofs.FrameLemmas.{said_put}
 use Rattle.hall.specs.Outlets.{IsEnded, IsGoingOut, has_taken, is_at_kind, is_going_out, said_through}
 use Rattle.hall.specs.declared.outlet.Outlet.{Outlet}
 
@@ -46,24 +47,29 @@ module _ {L : Type 0} (line : Line L) where
   pub goes_from : (o : Outlet L) → is_going_out line o ≡ true → IsGoingOut line o.line o.answer
   goes_from o is =
       let place = is_at_kind (fold hear nothing_heard o.answer.bytes.items).place in
+      let quiet = bytes_eq (erred_by o.answer.bytes.items) [] in
       let within = leb o.answer.sent (length o.answer.bytes.items) in
       let has = has_taken (line.taken o.line) (take o.answer.sent o.answer.bytes.items) in
-      let behind = next_of place (within && has) is in
+      let behind = next_of place (quiet && (within && has)) is in
+      let last = next_of quiet (within && has) behind in
       record {
-        whole = at_kind_from (fold hear nothing_heard o.answer.bytes.items).place (first_of place (within && has) is);
+        whole = at_kind_from (fold hear nothing_heard o.answer.bytes.items).place (first_of place (quiet && (within && has)) is);
+        quiet = (bytes_eq-Decides (erred_by o.answer.bytes.items) []).0 (first_of quiet (within && has) behind);
         told = record {
-          within = leb-true o.answer.sent (length o.answer.bytes.items) (first_of within has behind);
-          took = taken_from (line.taken o.line) (take o.answer.sent o.answer.bytes.items) (next_of within has behind);
+          within = leb-true o.answer.sent (length o.answer.bytes.items) (first_of within has last);
+          took = taken_from (line.taken o.line) (take o.answer.sent o.answer.bytes.items) (next_of within has last);
         };
       }
 
   pub goes_by : (o : Outlet L) → IsGoingOut line o.line o.answer → is_going_out line o ≡ true
   goes_by o goes =
       let place = is_at_kind (fold hear nothing_heard o.answer.bytes.items).place in
+      let quiet = bytes_eq (erred_by o.answer.bytes.items) [] in
       let within = leb o.answer.sent (length o.answer.bytes.items) in
       let has = has_taken (line.taken o.line) (take o.answer.sent o.answer.bytes.items) in
-      both place (within && has) (ap is_at_kind goes.whole)
-      (both within has (le-leb o.answer.sent (length o.answer.bytes.items) goes.told.within) (has_taken_by (line.taken o.line) (take o.answer.sent o.answer.bytes.items) goes.told.took))
+      both place (quiet && (within && has)) (ap is_at_kind goes.whole)
+      (both quiet (within && has) ((bytes_eq-Decides (erred_by o.answer.bytes.items) []).1 goes.quiet)
+      (both within has (le-leb o.answer.sent (length o.answer.bytes.items) goes.told.within) (has_taken_by (line.taken o.line) (take o.answer.sent o.answer.bytes.items) goes.told.took)))
 
   -- ---- what an outlet took
 
@@ -105,6 +111,7 @@ module _ {L : Type 0} (line : Line L) where
       → IsGoingOut line new after
   out_more old new before after delivers same goes = record {
     whole = subst AreWhole (sym same) goes.whole;
+    quiet = ap erred_by same ∙ goes.quiet;
     told = subst (λ (bytes : List ℕ). IsTold line new bytes after.sent) (sym same) (told_more line old new before.bytes.items before.sent after.sent goes.told delivers);
   }
 
@@ -120,31 +127,39 @@ module _ {L : Type 0} (line : Line L) where
         took = subst (HasTaken (line.taken now)) (sym same) told.took;
       }
 
-  -- a frame was put behind it
+  -- a frame was appended
   pub out_said : (now : L) (before after : Answer) (bytes : List ℕ) → length bytes < 2 ^ 32 → after.bytes.items ≡ before.bytes.items ++ frame_bytes (said bytes) → after.sent ≡ before.sent
       → IsGoingOut line now before → IsGoingOut line now after × (said_by after.bytes.items ≡ said_by before.bytes.items ++ bytes)
   out_said now before after bytes small put still goes =
-      let (more, whole) = said_more before.bytes.items bytes goes.whole small in (
-        record { whole = subst AreWhole (sym put) whole; told = told_still now before after (frame_bytes (said bytes)) put still goes.told },
-        ap said_by put ∙ more,
+      let says = said_put before.bytes.items after.bytes.items bytes put small goes.whole in (
+        record {
+          whole = says.whole;
+          quiet = says.error ∙ append-nil (erred_by before.bytes.items) ∙ goes.quiet;
+          told = told_still now before after (frame_bytes (said bytes)) put still goes.told;
+        },
+        says.output,
       )
 
-  -- the frame of the end was put behind it; or memory was wanting, and it is as it was
-  pub ended : (o : Outlet L) (bytes : List ℕ) (status : ℕ) (err : List ℕ) (after : Answer) → said_through line o ≡ Some bytes → length (take 65536 err) + 1 < 2 ^ 32 → after.sent ≡ o.answer.sent
-      → (after.bytes.items ≡ o.answer.bytes.items) ⊎ (after.bytes.items ≡ o.answer.bytes.items ++ frame_bytes (over status (take 65536 err)))
+  -- more frames were appended, of which the line took nothing yet
+  told_begun : (now : L) (before after : Answer) → take (length before.bytes.items) after.bytes.items ≡ before.bytes.items → after.sent ≡ before.sent → IsTold line now before.bytes.items before.sent
+      → IsTold line now after.bytes.items after.sent
+  told_begun now before after begins still told =
+      told_still now before after (drop (length before.bytes.items) after.bytes.items)
+      (sym (take-append-drop (length before.bytes.items) after.bytes.items) ∙ ap (λ (front : List ℕ). front ++ drop (length before.bytes.items) after.bytes.items) begins) still told
+
+  -- frames for the error output were appended, and the last frame; or memory ran out before that
+  pub ended : (o : Outlet L) (bytes : List ℕ) (status : ℕ) (err rest : List ℕ) (after : Answer) → said_through line o ≡ Some bytes → after.sent ≡ o.answer.sent
+      → take (length o.answer.bytes.items) after.bytes.items ≡ o.answer.bytes.items → SaysMore o.answer.bytes.items after.bytes.items [] rest
+      → ⊤ ⊎ ((rest ≡ err) × IsOver after.bytes.items status [])
       → IsEnded line bytes status err o.line after
-  ended o bytes status err after took small still (inl same) =
+  ended o bytes status err rest after took still begins says end =
       let (goes, is) = said_from o bytes took in
       record {
-        told = subst (λ (n : ℕ). IsTold line o.line after.bytes.items n) (sym still) (subst (λ (frames : List ℕ). IsTold line o.line frames o.answer.sent) (sym same) goes.told);
-        is = is ∙ ap said_by (sym same);
-        end = inr (subst AreWhole (sym same) goes.whole);
+        told = told_begun o.line o.answer after begins still goes.told;
+        is = is ∙ sym (says.output ∙ append-nil (said_by o.answer.bytes.items));
+        end = by end (says.error ∙ ap (λ (e : List ℕ). e ++ rest) goes.quiet);
       }
-  ended o bytes status err after took small still (inr put) =
-      let (goes, is) = said_from o bytes took in
-      let (more, whole) = over_more o.answer.bytes.items status (take 65536 err) goes.whole small in
-      record {
-        told = told_still o.line o.answer after (frame_bytes (over status (take 65536 err))) put still goes.told;
-        is = is ∙ sym (ap said_by put ∙ more);
-        end = inl (record { front = o.answer.bytes.items; whole = goes.whole; is = put });
-      }
+    where
+      by : ⊤ ⊎ ((rest ≡ err) × IsOver after.bytes.items status []) → erred_by after.bytes.items ≡ rest → (IsOver after.bytes.items status [] × (erred_by after.bytes.items ≡ err)) ⊎ AreWhole after.bytes.items
+      by (inl cut) erred = inr says.whole
+      by (inr (all, over)) erred = inl (over, erred ∙ all)

@@ -1,5 +1,5 @@
 -- A hall in which clients are served and orders followed: who comes in, who is let go, and what is promised of all of them.
-use Rattle.std.specs.Prelude.{◌≡◌, ◌≤◌, ◌<◌, ◌+◌, ◌-◌, ◌^◌, Bool, true, false, List, ◌++◌, IfSome, OnOk, Option, Result, Ok, Err, length, map, option_map, slice_index_or, ℕ}
+use Rattle.std.specs.Prelude.{◌≡◌, ◌≤◌, ◌<◌, ◌+◌, ◌-◌, ◌^◌, Bool, true, false, List, [], ◌++◌, IfSome, None, OnOk, Option, Result, Ok, Err, is_some, length, map, option_map, slice_index_or, ℕ}
 use Rattle.std.specs.List.{FoldsTo}
 use Rattle.sqlite.specs.Held.{Held}
 use Rattle.sqlite.specs.State.{HasCleanDisk, State}
@@ -9,8 +9,11 @@ use Rattle.register.specs.declared.command.Request.{Request}
 use Rattle.store.specs.Offices.{IsAt}
 use Rattle.office.specs.Values.{OfficeValue}
 use Rattle.votes.specs.declared.streams.Broken.{Broken}
+use Rattle.gathering.specs.Closing.{IsClosed, with_leavers}
+use Rattle.gathering.specs.Courses.{Course, Turn}
 use Rattle.gathering.specs.Lines.{Line, failed_after, one_more}
 use Rattle.gathering.specs.Rooms.{DoorsEntry, clients_among}
+use Rattle.gathering.specs.declared.client.Client.{Client}
 use Rattle.gathering.specs.declared.client.Comer.{Comer}
 use Rattle.gathering.specs.declared.leaver.Leaver.{Leaver}
 use Rattle.gathering.specs.declared.room.Room.{Room}
@@ -19,6 +22,7 @@ use Rattle.hall.specs.declared.ended.Ended.{Ended}
 use Rattle.hall.specs.declared.ended.Ended.TheVariants as ended
 use Rattle.hall.specs.Reads.{Desk, KeptEntry, desk_at, with_none_kept}
 use Rattle.hall.specs.Terms.{Given}
+use Rattle.hall.specs.Turns.{turn_of}
 use Rattle.hall.specs.Visits.{IsKeptOf, ServesVisit, Visit}
 
 -- those that came in grow by these
@@ -45,6 +49,28 @@ pub record GoesOnServing {L S : Type 0} (given : Given) (line : Line L) (state_o
   pub visits : List Visit
   pub each : FoldsTo (ServesVisit given state_of) at visits behind
   pub goes_on : GoesOn given line visits before later old new
+
+-- The same from whatever moment the clock showed last: and step by step these are the turns that were had, and so those came in and left.
+abbrev pub ServesOn : {L S : Type 0} → Given → Line L → (Held S → State) → DoorsEntry L → DoorsEntry L → Room L → Room L → Desk S → Desk S → Type 0
+ServesOn given line state_of before later old new at behind =
+    (from : Option ℕ) → (to : Option ℕ) × (it : GoesOnServing given line state_of before later old new at behind)
+    × Course (is_some given.clients.gate) line (map turn_of it.visits) from to before later old.clients.items new.clients.items
+
+-- the client at a place has this number
+abbrev pub IsNumbered : {L : Type 0} → List (Client L) → ℕ → ℕ → Type 0
+IsNumbered {L} clients place number = (client : Client L) → (slice_index_or clients place client).number ≡ number
+
+-- How all of them came in, went on and left, step by step. At first nobody is in, and the clock hasn't shown a moment yet. Those that are in as serving ends are closed
+-- then, one after the other; and after an end without a failure nobody is.
+pub record ClosesHall {L : Type 0} (gated : Bool) (line : Line L) (turns : List Turn) (before later : DoorsEntry L) (result : Result (Unit {0}) Ended) : Type 0 where
+  pub end : DoorsEntry L
+  pub shown : Option ℕ
+  pub rest : List (Client L)
+  pub course : Course gated line turns None shown before end [] rest
+  pub closed : List (Leaver L)
+  pub back : later ≡ with_leavers end closed
+  pub each : FoldsTo IsClosed rest closed []
+  pub none : OnOk result (rest ≡ [])
 
 -- calls of the doors, of which none failed, or the last one did; and none was a wait that didn't fail
 abbrev pub IsCalled : {A L : Type 0} → Result A Broken → DoorsEntry L → DoorsEntry L → Type 0
@@ -83,6 +109,7 @@ pub record ServesHall {L S : Type 0} (given : Given) (line : Line L) (state_of :
   pub went : WentSoWithAll given line guests visits
   pub left : (number : ℕ) (guest : Guest L) → number < length guests → HasLeft line gone visits number (slice_index_or guests number guest)
   pub once : length gone ≡ length guests
+  pub closes : ClosesHall (is_some given.clients.gate) line (map turn_of visits) before later result
   pub kept : KeptEntry
   pub each : FoldsTo (ServesVisit given state_of) (with_none_kept old) visits (desk_at new kept)
   pub keeps : HasCleanDisk (state_of new.held) → old.closed ≡ false → (earlier : List Request) → IsAt (after empty_office earlier) (state_of old.held)

@@ -12,7 +12,7 @@ use Rattle.tables.specs.declared.fault.Fault.TheVariants.{Memory, Store}
 use Rattle.store.specs.Copies.{holdings_of}
 use Rattle.office.specs.Answers.{IsOpenAt, IsReadAt, WhenOpenAt}
 use Rattle.office.specs.Values.{OfficeValue}
-use Rattle.handover.specs.Frames.{AreWhole, IsOver, said_by}
+use Rattle.handover.specs.Frames.{AreWhole, IsOver, erred_by, said_by}
 use Rattle.handover.specs.Spelling.{Fits, HandedEntry, PieceEntry, spelling}
 use Rattle.desk.specs.Copying.{copied_text}
 use Rattle.desk.specs.Folders.{File, Folder}
@@ -102,13 +102,13 @@ folder_of files path = Some (brought_at files path)
 abbrev pub untold : Outputs
 untold = record { out = Some []; out_failed = 0; err = Some []; err_failed = 0 }
 
--- What the outputs of an order took goes out in frames. What they say is what its output took. The last frame has the status and what its error
--- output took, of which it has 65536 bytes at most. Or memory was wanting for that frame, and it is missing.
+-- What the outputs of an order took goes out in frames: for the output what its output took, and for the error output all that its error output took.
+-- The last frame has the status. Or memory ran out, and that frame is missing.
 pub record IsToldInFrames (told : Outputs) (status : ℕ) (frames : List ℕ) : Type 0 where
   pub err : List ℕ
   pub is_err : told.err ≡ Some err
   pub out : told.out ≡ Some (said_by frames)
-  pub end : IsOver frames status (take 65536 err) ⊎ AreWhole frames
+  pub end : (IsOver frames status [] × (erred_by frames ≡ err)) ⊎ AreWhole frames
 
 -- a page went out in frames, so much of it
 pub record IsFramed (cut : Cut) (page : Page) (frames : List ℕ) : Type 0 where

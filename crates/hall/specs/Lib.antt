@@ -6,3 +6,4 @@ pub mod Visits
 pub mod Turns
 pub mod Guests
 pub mod Halls
+pub mod Blind

@@ -4,12 +4,12 @@ ghost use Rattle.std.specs.Prelude.{◌≡◌, ◌≢◌, ◌⊎◌, ℕ, [], Er
 ghost use Rattle.sqlite.specs.Held.{state};
 ghost use Rattle.gathering.specs.Lines.{Gathers, HasFailed, HasTaken, line_of};
 ghost use Rattle.gathering.specs.Clients.{IsOf, IsTold};
-ghost use Rattle.gathering.specs.Closing.{IsToldAll, MayLeave};
+ghost use Rattle.gathering.specs.Closing.{EndsFor, IsToldAll};
 ghost use Rattle.gathering.specs.declared.leaver.Leaving.{Leaving};
 ghost use Rattle.wire.specs.Gates.{given_entry};
 ghost use Rattle.hall.specs.Handings.{HasCameWhole};
 ghost use Rattle.hall.specs.Terms.{Given as AllGiven, given_in};
-ghost use Rattle.hall.specs.Turns.{HasCome, HasComeAt, IsSameClient, IsUntold, MayHaveTurn, answer_of};
+ghost use Rattle.hall.specs.Turns.{Attends, HasCome, HasComeAt, IsLostOnly, IsSameClient, IsUntold, answer_of};
 ghost use Rattle.office.specs.Answers.{IsOpenAt, IsReadAt, WhenOpenAt};
 ghost use Rattle.wire.specs.Asking.{Asks, reading};
 ghost use Rattle.wire.specs.declared.target.Reading.{Reading};
@@ -61,7 +61,7 @@ fn hear_body<L: Line>(
     ensures same { IsSameClient client.old client.new × (client.new.answer ≡ None) }
     ensures come { result ≡ Ok true → HasCome (given_entry given.entry) (L.held client.new.line) client.new.got.items }
     ensures broken { result ≡ Err Leaving.Broken → HasFailed (L.failed client.new.line) }
-    ensures apart { result ≢ Err Leaving.Done }
+    ensures lost { IsLostOnly result }
 {
     match client.hear(wanted)? {
         Heard::Ended => Ok(true),
@@ -84,7 +84,7 @@ fn hear_out<L: Line>(
     ensures same { IsSameClient client.old client.new × (client.new.answer ≡ None) }
     ensures come { result ≡ Ok true → HasCome (given_entry given.entry) (L.held client.new.line) client.new.got.items }
     ensures broken { result ≡ Err Leaving.Broken → HasFailed (L.failed client.new.line) }
-    ensures apart { result ≢ Err Leaving.Done }
+    ensures lost { IsLostOnly result }
 {
     let heard = client.hear(FRONT)?;
     match lacks(alloc, given, client.got.as_slice())? {
@@ -104,7 +104,7 @@ fn hear<L: Line>(alloc: Global, given: Given<'_>, client: &mut Client<L>) -> Res
     ensures same { IsSameClient client.old client.new × (client.new.answer ≡ None) }
     ensures come { result ≡ Ok true → (all : AllGiven) → all.clients ≡ given_entry given.entry → HasComeAt client.old.door all (L.held client.new.line) client.new.got.items }
     ensures broken { result ≡ Err Leaving.Broken → HasFailed (L.failed client.new.line) }
-    ensures apart { result ≢ Err Leaving.Done }
+    ensures lost { IsLostOnly result }
 {
     match client.door {
         Door::Clients => hear_out(alloc, given, client),
@@ -334,7 +334,8 @@ fn tell_more<L: Line>(client: &mut Client<L>) -> Attended
     ensures is { (start : L) → IsOf (line_of L.held L.taken L.failed) start client.old → IsOf (line_of L.held L.taken L.failed) start client.new }
     ensures same { IsSameClient client.old client.new }
     ensures his { answer_of client.new ≡ answer_of client.old }
-    ensures leaves { (why : Leaving) → result ≡ Attended.Leaves why → MayLeave (line_of L.held L.taken L.failed) why client.new }
+    ensures leaves { (why : Leaving) → result ≡ Attended.Leaves why → EndsFor (line_of L.held L.taken L.failed) why client.new }
+    ensures apart { result ≢ Attended.Served }
 {
     let Some(answer) = &mut client.answer else {
         return Attended::Waits;
@@ -370,7 +371,8 @@ fn take_turn<L: Line, A: Aside, S: Alter>(
     ensures same { IsSameClient client result.0 }
     ensures turn { (visit : Visit) × (visit.door ≡ client.door) × (visit.number ≡ client.number) × (visit.moment ≡ now) × (visit.got ≡ client.got.items)
         × ServesVisit (given_in terms.entry) (state S.Store) (desk_at office.old (kept_in kept.old)) visit (desk_at office.new (kept_in kept.new)) × (answer_of result.0 ≡ Some visit.answer) }
-    ensures leaves { (why : Leaving) → result.1 ≡ Attended.Leaves why → MayLeave (line_of L.held L.taken L.failed) why result.0 }
+    ensures leaves { (why : Leaving) → result.1 ≡ Attended.Leaves why → EndsFor (line_of L.held L.taken L.failed) why result.0 }
+    ensures apart { result.1 ≢ Attended.Waits }
 {
     let Client {
         door,
@@ -403,7 +405,8 @@ fn take_turn<L: Line, A: Aside, S: Alter>(
     };
     match tell_more(&mut client) {
         Attended::Waits => (client, Attended::Served),
-        told => (client, told),
+        Attended::Served => (client, Attended::Served),
+        Attended::Leaves(why) => (client, Attended::Leaves(why)),
     }
 }
 
@@ -424,8 +427,9 @@ pub fn attend<L: Line, A: Aside, S: Alter>(
     requires untold { IsUntold (line_of L.held L.taken L.failed) client }
     ensures is { (start : L) → IsOf (line_of L.held L.taken L.failed) start client → IsOf (line_of L.held L.taken L.failed) start result.0 }
     ensures same { IsSameClient client result.0 }
-    ensures turn { MayHaveTurn (given_in terms.entry) (line_of L.held L.taken L.failed) (state S.Store) now client result.0 (desk_at office.old (kept_in kept.old)) (desk_at office.new (kept_in kept.new)) }
-    ensures leaves { (why : Leaving) → result.1 ≡ Attended.Leaves why → MayLeave (line_of L.held L.taken L.failed) why result.0 }
+    ensures turn { Attends (given_in terms.entry) (line_of L.held L.taken L.failed) (state S.Store) now result.1 client result.0
+        (desk_at office.old (kept_in kept.old)) (desk_at office.new (kept_in kept.new)) }
+    ensures leaves { (why : Leaving) → result.1 ≡ Attended.Leaves why → EndsFor (line_of L.held L.taken L.failed) why result.0 }
 {
     let mut client = client;
     if client.answer.is_some() {

@@ -10,6 +10,7 @@
 //! `specs/Visits.antt` says what is kept of those who had their turns, and `specs/Handings.antt` what an order asks and what
 //! it prints. `specs/Reads.antt` says which answers and wrong codes are kept, and `specs/Turns.antt` what a turn is.
 //! `specs/Guests.antt` says how it went with each who came, and `specs/Halls.antt` what is promised of them all.
+//! `specs/Blind.antt` says that what a clerk is sent depends on what that clerk sees alone.
 //!
 //! ```text
 //! serve_hall(alloc, &mut doors, terms, &aside, connections, &mut office)?    // or why it ended before (`Ended`)
@@ -30,9 +31,12 @@ pub mod attending;
 // all that are in
 pub mod ended;
 mod serving;
+// what a clerk is sent
+mod blind;
 
 pub use aside::Aside;
 pub use attending::{Attended, attend};
+pub use blind::{clerks_are_answered_as_seen, halls_answer_as_seen};
 pub use ended::Ended;
 pub use serving::serve_hall;
 pub use terms::{FileNumbers, Terms};

@@ -1,22 +1,26 @@
 //! An office that serves: clients and orders come in, go on side by side, and have their turns one after the other.
 
-ghost use Rattle.std.specs.Prelude.{◌≡◌, ◌≤◌, ◌*◌, ◌<◌, ℕ, [], IfOk, IfSome, Ok, OnOk, Result, length, true};
+ghost use Rattle.std.specs.Prelude.{◌≡◌, ◌≤◌, ◌*◌, ◌<◌, ℕ, Bool, List, [], IfSome, Ok, OnOk, Result, Some, is_some, length, map, true};
 ghost use Rattle.std.specs.Duration.{as_nanos};
 ghost use Rattle.std.specs.List.{insert};
 ghost use Rattle.sqlite.specs.State.{HasCleanDisk};
 ghost use Rattle.sqlite.specs.Held.{state};
 ghost use Rattle.gathering.specs.Lines.{line_of};
 ghost use Rattle.gathering.specs.Clients.{IsOf};
-ghost use Rattle.gathering.specs.Closing.{IsWithin, MayLeave};
-ghost use Rattle.gathering.specs.Rooms.{after_call};
+ghost use Rattle.gathering.specs.Closing.{IsWithin};
+ghost use Rattle.gathering.specs.Courses.{ComesOf, Course};
+ghost use Rattle.gathering.specs.Rooms.{DoorsEntry, after_ready};
+ghost use Rattle.hall.specs.Blind.{HallsAnswerAsSeen};
 ghost use Rattle.hall.specs.Guests.{IsSound};
 ghost use Rattle.hall.specs.Reads.{desk_at, kept_in};
 ghost use Rattle.hall.specs.Terms.{Given, given_in};
-ghost use Rattle.hall.specs.Turns.{IsUntold, MayHaveTurn};
-ghost use Rattle.hall.specs.Halls.{GoesOn, GoesOnServing, IsCalled, IsEndedBy, IsRound, IsUnfailed, ServesHall};
+ghost use Rattle.hall.specs.Turns.{HasVisits, IsUntold, LooksAtGate, WentOn, turn_of};
+ghost use Rattle.hall.specs.Visits.{Visit};
+ghost use Rattle.hall.specs.Halls.{GoesOn, IsCalled, IsEndedBy, IsNumbered, IsRound, IsUnfailed, ServesHall, ServesOn};
 
 use crate::aside::Aside;
 use crate::attending::{Attended, attend};
+use crate::blind::halls_answer_as_seen;
 use crate::ended::Ended;
 use crate::remembered::Remembered;
 use crate::terms::Terms;
@@ -40,7 +44,7 @@ const ROUNDS: u64 = u64::MAX;
 
 /// Returns the time of the clock if there is a gate, at which wrong codes count; and 0 if there is none.
 fn moment_at_gate<D: Doors>(doors: &mut D, terms: Terms<'_>) -> Result<u64, Broken>
-    ensures { D.known doors.new ≡ after_call result (D.known doors.old) }
+    ensures { LooksAtGate (is_some (given_in terms.entry).clients.gate) result (D.known doors.old) (D.known doors.new) }
 {
     match terms.given.gate {
         Some(_) => doors.now(),
@@ -63,9 +67,9 @@ fn go_on_now<D: Doors, A: Aside, S: Alter>(
     requires untold { IsUntold (line_of D.Line.held D.Line.taken D.Line.failed) client }
     ensures is { (start : D.Line) → IsOf (line_of D.Line.held D.Line.taken D.Line.failed) start client → IsOf (line_of D.Line.held D.Line.taken D.Line.failed) start result.0 }
     ensures same { (result.0.door ≡ client.door) × (result.0.number ≡ client.number) }
-    ensures turn { MayHaveTurn (given_in terms.entry) (line_of D.Line.held D.Line.taken D.Line.failed) (state S.Store) now client result.0 (desk_at office.old (kept_in kept.old)) (desk_at office.new (kept_in kept.new)) }
-    ensures leaves { IfOk result.1 (λ next. IfSome next (λ why. MayLeave (line_of D.Line.held D.Line.taken D.Line.failed) why result.0)) }
-    ensures known { D.known doors.new ≡ after_call result.1 (D.known doors.old) }
+    ensures went { (visits : List Visit) × HasVisits (given_in terms.entry) (line_of D.Line.held D.Line.taken D.Line.failed) (state S.Store) now visits client result.0
+        (desk_at office.old (kept_in kept.old)) (desk_at office.new (kept_in kept.new))
+        × ComesOf (line_of D.Line.held D.Line.taken D.Line.failed) (map turn_of visits) client result.0 result.1 (D.known doors.old) (D.known doors.new) }
 {
     let (mut client, attended) = attend(alloc, terms, now, aside, client, office, kept);
     match attended {
@@ -95,10 +99,8 @@ fn go_on<D: Doors, A: Aside, S: Alter>(
     requires untold { IsUntold (line_of D.Line.held D.Line.taken D.Line.failed) client }
     ensures is { (start : D.Line) → IsOf (line_of D.Line.held D.Line.taken D.Line.failed) start client → IsOf (line_of D.Line.held D.Line.taken D.Line.failed) start result.0 }
     ensures same { (result.0.door ≡ client.door) × (result.0.number ≡ client.number) }
-    ensures turn { (now : ℕ) × MayHaveTurn (given_in terms.entry) (line_of D.Line.held D.Line.taken D.Line.failed) (state S.Store) now client result.0
-        (desk_at office.old (kept_in kept.old)) (desk_at office.new (kept_in kept.new)) }
-    ensures leaves { IfOk result.1 (λ next. IfSome next (λ why. MayLeave (line_of D.Line.held D.Line.taken D.Line.failed) why result.0)) }
-    ensures known { D.known doors.new ≡ after_call result.1 (D.known doors.old) }
+    ensures went { WentOn (is_some (given_in terms.entry).clients.gate) (given_in terms.entry) (line_of D.Line.held D.Line.taken D.Line.failed) (state S.Store) result.1
+        (D.known doors.old) (D.known doors.new) client result.0 (desk_at office.old (kept_in kept.old)) (desk_at office.new (kept_in kept.new)) }
 {
     match moment_at_gate(doors, terms) {
         Ok(now) => go_on_now(alloc, doors, terms, now, aside, client, office, kept),
@@ -120,7 +122,8 @@ fn go_on_at<D: Doors, A: Aside, S: Alter>(
     requires place { place < length room.old.clients.items }
     requires sound { IsSound (given_in terms) (line_of D.Line.held D.Line.taken D.Line.failed) room.old }
     requires within { IsWithin room.old }
-    ensures goes_on { GoesOnServing (given_in terms.entry) (line_of D.Line.held D.Line.taken D.Line.failed) (state S.Store) (D.known doors.old) (D.known doors.new) room.old room.new
+    ensures goes_on { (number : ℕ) → IsNumbered room.old.clients.items place number → (before : DoorsEntry D.Line) → D.known doors.old ≡ after_ready (Some number) before
+        → ServesOn (given_in terms.entry) (line_of D.Line.held D.Line.taken D.Line.failed) (state S.Store) before (D.known doors.new) room.old room.new
         (desk_at office.old (kept_in kept.old)) (desk_at office.new (kept_in kept.new)) }
     ensures came { room.new.came ≡ room.old.came }
     ensures counted { room.new.counted ≡ room.old.counted }
@@ -162,7 +165,8 @@ fn go_on_numbered<D: Doors, A: Aside, S: Alter>(
 ) -> Result<(), Broken>
     requires sound { IsSound (given_in terms) (line_of D.Line.held D.Line.taken D.Line.failed) room.old }
     requires within { IsWithin room.old }
-    ensures goes_on { GoesOnServing (given_in terms.entry) (line_of D.Line.held D.Line.taken D.Line.failed) (state S.Store) (D.known doors.old) (D.known doors.new) room.old room.new
+    ensures goes_on { (before : DoorsEntry D.Line) → D.known doors.old ≡ after_ready (Some number) before
+        → ServesOn (given_in terms.entry) (line_of D.Line.held D.Line.taken D.Line.failed) (state S.Store) before (D.known doors.new) room.old room.new
         (desk_at office.old (kept_in kept.old)) (desk_at office.new (kept_in kept.new)) }
     ensures came { room.new.came ≡ room.old.came }
     ensures counted { room.new.counted ≡ room.old.counted }
@@ -187,7 +191,7 @@ fn go_on_all<D: Doors, A: Aside, S: Alter>(
 ) -> Result<(), Broken>
     requires sound { IsSound (given_in terms) (line_of D.Line.held D.Line.taken D.Line.failed) room.old }
     requires within { IsWithin room.old }
-    ensures goes_on { GoesOnServing (given_in terms.entry) (line_of D.Line.held D.Line.taken D.Line.failed) (state S.Store) (D.known doors.old) (D.known doors.new) room.old room.new
+    ensures goes_on { ServesOn (given_in terms.entry) (line_of D.Line.held D.Line.taken D.Line.failed) (state S.Store) (D.known doors.old) (D.known doors.new) room.old room.new
         (desk_at office.old (kept_in kept.old)) (desk_at office.new (kept_in kept.new)) }
     ensures came { room.new.came ≡ room.old.came }
     ensures counted { room.new.counted ≡ room.old.counted }
@@ -214,6 +218,8 @@ fn let_one_in<D: Doors>(
 ) -> Option<u64>
     requires { IsWithin room.old }
     ensures goes_on { (given : Given) → GoesOn given (line_of D.Line.held D.Line.taken D.Line.failed) [] (D.known doors.old) (D.known doors.new) room.old room.new }
+    ensures course { (gated : Bool) → Course gated (line_of D.Line.held D.Line.taken D.Line.failed) [] (Some now) (Some now)
+        (D.known doors.old) (D.known doors.new) room.old.clients.items room.new.clients.items }
     ensures few { room.old.counted ≤ most → room.new.counted ≤ most }
     ensures within { IsWithin room.new }
     ensures look { IfSome result (λ look. look ≤ PATIENCE) }
@@ -254,6 +260,8 @@ fn let_in<D: Doors>(
 ) -> u64
     requires { IsWithin room.old }
     ensures goes_on { (given : Given) → GoesOn given (line_of D.Line.held D.Line.taken D.Line.failed) [] (D.known doors.old) (D.known doors.new) room.old room.new }
+    ensures course { (gated : Bool) → Course gated (line_of D.Line.held D.Line.taken D.Line.failed) [] (Some now) (Some now)
+        (D.known doors.old) (D.known doors.new) room.old.clients.items room.new.clients.items }
     ensures few { room.old.counted ≤ most → room.new.counted ≤ most }
     ensures within { IsWithin room.new }
     ensures look { result ≤ PATIENCE }
@@ -294,7 +302,7 @@ fn go_round<D: Doors, A: Aside, S: Alter>(
 ) -> Result<bool, Broken>
     requires sound { IsSound (given_in terms) (line_of D.Line.held D.Line.taken D.Line.failed) room.old }
     requires within { IsWithin room.old }
-    ensures goes_on { GoesOnServing (given_in terms.entry) (line_of D.Line.held D.Line.taken D.Line.failed) (state S.Store) (D.known doors.old) (D.known doors.new) room.old room.new
+    ensures goes_on { ServesOn (given_in terms.entry) (line_of D.Line.held D.Line.taken D.Line.failed) (state S.Store) (D.known doors.old) (D.known doors.new) room.old room.new
         (desk_at office.old (kept_in kept.old)) (desk_at office.new (kept_in kept.new)) }
     ensures few { room.old.counted ≤ most → room.new.counted ≤ most }
     ensures within { OnOk result (IsWithin room.new) }
@@ -325,10 +333,11 @@ fn go_on_serving<D: Doors, A: Aside, S: Alter>(
 ) -> Result<(), Ended>
     requires sound { IsSound (given_in terms) (line_of D.Line.held D.Line.taken D.Line.failed) room.old }
     requires within { IsWithin room.old }
-    ensures goes_on { GoesOnServing (given_in terms.entry) (line_of D.Line.held D.Line.taken D.Line.failed) (state S.Store) (D.known doors.old) (D.known doors.new) room.old room.new
+    ensures goes_on { ServesOn (given_in terms.entry) (line_of D.Line.held D.Line.taken D.Line.failed) (state S.Store) (D.known doors.old) (D.known doors.new) room.old room.new
         (desk_at office.old (kept_in kept.old)) (desk_at office.new (kept_in kept.new)) }
     ensures few { room.old.counted ≤ most → room.new.counted ≤ most }
     ensures all { OnOk result (most ≤ room.new.counted) }
+    ensures none { OnOk result (room.new.clients.items ≡ []) }
     ensures ended { IsEndedBy (D.known doors.old) (D.known doors.new) result }
 {
     for round in 0..ROUNDS {
@@ -359,6 +368,13 @@ fn go_on_serving<D: Doors, A: Aside, S: Alter>(
 /// leaves is the state after those that were answered, and at most one more. Each is answered as the office's machine says where
 /// his turn comes. A closed office stays as it is.
 ///
+/// By the doors' clock a connection is closed as late only once its half minute is over, counted from when it came in or had its
+/// turn. It is closed for room only while the room is full, or if the doors have nothing left for one more. Those that are in as
+/// serving ends are closed last, and nobody is after an end without a failure.
+///
+/// What each clerk sees of the office determines what is sent under that clerk's number, up to a fault, and but for the responses
+/// to wait and that the file is gone.
+///
 /// The error says why it ended before: the doors or their clock failed, there was no memory for a room, or there were as many
 /// rounds as there are numbers. What was answered before stands. Whoever is in then is closed.
 pub fn serve_hall<D: Doors, A: Aside, S: Alter>(
@@ -374,7 +390,10 @@ pub fn serve_hall<D: Doors, A: Aside, S: Alter>(
     ensures ended { IsEndedBy (D.known doors.old) (D.known doors.new) result }
     ensures closed { office.old.closed ≡ true → office.new ≡ office.old }
     ensures clean { HasCleanDisk (state S.Store office.new.held) → HasCleanDisk (state S.Store office.old.held) }
+    // What each clerk is sent depends on what that clerk sees.
+    ensures blind { HallsAnswerAsSeen (line_of D.Line.held D.Line.taken D.Line.failed) (state S.Store) }
 {
+    halls_answer_as_seen::<D, S>();
     let most = connections.unwrap_or(u64::MAX);
     let Ok(mut room) = Room::new(alloc) else {
         return Err(Ended::Memory);

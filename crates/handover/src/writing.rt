@@ -144,6 +144,7 @@ fn put_err_parts(out: &mut Vec<u8>, bytes: &[u8]) -> Result<(), AllocError>
 
 /// Appends frames that say these bytes for the error output, 64 KiB at most in each.
 pub fn put_err_frames(out: &mut Vec<u8>, bytes: &[u8]) -> Result<(), AllocError>
+    ensures begins { take (length out.old.items) out.new.items ≡ out.old.items }
     ensures heard { OnOk result (AreWhole out.old.items → SaysMore out.old.items out.new.items [] bytes.now) }
     ensures err { OnErr result (out.new.items ≡ out.old.items) }
 {

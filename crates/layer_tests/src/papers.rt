@@ -2,8 +2,8 @@
 
 use crate::printed::is_text;
 use paper::{
-    CandidateStatus, Columns, Keyed, MarkFault, Marked, Marks, Prefs, Standing, available_from,
-    judge, next_available,
+    CandidateStatus, Columns, Keyed, MarkFault, Marked, Marks, Prefs, Rejection, Standing,
+    available_from, judge, next_available,
 };
 use std::process::Abort;
 use std::test::Fail;
@@ -150,4 +150,32 @@ fn next_available_preferences(rt: HostRuntime) {
     for case in &STANDING {
         stands(&rt, &standing, case);
     }
+}
+
+/// The texts of the errors, in the order of their numbers.
+const TEXTS: &str =
+    "wrong number of fields|not a number|number over 99|no first preference|more than one first preference|\
+    no official mark|voter identifiable|void for uncertainty";
+
+#[test]
+fn errors_print_their_texts(rt: HostRuntime) -> Result<(), Fail> {
+    let (fields, digits, over) = (
+        MarkFault::FieldCount,
+        MarkFault::NotANumber,
+        MarkFault::TooLarge,
+    );
+    let (none, several) = (
+        Rejection::NoFirstPreference,
+        Rejection::SeveralFirstPreferences,
+    );
+    let (mark, voter, void) = (
+        Rejection::NoOfficialMark,
+        Rejection::VoterIdentifiable,
+        Rejection::VoidForUncertainty,
+    );
+    let told = format!(in rt.alloc();
+        "{fields}|{digits}|{over}|{none}|{several}|{mark}|{voter}|{void}"
+    )?;
+    is_text(&rt, told.as_str(), TEXTS);
+    Ok(())
 }

@@ -1,12 +1,12 @@
 //! A copy of the office.
 
-ghost use Rattle.std.specs.Prelude.{◌≡◌, ◌⊎◌, true, false, Err, IfErr, IfOk, OnOk};
+ghost use Rattle.std.specs.Prelude.{◌≡◌, ◌⊎◌, true, false, Err, IfErr, IfOk, IsTrue, OnOk};
 ghost use Rattle.sqlite.specs.Held.{state};
 ghost use Rattle.sqlite.specs.State.{HasCleanDisk};
 ghost use Rattle.sqlite.specs.Tree.{Trees};
 ghost use Rattle.register.specs.Offices.{OfficeState};
 ghost use Rattle.tables.specs.Reading.{OnlyReads};
-ghost use Rattle.store.specs.Copies.{CopiesAt, CopiesTo, IsUnbegun, holdings_of};
+ghost use Rattle.store.specs.Copies.{CopiesAt, CopiesTo, IsUnbegun, StopsInCopying, holdings_of};
 ghost use Rattle.store.specs.Offices.{IsAt, StoresState, Wears};
 ghost use Rattle.store.specs.Openings.{IsBlank};
 ghost use Rattle.office.specs.Answers.{ClosedInCopying, IsReadAt, WhenOpenAt};
@@ -36,11 +36,13 @@ impl<S: Alter> Office<S> {
     /// Copies this office, which goes on, into the database of another connection, which has nothing in it, in one
     /// transaction. Gives how much the copy has: it opens at the very state of the office, with every receipt.
     ///
-    /// `Office` says why the office couldn't be read, and nothing is copied. Any such fault but want of memory closes it. `Taken`
-    /// and `Copy` are those of `copy`. A closed office answers `Closed`.
+    /// `Office` says why the office couldn't be read, out of memory or since the store failed, and nothing is copied. Any such fault but
+    /// out of memory closes it. `Taken` and `Copy` are those of `copy`. A closed office returns `Closed`.
     pub fn copy_open<T: Alter>(&mut self, copy: &mut Connection<T>) -> Result<Holdings, CopyFault>
         ensures copies { WhenOpenAt (state S.Store) self.old self.new
             (λ s. CopiesAt s (state T.Store copy.old) (state T.Store copy.new) result × IsReadAt s self.new.closed (state S.Store self.new.held)) }
+        ensures cause { WhenOpenAt (state S.Store) self.old self.new (λ _. IsTrue (state S.Store self.old.held).is_open → IsBlank (state T.Store copy.old)
+            → IfErr result (StopsInCopying (state S.Store self.old.held) (state S.Store self.new.held))) }
         ensures made { HasCleanDisk (state T.Store copy.new) → IsBlank (state T.Store copy.old) → IfOk result (λ h. (x : OfficeState) × (h ≡ holdings_of x) × IsAt x (state T.Store copy.new)) }
         ensures whole { HasCleanDisk (state T.Store copy.new) → IsBlank (state T.Store copy.old)
             → (trees : Trees) → (state T.Store copy.new).may_leave trees → (state T.Store copy.old).may_leave trees ⊎ ((x : OfficeState) × StoresState x trees) }

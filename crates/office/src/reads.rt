@@ -6,6 +6,7 @@ ghost use Rattle.sqlite.specs.Held.{state};
 ghost use Rattle.register.specs.Standings.{paper_at, paper_entry, status_entry, work_entry, work_of};
 ghost use Rattle.register.specs.Steps.{step_entry};
 ghost use Rattle.register.specs.Seen.{seen_by};
+ghost use Rattle.register.specs.Keepings.{is_kept_otherwise};
 ghost use Rattle.register.specs.declared.refusal.Reason.{Reason};
 ghost use Rattle.tables.specs.Reading.{OnlyReads};
 ghost use Rattle.register.specs.Elections.{ElectionEntry};
@@ -19,7 +20,9 @@ use crate::offices::Office;
 use crate::sheets::{Text, declaration, text_of, texts_are_there};
 use paper::Columns;
 use register::ranges::{is_batch_number, is_clerk, is_ward_number};
-use register::{BallotPaper, CountedWard, NextStep, Reason, Refusal, Status, WardSheet, Work};
+use register::{
+    BallotPaper, CountedWard, NextStep, Reason, Refusal, Request, Status, WardSheet, Work,
+};
 use sqlite::Alter;
 use std::alloc::{AllocError, Global};
 use store::Fault;
@@ -166,6 +169,21 @@ impl<S: Alter> Office<S> {
         ensures closed { self.old.closed ≡ true → (result ≡ Err (Stop.Fault Fault.Closed)) × (self.new ≡ self.old) }
     {
         read!(self, is_clerk(clerk) && is_batch_number(batch) => load_paper(clerk, batch), Reason::NotItsClerk)
+    }
+
+    /// Returns whether what is kept of a request that is sent again differs from what it says. A receipt has the id and the
+    /// subject of its request alone, so such a request gets the same reply whatever else it says.
+    ///
+    /// Never refused, and nothing is changed. `Memory` leaves the office open; any other fault closes it. A closed office
+    /// answers `Closed`.
+    pub fn keeps_other(&mut self, request: &Request) -> Result<bool, Stop>
+        ensures reads { ReadWhenOpen (state S.Store) self.old self.new (λ differs. differs) (λ s. Ok (is_kept_otherwise s request.now)) result }
+        ensures same { OnlyReads (state S.Store self.old.held) (state S.Store self.new.held) }
+        ensures closes { IfErr result (ClosesAt self.new.closed) }
+        ensures cause { WhenOpenAt (state S.Store) self.old self.new (λ s. IfErr result (StopsBy (state S.Store self.old.held) (state S.Store self.new.held))) }
+        ensures closed { self.old.closed ≡ true → (result ≡ Err (Stop.Fault Fault.Closed)) × (self.new ≡ self.old) }
+    {
+        read!(self, true => load_keeps_other(request))
     }
 
     /// The stage sheet of a ward: its papers, and the stages that are done, no more. Of an uncontested ward

@@ -14,7 +14,8 @@ use Rattle.register.specs.Keyings as keyings
 use Rattle.register.specs.Verdicts as verdicts
 use Rattle.register.specs.Counts as counts
 use Rattle.register.specs.Machine.{step, decided}
-use Rattle.register.specs.WorkedOffice.{WardRows, NominationRows, KeyedRows, ThirdRows, UncontestedRows}
+use Rattle.register.specs.Keepings.{has_texts}
+use Rattle.register.specs.WorkedOffice.{WardRows, NominationRows, KeyedRows, ThirdRows, UncontestedRows, KeepingRows}
 
 -- ---- names
 
@@ -118,4 +119,24 @@ uncontested_rows =
       uncontested = refl;
       nothing_to_count = refl;
       all_elected = refl;
+    }
+
+pub keeping_rows : KeepingRows
+unfolding has_texts
+keeping_rows =
+    record {
+      same_ward = λ name is. simp is refl;
+      other_seats = λ name is. refl;
+      other_name = λ name is. simp is refl;
+      same_candidate = λ name is. simp is refl;
+      withdrawn = λ name is. refl;
+      same_batch = refl;
+      other_size = refl;
+      same_third = refl;
+      other_third = refl;
+      same_papers = λ papers are. simp are refl;
+      other_papers = λ papers are. simp are refl;
+      same_verdict = λ marks is. simp is refl;
+      other_verdict = refl;
+      opened_again = refl;
     }

@@ -1,6 +1,6 @@
 -- An office worked by hand, request by request from the empty office on: what each request is answered, and the state that it
 -- leads to. A row that follows another begins at the state to which that one leads.
-use Rattle.std.specs.Prelude.{◌≡◌, ℕ, true, List, [], ◌∷◌, ◌++◌, map, codes, string_bytes}
+use Rattle.std.specs.Prelude.{◌≡◌, ℕ, true, false, List, [], ◌∷◌, ◌++◌, map, codes, string_bytes}
 use Rattle.std.specs.declared.string.String.{String}
 use Rattle.std.specs.declared.vec.Vec.{Vec}
 use Rattle.std.specs.declared.alloc.Global.{Global}
@@ -19,6 +19,7 @@ use Rattle.register.specs.declared.refusal.Reason.TheVariants.{NoDifference, Thi
 use Rattle.register.specs.Offices.{WardEntry, CandidateEntry, BatchEntry, KeyedEntry, JudgedEntry, ReceiptEntry, OfficeState, empty_office}
 use Rattle.register.specs.Papers.{is_taken, is_differing, taken_papers}
 use Rattle.register.specs.Machine.{accepted, kept, refused, step}
+use Rattle.register.specs.Keepings.{is_otherwise}
 
 -- ---- requests
 
@@ -259,3 +260,21 @@ pub record UncontestedRows : Type 0 where
   pub nothing_to_count : step (with_quay Sealed both_there (told_of_both ++ told_closed ∷ [])) 0 (codes "z1") (commands.Count (counts.Advance 8)) ≡ refused CountFinished
   pub all_elected : step (with_quay Sealed both_there (told_of_both ++ told_closed ∷ [])) 0 (codes "z1") (commands.Count (counts.Declare 8))
       ≡ accepted (with_quay Declared both_there (told_of_both ++ told_closed ∷ told (codes "z1") (codes "declare 8") (codes "ward 8 declared: 1, 2") ∷ [])) (codes "ward 8 declared: 1, 2")
+
+-- Each command that is sent again says what is kept, or something else: other seats, another name, size, third clerk, marks or verdict. A candidate that has
+-- withdrawn isn't kept. What the subject says all of is never kept otherwise.
+pub record KeepingRows : Type 0 where
+  pub same_ward : Written (codes "Harbour") (λ name. is_otherwise (in_nominations [] []) 0 (adds_ward 7 2 name) ≡ false)
+  pub other_seats : Written (codes "Harbour") (λ name. is_otherwise (in_nominations [] []) 0 (adds_ward 7 3 name) ≡ true)
+  pub other_name : Written (codes "Quay") (λ name. is_otherwise (in_nominations [] []) 0 (adds_ward 7 2 name) ≡ true)
+  pub same_candidate : Written (codes "Dee") (λ name. is_otherwise three_stand 0 (adds_candidate 7 1 name) ≡ false)
+  pub withdrawn : Written (codes "Dee") (λ name. is_otherwise (in_nominations [] []) 0 (adds_candidate 7 1 name) ≡ true)
+  pub same_batch : is_otherwise given_out 0 (adds_batch 12 7 2 4 9) ≡ false
+  pub other_size : is_otherwise given_out 0 (adds_batch 12 7 20 4 9) ≡ true
+  pub same_third : is_otherwise third_set 0 (sets_third 12 5) ≡ false
+  pub other_third : is_otherwise third_set 0 (sets_third 12 6) ≡ true
+  pub same_papers : Marked (codes "1,2," ∷ codes "D" ∷ []) (λ papers. is_otherwise keyed_once 4 (keys 12 1 papers) ≡ false)
+  pub other_papers : Marked (codes "2,1," ∷ codes "D" ∷ []) (λ papers. is_otherwise keyed_once 4 (keys 12 1 papers) ≡ true)
+  pub same_verdict : Written (codes "1,,2") (λ marks. is_otherwise judged 0 (judges 12 2 (Accept marks)) ≡ false)
+  pub other_verdict : is_otherwise judged 0 (judges 12 2 (Reject 3)) ≡ true
+  pub opened_again : is_otherwise reopened 0 (opens_again 12) ≡ false

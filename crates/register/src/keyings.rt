@@ -48,7 +48,7 @@ fn is_in_range(actor: u32, command: &KeyingCommand) -> bool
 }
 
 /// Whether a clerk is the third one, where one is set.
-fn is_third_clerk(clerk: u32, third: &Option<ThirdClerk>) -> bool
+pub fn is_third_clerk(clerk: u32, third: &Option<ThirdClerk>) -> bool
     ensures { result ≡ is_third_clerk clerk (option_map third_entry third.now) }
 {
     match third {

@@ -45,6 +45,8 @@ pub mod counts;
 pub mod keyings;
 pub mod verdicts;
 pub mod wards;
+// What is kept of a request, compared with its words.
+pub mod keepings;
 // The machine, which chooses among the subjects.
 mod machine;
 

@@ -13,7 +13,7 @@ ghost use Rattle.register.specs.Standings.{paper_at, work_of};
 ghost use Rattle.register.specs.Machine.{objections, IsNumbered, subject_of, reply_to, effect_of, judged, ruling_at, step, state_after, after, accepted_of, IsKeptAgain};
 ghost use Rattle.register.specs.Tabulated.{AddsWhatIsCounted};
 ghost use Rattle.register.specs.Additions.{IsAddedFor, DecidesAddition, AddsNoMore};
-ghost use Rattle.register.specs.WorkedOffice.{WardRows, NominationRows, KeyedRows, ThirdRows, UncontestedRows};
+ghost use Rattle.register.specs.WorkedOffice.{WardRows, NominationRows, KeyedRows, ThirdRows, UncontestedRows, KeepingRows};
 ghost use Rattle.register.specs.Views.{IsViewOf, decided_on, ruling_of, outcome_of, IsToldAlike, IsAdvanced};
 
 use crate::command::Command;
@@ -218,11 +218,13 @@ pub fn paper_is_seen()
 /// An office worked by hand, request by request from the empty one on: what each is answered, and the state
 /// that it leads to. A ward is added once. Three stand for its two seats, and its batches are given out. Two
 /// clerks key a batch alike, and its doubtful paper is judged; or they key it unequally, and it is keyed
-/// again, or by a third clerk too. In a ward where as many stand as there are seats, all are elected.
+/// again, or by a third clerk too. In a ward where as many stand as there are seats, all are elected. A request
+/// that is sent again is compared with what is kept of it.
 pub fn rows_are_worked()
     ensures wards { WardRows }
     ensures nominations { NominationRows }
     ensures keyings { KeyedRows }
     ensures third { ThirdRows }
     ensures uncontested { UncontestedRows }
+    ensures keepings { KeepingRows }
 {}

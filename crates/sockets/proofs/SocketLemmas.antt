@@ -1,5 +1,5 @@
 -- What a line gives and takes that tells none of its bytes.
-use Rattle.std.proofs.Common.{◌≡◌, ◌⊎◌, inl, inr, ◌<◌, ◌≤◌, ℕ, Bool, List, None, Ok, Err, Result, length, refl, subst, suc, sym, true, arith, zero}
+use Rattle.std.proofs.Common.{◌≡◌, ◌⊎◌, inl, inr, ◌<◌, ◌≤◌, ℕ, Bool, List, None, Option, Some, Ok, Err, Result, length, refl, subst, suc, sym, true, arith, zero}
 use Rattle.std.specs.Prelude.{IfOk}
 use Rattle.votes.specs.declared.streams.Broken.{Broken}
 use Rattle.gathering.specs.declared.line.Came.{Came}
@@ -7,8 +7,7 @@ use Rattle.gathering.specs.declared.line.Came.TheVariants.{Bytes, Nothing, End}
 use Rattle.gathering.specs.declared.doors.Admitted.{Admitted}
 use Rattle.gathering.specs.declared.doors.Admitted.TheVariants.{One, Nobody, NotNow, Full}
 use Rattle.gathering.specs.Lines.{Gives, Takes, failed_after, idle_after_read, idle_after_write}
-use Rattle.gathering.specs.Rooms.{IsFresh, IsWanted, MayCome, after_admit, after_call, after_wait}
-use Rattle.gathering.specs.declared.client.Comer.{Comer}
+use Rattle.gathering.specs.Rooms.{IsFresh, IsWanted, MayCome, after_admit, after_look, after_ready, after_wait}
 use Rattle.gathering.specs.declared.client.Door.{Door}
 use Rattle.gathering.specs.declared.client.Door.TheVariants.{Clients, Orders}
 use Rattle.sockets.specs.Watches.{ComesByDoor, FitsDoor, IsAtDoor, unknown}
@@ -66,9 +65,13 @@ still_unknown_in Nobody = refl
 still_unknown_in NotNow = refl
 still_unknown_in Full = refl
 
-pub still_unknown_now : {L A : Type 0} (result : Result A Broken) → unknown {L = L} ≡ after_call result unknown
-still_unknown_now (Ok value) = refl
+pub still_unknown_now : {L : Type 0} (result : Result ℕ Broken) → unknown {L = L} ≡ after_look result unknown
+still_unknown_now (Ok now) = refl
 still_unknown_now (Err broken) = refl
+
+pub still_unknown_ready : {L : Type 0} (result : Option ℕ) → unknown {L = L} ≡ after_ready result unknown
+still_unknown_ready (Some number) = refl
+still_unknown_ready None = refl
 
 pub still_unknown_then : {L : Type 0} (result : Result (Unit {0}) Broken) → unknown {L = L} ≡ after_wait result unknown
 still_unknown_then (Ok value) = refl

@@ -1,5 +1,5 @@
 -- What an error of the system means for a listener.
-use Rattle.std.specs.Prelude.{◌≡◌, ◌==◌, ◌||◌, if◌then◌else◌, ℕ, ℤ, Bool, Option, None, Some, Ok, Err, Result, unsigned_abs}
+use Rattle.std.specs.Prelude.{◌==◌, ◌||◌, if◌then◌else◌, ℕ, ℤ, Bool, Option, None, Some, Ok, Err, Result, unsigned_abs}
 use Rattle.std.specs.IoError.{raw_os_error}
 use Rattle.std.specs.declared.io.Error.{Error}
 use Rattle.mio.specs.declared.net.listener.TcpListener.{TcpListener}

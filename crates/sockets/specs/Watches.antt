@@ -65,6 +65,6 @@ is_known_waiting waiting.Somebody = true
 abbrev pub is_waited_at : Watch → Bool
 is_waited_at watch = is_known_waiting watch.waiting
 
--- of sockets nothing is known: neither which came and left, nor how many calls failed
+-- of sockets nothing is known: neither which came and left, nor how many calls failed, nor what the clock showed
 abbrev pub unknown : {L : Type 0} → DoorsEntry L
-unknown = record { came = None; left = None; failed = None; waits = None }
+unknown = record { came = None; left = None; failed = None; waits = None; events = None }

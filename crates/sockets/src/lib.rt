@@ -2,7 +2,7 @@
 //!
 //! [`Loopback`](loopback) listens on both loopback addresses, a [`Socket`](socket) is one connection, and [`Watch`](watch) says which
 //! connections may continue and whether another waits. No clause can say what a socket reads or accepts, which address is bound, or
-//! what the system reports ([`Doorway`](doorway) adds a clock): so a connection that is named may have nothing to read, and a call on it then returns at once.
+//! what the system reports ([`Doorway`](doorway) adds a clock). So a connection that is named may have nothing to read, and a call on it then returns at once.
 #![tactic(auto)]
 
 mod doorway;

@@ -103,17 +103,22 @@ fn put_string(out: &mut Vec<u8>, bytes: &[u8]) -> Result<(), Fail> {
     Ok(out.extend_from_slice(bytes)?)
 }
 
-/// What an order prints in frames, spelled here byte by byte: each of these, and at the end its status with what goes to the error output.
+/// Appends a frame of a kind, spelled here byte by byte.
+fn put_frame(out: &mut Vec<u8>, kind: u8, bytes: &[u8]) -> Result<(), Fail> {
+    out.push(kind)?;
+    put_string(out, bytes)
+}
+
+/// What an order prints in frames: each of these, then what goes to the error output, and at the end the status.
 fn frames(alloc: Global, told: &[&str], status: u8, err: &str) -> Result<String, Fail> {
     let mut bytes = Vec::new(alloc);
     for text in told {
-        bytes.push(1)?;
-        put_string(&mut bytes, text.as_bytes())?;
+        put_frame(&mut bytes, 1, text.as_bytes())?;
     }
-    bytes.push(2)?;
-    put_count(&mut bytes, err.len().saturating_add(1))?;
-    bytes.push(status)?;
-    bytes.extend_from_slice(err.as_bytes())?;
+    if !err.is_empty() {
+        put_frame(&mut bytes, 3, err.as_bytes())?;
+    }
+    put_frame(&mut bytes, 2, &[status])?;
     Ok(String::from_utf8(bytes)?)
 }
 

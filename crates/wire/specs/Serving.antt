@@ -13,7 +13,7 @@ use Rattle.register.specs.declared.refusal.Reason.{Reason}
 use Rattle.register.specs.Standings.{BallotPaperEntry, WorkEntry}
 use Rattle.tables.specs.Faults.{fault_number}
 use Rattle.tables.specs.declared.fault.Fault.{Fault}
-use Rattle.tables.specs.declared.fault.Fault.TheVariants.{Closed}
+use Rattle.tables.specs.declared.fault.Fault.TheVariants.{Closed, Store}
 use Rattle.office.specs.Answers.{IsClosedIn, IsKeptOpen, IsOpenAt, Told, again, done, no, told_of}
 use Rattle.office.specs.Reads.{IsClosedReading, paper_told, work_told}
 use Rattle.office.specs.Sheets.{text_told}
@@ -129,13 +129,13 @@ TellsAsked s (reading what) response sent = IsTold (reading_response s what) res
 TellsAsked s (keying clerk batch entry) response sent =
     (request : Request) × IsHandedOn clerk batch entry request × IsTold (told_response (told_of (step_of s request))) response × (sent ≡ request ∷ [])
 
--- the answer is a fault (503)
+-- the answer is a fault (503): the store failed, or memory was wanting
 abbrev pub TellsFault : Response → Type 0
-TellsFault response = (fault : Fault) × IsTold (fault_response (fault_number fault)) response
+TellsFault response = IsTold (fault_response (fault_number Store)) response
 
--- the answer is the one to what is asked; or it is a fault, and nothing was handed on, or what was is as if it had never come
+-- the answer is the one to what is asked; or memory was wanting, and nothing was handed on, or what was is as if it had never come
 abbrev pub TellsFor : GivenEntry → Option (List ℕ) → OfficeState → List Request → Response → Type 0
-TellsFor given bytes s sent response = ((asked : AskedEntry) × IfSome bytes (λ xs. Asks given xs asked) × TellsAsked s asked response sent) ⊎ (TellsFault response × (sent ≡ []))
+TellsFor given bytes s sent response = ((asked : AskedEntry) × IfSome bytes (λ xs. Asks given xs asked) × TellsAsked s asked response sent) ⊎ (IsWritten (fault_response 101) response × (sent ≡ []))
 
 -- ---- a closed office
 

@@ -1,4 +1,4 @@
-//! Growths that are refused, by `rt try --test --fail-alloc 1..` and tools/refused-in-tests: each call that fails is made once more.
+//! Growths that are refused, by `rt try --test --fail-alloc 1..` and tools/try refused-in-tests: each call that fails is made once more.
 
 ghost use Rattle.std.specs.Prelude.{◌≡◌, []};
 

@@ -54,7 +54,7 @@ fn is_found_in_count(found: &Option<Ward>, candidates: &[Candidate]) -> bool
 
 impl<S: Alter> Store<S> {
     /// The lots for the count of a ward, in the order of their stages.
-    fn list_lots(&mut self, ward: u32) -> Result<Vec<DrawnLot>, Fault>
+    pub(crate) fn list_lots(&mut self, ward: u32) -> Result<Vec<DrawnLot>, Fault>
         ensures { Loads S.Store self.old self.new result (λ s found. map lot_entry found.items ≡ lots_of s ward) }
     {
         entries_beginning::<Lots, S>(self.alloc, &mut self.conn, &[number(ward)])

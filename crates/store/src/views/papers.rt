@@ -115,7 +115,11 @@ impl<S: Alter> Store<S> {
     }
 
     /// The verdict on the paper of this number in this batch, if there is one.
-    fn find_verdict(&mut self, batch: u32, paper: u32) -> Result<Option<JudgedPaper>, Fault>
+    pub(crate) fn find_verdict(
+        &mut self,
+        batch: u32,
+        paper: u32,
+    ) -> Result<Option<JudgedPaper>, Fault>
         ensures { Loads S.Store self.old self.new result (λ s found. option_map judged_entry found ≡ verdict_at s batch paper) }
     {
         find_entry::<JudgedPapers, S>(&mut self.conn, &[number(batch), number(paper)])

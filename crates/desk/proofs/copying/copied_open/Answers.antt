@@ -9,7 +9,7 @@ use Rattle.desk.specs.Copying.{HoldsCopy, copied_text}
 use Rattle.desk.specs.Pages.{failed, failure_of, replied}
 use Rattle.desk.specs.declared.lines.Failure.TheVariants.{Office}
 use Rattle.desk.proofs.CauseLemmas.{told_fault, told_one}
-use Rattle.desk.proofs.CopyingLemmas.{holds_behind, unbegun_behind}
+use Rattle.desk.proofs.CopyingLemmas.{ends_copying, holds_behind, unbegun_behind}
 use Rattle.desk.proofs.copying.copied_open.Goals as goal
 
 pub returns-in-Ok-copied_text-clause-copied : goal.returns-in-Ok-copied_text-clause-copied
@@ -26,7 +26,7 @@ returns-in-Ok-copied_text-clause-closed g c was = absurd (told_one c.copy_open.r
 pub returns-in-Err-copied_text-clause-copied : goal.returns-in-Err-copied_text-clause-copied
 returns-in-Err-copied_text-clause-copied g c clean was s at =
     let it = c.in-Ok.ensures.copies clean was s at in
-    (inr (Office Memory, refl, λ honest blank. it.0.stops honest blank), it.1)
+    (inr (Office Memory, refl, λ opened blank. inl refl, λ honest blank. it.0.stops honest blank), it.1)
 
 pub returns-in-Err-copied_text-clause-holds : goal.returns-in-Err-copied_text-clause-holds
 returns-in-Err-copied_text-clause-holds g c = (Office Memory, refl, λ honest blank. c.copy_open.ensures.whole honest blank)
@@ -37,7 +37,9 @@ returns-in-Err-copied_text-clause-closed g c was = absurd (told_one c.copy_open.
 pub returns-in-Err-clause-copied : goal.returns-in-Err-clause-copied
 returns-in-Err-clause-copied g c clean was s at =
     let it = c.in-Err.ensures.copies clean was s at in
-    (inr (failure_of c.in-Err.fault, refl, λ honest blank. it.0.stops honest blank), it.1)
+    let old = state g.S.Store c.args.office.now.held in
+    let new = state g.S.Store c.copy_open.new.self.held in
+    (inr (failure_of c.in-Err.fault, refl, λ opened blank. ends_copying c.in-Err.fault old new (c.in-Err.ensures.cause clean was s at opened blank), λ honest blank. it.0.stops honest blank), it.1)
 
 pub returns-in-Err-clause-holds : goal.returns-in-Err-clause-holds
 returns-in-Err-clause-holds g c =

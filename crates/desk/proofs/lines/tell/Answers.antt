@@ -14,6 +14,9 @@ returns-in-Migrated g c = rw c.in-Migrated.is (printed_shown c.args.line _ _ _ _
 pub returns-in-Replied : goal.returns-in-Replied
 returns-in-Replied g c = rw c.in-Replied.is (printed_shown c.args.line _ _ _ _ (rw c.as_str.ensures.value at c.tell_text-in-Replied.ensures))
 
+pub returns-in-Noted : goal.returns-in-Noted
+returns-in-Noted g c = rw c.in-Noted.is (rw (c.as_str-in-Noted.ensures.value, c.as_str-in-Noted-2.ensures.value) at c.tell_noted.ensures)
+
 pub returns-in-CountFinished : goal.returns-in-CountFinished
 returns-in-CountFinished g c = rw c.in-CountFinished.is (printed_shown c.args.line _ _ _ _ c.tell_text-in-CountFinished.ensures)
 

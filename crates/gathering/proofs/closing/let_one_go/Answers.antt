@@ -1,6 +1,6 @@
 -- Why `let_one_go` keeps its promise.
 use Rattle.std.proofs.Common.{◌≤◌, ◌-◌, arith}
-use Rattle.gathering.proofs.ClosingLemmas.{goes_longest, none_due_unseen, none_due_young}
+use Rattle.gathering.proofs.ClosingLemmas.{goes_longest}
 use Rattle.gathering.proofs.closing.let_one_go.Goals as goal
 
 pub returns-clause-go : goal.returns-clause-go

@@ -5,7 +5,7 @@ use Rattle.gathering.specs.Lines.{line_of}
 use Rattle.hall.specs.Reads.{desk_at, kept_in}
 use Rattle.hall.specs.Halls.{IsRound}
 use Rattle.hall.specs.Terms.{given_in}
-use Rattle.hall.proofs.HallLemmas.{goes_none, more_by_none, more_by_one, serving_none, serving_then, sound_later}
+use Rattle.hall.proofs.HallLemmas.{more_by_none, more_by_one, serves_still, serves_then, sound_later}
 use Rattle.hall.proofs.serving.go_on_serving.Goals as goal
 
 pub loop-round-init : goal.loop-round-init
@@ -15,7 +15,7 @@ loop-round-init g c =
     let known = g.D.Doors.known c.args.doors.now in
     let room = c.args.room.now in
     record {
-      goes_on = serving_none given line (state g.S.Store) known known room room (desk_at c.args.office.now (kept_in c.args.kept.now)) (goes_none given line known known room (refl, refl));
+      goes_on = serves_still given line (state g.S.Store) known known room (desk_at c.args.office.now (kept_in c.args.kept.now)) refl;
       few = λ few. few;
       within = c.requires.within;
       failed = refl;
@@ -31,7 +31,7 @@ loop-round-preserved g c =
     let went = c.go_round in
     let round = subst (λ (b : Bool). IsRound (Ok b) (known c.loop-round.doors) (known went.new.doors)) c.in-Ok-false.field-0-test c.in-Ok-false.ensures.round in
     record {
-      goes_on = serving_then given line (state g.S.Store) (known c.args.doors.now) (known c.loop-round.doors) (known went.new.doors) c.args.room.now c.loop-round.room went.new.room
+      goes_on = serves_then given line (state g.S.Store) (known c.args.doors.now) (known c.loop-round.doors) (known went.new.doors) c.args.room.now c.loop-round.room went.new.room
           (desk_at c.args.office.now (kept_in c.args.kept.now)) (desk_at c.loop-round.office (kept_in c.loop-round.kept)) (desk_at went.new.office (kept_in went.new.kept)) so_far.goes_on went.ensures.goes_on;
       few = λ few. went.ensures.few (so_far.few few);
       within = c.in-Ok-false.ensures.within;
@@ -43,14 +43,14 @@ pub returns-in-Ok-true-clause-goes_on : goal.returns-in-Ok-true-clause-goes_on
 returns-in-Ok-true-clause-goes_on g c =
     let known = g.D.Doors.known in
     let went = c.go_round in
-    serving_then (given_in c.args.terms) (line_of g.D.Line.Line.held g.D.Line.Line.taken g.D.Line.Line.failed) (state g.S.Store) (known c.args.doors.now) (known c.loop-round.doors) (known went.new.doors) c.args.room.now c.loop-round.room went.new.room
+    serves_then (given_in c.args.terms) (line_of g.D.Line.Line.held g.D.Line.Line.taken g.D.Line.Line.failed) (state g.S.Store) (known c.args.doors.now) (known c.loop-round.doors) (known went.new.doors) c.args.room.now c.loop-round.room went.new.room
     (desk_at c.args.office.now (kept_in c.args.kept.now)) (desk_at c.loop-round.office (kept_in c.loop-round.kept)) (desk_at went.new.office (kept_in went.new.kept)) c.loop-round.invariant.goes_on went.ensures.goes_on
 
 pub returns-in-Err-clause-goes_on : goal.returns-in-Err-clause-goes_on
 returns-in-Err-clause-goes_on g c =
     let known = g.D.Doors.known in
     let went = c.go_round in
-    serving_then (given_in c.args.terms) (line_of g.D.Line.Line.held g.D.Line.Line.taken g.D.Line.Line.failed) (state g.S.Store) (known c.args.doors.now) (known c.loop-round.doors) (known went.new.doors) c.args.room.now c.loop-round.room went.new.room
+    serves_then (given_in c.args.terms) (line_of g.D.Line.Line.held g.D.Line.Line.taken g.D.Line.Line.failed) (state g.S.Store) (known c.args.doors.now) (known c.loop-round.doors) (known went.new.doors) c.args.room.now c.loop-round.room went.new.room
     (desk_at c.args.office.now (kept_in c.args.kept.now)) (desk_at c.loop-round.office (kept_in c.loop-round.kept)) (desk_at went.new.office (kept_in went.new.kept)) c.loop-round.invariant.goes_on went.ensures.goes_on
 
 -- the room is as sound as it was

@@ -1,0 +1,30 @@
+-- Why `perform_on` keeps its promise of the order to serve: the order's words are the serving's.
+use Rattle.std.proofs.Common.{◌≡◌, ◌∙◌, ap, refl, subst, sym}
+use Rattle.sqlite.specs.Held.{state}
+use Rattle.gathering.specs.Lines.{line_of}
+use Rattle.desk.specs.Pages.{IsErrorTold}
+use Rattle.desk.specs.declared.orders.Order.{Order}
+use Rattle.desk.specs.declared.orders.Order.TheVariants as order
+use Rattle.count_office.specs.Serving.{ServesOrder}
+use Rattle.count_office.specs.declared.serving.Serving.{Serving}
+use Rattle.count_office.proofs.perform_on.Goals as goal
+
+-- what an order to serve says
+serving_in : Serving → Order → Serving
+serving_in none (order.Serve port connections origin codes) = record { port = port; connections = connections; origin = origin; codes = codes }
+serving_in none other = none
+
+same_serving : (one other : Serving) → order.Serve one.port one.connections one.origin one.codes ≡ order.Serve other.port other.connections other.origin other.codes → one ≡ other
+unfolding serving_in
+same_serving one other same = ap (serving_in one) same
+
+pub returns-in-Serve-clause-serves : goal.returns-in-Serve-clause-serves
+returns-in-Serve-clause-serves g c = λ serving is.
+    let its : Serving = record { port = c.in-Serve.port; connections = c.in-Serve.connections; origin = c.in-Serve.origin; codes = c.in-Serve.codes } in (
+      refl,
+      subst (λ (s : Serving). ServesOrder (IsErrorTold g.E.Sink.taken g.E.Sink.failed c.args.err.now c.serve.new.err) (c.serve.new.err ≡ c.args.err.now) c.serve.result.0 s
+          (g.H.Host.codes_at c.args.host.now) (g.H.Host.file c.args.host.now) (line_of g.H.Port.Line.Line.held g.H.Port.Line.Line.taken g.H.Port.Line.Line.failed) (state g.S.Store)
+          (g.H.Host.known c.args.host.now) (g.H.Host.known c.serve.new.host) c.args.conn c.serve.result.1)
+          (same_serving its serving (sym c.in-Serve.is ∙ is))
+          c.serve.ensures,
+    )

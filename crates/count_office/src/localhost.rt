@@ -1,0 +1,190 @@
+//! This machine as a host: a port of its loopback addresses, and the socket beside the database that is served.
+//!
+//! No contract can say what a socket or a file holds, so nothing is promised here. `serving.rt` says what is served on any host.
+
+ghost use Rattle.std.specs.Prelude.{◌≡◌, ◌≢◌, None, ℕ};
+ghost use Rattle.sockets.specs.declared.socket.Socket.{Socket};
+ghost use Rattle.sockets.specs.Watches.{unknown};
+
+use crate::Place;
+use crate::aside::Machine;
+use crate::beside::{Beside, closed_streams, reason_of};
+use crate::host::{Host, Opened};
+use crate::presence::Presence;
+use crate::slips::read_codes;
+use codes::{Codes, ReadError};
+use desk::Failure;
+use hall::FileNumbers;
+use mio::net::UnixListener;
+use sockets::{Doorway, Loopback, Watch};
+use std::alloc::{AllocError, Global};
+use std::fs::File;
+use std::io;
+use std::io::{ErrorKind, Write};
+use store::Fault;
+
+/// This machine, the database that is served, the socket beside it, and the standard streams that are held meanwhile.
+#[derive(Drop)]
+pub struct Localhost<'a> {
+    place: Place<'a>,
+    beside: Option<Beside>,
+    streams: Option<Vec<File>>,
+}
+
+/// Listens on a port of this machine's loopback addresses and, if there is one, on the socket for orders beside the database. Fails if
+/// one of the addresses is taken: no clause can say which are bound, and `tools/try both-addresses` tries it.
+fn listen<'a>(
+    rt: &'a HostRuntime,
+    port: u32,
+    orders: Option<UnixListener>,
+) -> io::Result<Doorway<&'a HostRuntime>> {
+    let Ok(port) = u16::try_from(port) else {
+        return Err(io::Error::from(ErrorKind::InvalidInput));
+    };
+    let clients = Loopback::bind(rt, port)?;
+    let watch = Watch::new(rt, rt.alloc(), clients, orders)?;
+    Ok(Doorway { watch, clock: rt })
+}
+
+/// Returns the failure that is printed when the doors can't be opened.
+fn failure_at_the_doors(error: &io::Error) -> Failure {
+    match error.kind() {
+        ErrorKind::OutOfMemory => Failure::Office(Fault::Memory),
+        _ => Failure::Output,
+    }
+}
+
+/// Says on the error output that there is no socket for orders. Where nobody can read that, the office serves all the same.
+fn say_no_socket(rt: &HostRuntime, error: &io::Error) {
+    let mut told = rt.stderr();
+    let why = reason_of(error);
+    let _ = writeln!(told, "no socket for orders beside the database: {why}");
+}
+
+/// Returns numbers in a row, with commas between.
+fn list_of(alloc: Global, numbers: &[u32]) -> Result<String, AllocError> {
+    let mut list = String::new(alloc);
+    for number in numbers {
+        if !list.is_empty() {
+            list.push_str(", ")?;
+        }
+        list.push_str(format!(in alloc; "{number}")?.as_str())?;
+    }
+    Ok(list)
+}
+
+/// Prints a line on standard error if codes of clerks are weak. If it can't be printed, the office serves all the same.
+fn warn_of_weak(rt: &HostRuntime, codes: &Codes) {
+    let weak = codes.weak_clerks();
+    if weak.is_empty() {
+        return;
+    }
+    if let Ok(clerks) = list_of(rt.alloc(), weak) {
+        let mut told = rt.stderr();
+        let _ = writeln!(
+            told,
+            "codes of clerks {clerks} are short, and may be guessed: make new ones with 'count-office DB codes FILE 1-40'"
+        );
+    }
+}
+
+/// Opens the doors on a port, and looks at the file of the office at a place.
+fn open_at<'a>(
+    place: Place<'a>,
+    port: u32,
+    orders: Option<UnixListener>,
+) -> Result<Opened<Doorway<&'a HostRuntime>, Machine<'a>>, Failure> {
+    let rt = place.rt;
+    let doors = match listen(rt, port, orders) {
+        Ok(doors) => doors,
+        Err(error) => return Err(failure_at_the_doors(&error)),
+    };
+    let Ok((device, inode)) = place.held.numbers() else {
+        return Err(Failure::Office(Fault::Store));
+    };
+    let Some(presence) = Presence::of(rt, place.found, place.held) else {
+        return Err(Failure::FileGone);
+    };
+    Ok(Opened {
+        doors,
+        aside: Machine { rt, presence },
+        file: FileNumbers { device, inode },
+    })
+}
+
+impl<'a> Localhost<'a> {
+    /// Returns this machine, for the database at a place.
+    pub fn at(place: Place<'a>) -> Localhost<'a> {
+        Localhost {
+            place,
+            beside: None,
+            streams: None,
+        }
+    }
+
+    /// Makes the socket beside the database. If that fails, a line on the error output says so, and no order can be handed over.
+    fn listen_beside(&mut self) -> Option<UnixListener> {
+        let rt = self.place.rt;
+        match Beside::listen(rt, self.place.found.database()) {
+            Ok((beside, orders)) => {
+                self.beside = Some(beside);
+                Some(orders)
+            }
+            Err(error) => {
+                say_no_socket(rt, &error);
+                None
+            }
+        }
+    }
+
+    /// Removes the socket beside the database, and closes the streams that were held.
+    fn clear(&mut self) {
+        if let Some(beside) = self.beside.take() {
+            beside.remove(self.place.rt);
+        }
+        self.streams = None;
+    }
+}
+
+impl<'a> Host for Localhost<'a> {
+    type Port = Doorway<&'a HostRuntime>;
+
+    type Side = Machine<'a>;
+
+    ghost known = { λ _ _. unknown };
+
+    ghost codes_at = { λ _ _. None };
+
+    ghost file = { λ _. None };
+
+    fn read_codes(&self, path: &str) -> Result<Codes, ReadError> {
+        let codes = read_codes(self.place.rt, path)?;
+        warn_of_weak(self.place.rt, &codes);
+        Ok(codes)
+    }
+
+    fn open(
+        &mut self,
+        port: u32,
+    ) -> Result<Opened<Doorway<&'a HostRuntime>, Machine<'a>>, Failure> {
+        match closed_streams(self.place.rt) {
+            Ok(streams) => self.streams = Some(streams),
+            Err(error) => return Err(failure_at_the_doors(&error)),
+        }
+        let orders = self.listen_beside();
+        let opened = open_at(self.place, port, orders);
+        if opened.is_err() {
+            self.clear();
+        }
+        opened
+    }
+
+    fn close(&mut self, port: u32, opened: Opened<Doorway<&'a HostRuntime>, Machine<'a>>)
+        ensures known { unknown {L = Socket} ≡ unknown }
+        ensures others { (other : ℕ) → other ≢ port → unknown {L = Socket} ≡ unknown }
+    {
+        let _ = port;
+        drop(opened);
+        self.clear();
+    }
+}

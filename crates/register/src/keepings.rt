@@ -1,0 +1,99 @@
+//! What is kept of a request, compared with the words of one that is sent again under its id.
+//!
+//! A receipt has the id and the subject of its request, and none of the other words. So whether a repeated request says the same is
+//! seen from the entry that the first one left.
+
+ghost use Rattle.std.specs.Prelude.{◌≡◌, map, option_map, string_bytes};
+ghost use Rattle.std.specs.List.{list_any};
+ghost use Rattle.register.specs.Offices.{ward_entry, candidate_entry, batch_entry, keyed_entry, judged_entry, lot_entry};
+ghost use Rattle.register.specs.Verdicts.{judged_as};
+ghost use Rattle.register.specs.Keepings.{is_there, is_ward_of, is_named, is_batch_of, has_texts, is_judged_alike, is_drawn};
+
+use crate::batches::Batch;
+use crate::candidates::Candidate;
+use crate::counts::DrawnLot;
+use crate::keyings::KeyedPaper;
+use crate::verdicts::{ACCEPTED, JudgedPaper, Verdict, VerdictCommand};
+use crate::wards::Ward;
+
+/// Returns whether a ward is there, of so many seats and with this name.
+pub fn is_ward_of(found: &Option<Ward>, seats: u32, name: &str) -> bool
+    ensures { result ≡ is_there (is_ward_of seats name.now) (option_map ward_entry found.now) }
+{
+    match found {
+        Some(ward) => (ward.seats == seats) & (ward.name.as_str() == name),
+        None => false,
+    }
+}
+
+/// Returns whether a candidate is there, with this name.
+pub fn is_named(found: &Option<Candidate>, name: &str) -> bool
+    ensures { result ≡ is_there (is_named name.now) (option_map candidate_entry found.now) }
+{
+    match found {
+        Some(candidate) => candidate.name.as_str() == name,
+        None => false,
+    }
+}
+
+/// Returns whether a batch is there, of this ward and this size, given to these two clerks.
+pub fn is_batch_of(
+    found: &Option<Batch>,
+    ward: u32,
+    size: u32,
+    first_clerk: u32,
+    second_clerk: u32,
+) -> bool
+    ensures { result ≡ is_there (is_batch_of ward size first_clerk second_clerk) (option_map batch_entry found.now) }
+{
+    match found {
+        Some(batch) => {
+            let clerks = (batch.first_clerk == first_clerk) & (batch.second_clerk == second_clerk);
+            (batch.ward == ward) & ((batch.size == size) & clerks)
+        }
+        None => false,
+    }
+}
+
+#[tactic(auto, unfolding(crate::specs::Keepings::has_texts))]
+/// Returns whether a keying has these marks texts, one for each paper, in order.
+pub fn has_texts(keying: &[KeyedPaper], texts: &[String]) -> bool
+    ensures { result ≡ has_texts (map keyed_entry keying.now) (map string_bytes texts.now) }
+{
+    if keying.len() != texts.len() {
+        return false;
+    }
+    for (place, keyed) in keying.iter().enumerate() {
+        if keyed.marks.as_str() != texts[place].as_str() {
+            return false;
+        }
+    }
+    true
+}
+
+/// Returns whether a verdict is there, with the code and the marks of this one.
+pub fn is_judged_alike(found: &Option<JudgedPaper>, command: &VerdictCommand) -> bool
+    ensures { result ≡ is_there (is_judged_alike (judged_as command.now.batch command.now.paper command.now.verdict)) (option_map judged_entry found.now) }
+{
+    let Some(judged) = found else {
+        return false;
+    };
+    match &command.verdict {
+        Verdict::Accept(marks) => {
+            (judged.code == ACCEPTED) & (judged.marks.as_str() == marks.as_str())
+        }
+        Verdict::Reject(code) => (judged.code == *code) & (judged.marks.as_str() == ""),
+    }
+}
+
+/// Returns whether one of some lots is of this stage, and drew this candidate.
+pub fn is_drawn(lots: &[DrawnLot], stage: u32, candidate: u32) -> bool
+    ensures { result ≡ list_any (is_drawn stage candidate) (map lot_entry lots.now) }
+{
+    for lot in lots {
+        if (lot.stage == stage) & (lot.candidate == candidate) {
+            return true;
+        }
+    }
+    false
+}

@@ -1,0 +1,136 @@
+//! Whether what is kept of a request that is sent again differs from what the request says.
+
+ghost use Rattle.std.specs.Prelude.{◌≡◌, not, map, IfOk, IfErr, string_bytes};
+ghost use Rattle.std.specs.List.{list_any};
+ghost use Rattle.sqlite.specs.State.{HasCleanDisk};
+ghost use Rattle.sqlite.specs.Held.{state};
+ghost use Rattle.register.specs.Offices.{OfficeState, ward_at, candidate_at, batch_at, third_at, keying_of, verdict_at, lots_of};
+ghost use Rattle.register.specs.Papers.{is_third_clerk};
+ghost use Rattle.register.specs.Verdicts.{judged_as};
+ghost use Rattle.register.specs.Keepings.{is_there, is_ward_of, is_named, is_batch_of, is_keying_otherwise, is_verdict_otherwise, is_drawn, is_kept_otherwise};
+ghost use Rattle.tables.specs.Reading.{OnlyReads, FailsBy};
+ghost use Rattle.store.specs.Offices.{IsAt};
+ghost use Rattle.store.specs.Loads.{Loads};
+
+use crate::storage::Store;
+use register::keepings::{has_texts, is_batch_of, is_drawn, is_judged_alike, is_named, is_ward_of};
+use register::keyings::is_third_clerk;
+use register::{
+    BatchCommand, CandidateCommand, Command, CountCommand, KeyingCommand, Request, VerdictCommand,
+    WardCommand,
+};
+use sqlite::Alter;
+use tables::Fault;
+
+impl<S: Alter> Store<S> {
+    /// Returns whether the ward of this number has other seats or another name.
+    fn ward_differs(&mut self, ward: u32, seats: u32, name: &str) -> Result<bool, Fault>
+        ensures { Loads S.Store self.old self.new result (λ s found. found ≡ not (is_there (is_ward_of seats name.now) (ward_at s ward))) }
+    {
+        let found = self.find_ward(ward)?;
+        Ok(!is_ward_of(&found, seats, name))
+    }
+
+    /// Returns whether a candidate of a ward has another name, or isn't there any more.
+    fn candidate_differs(&mut self, ward: u32, candidate: u32, name: &str) -> Result<bool, Fault>
+        ensures { Loads S.Store self.old self.new result (λ s found. found ≡ not (is_there (is_named name.now) (candidate_at s ward candidate))) }
+    {
+        let found = self.find_candidate(ward, candidate)?;
+        Ok(!is_named(&found, name))
+    }
+
+    /// Returns whether a batch is of another ward or size, or has other clerks: the first or the second.
+    fn batch_differs(
+        &mut self,
+        batch: u32,
+        ward: u32,
+        size: u32,
+        clerks: (u32, u32),
+    ) -> Result<bool, Fault>
+        ensures { Loads S.Store self.old self.new result (λ s found. found ≡ not (is_there (is_batch_of ward size clerks.0 clerks.1) (batch_at s batch))) }
+    {
+        let found = self.find_batch(batch)?;
+        Ok(!is_batch_of(&found, ward, size, clerks.0, clerks.1))
+    }
+
+    /// Returns whether a batch has another third clerk.
+    fn third_differs(&mut self, batch: u32, clerk: u32) -> Result<bool, Fault>
+        ensures { Loads S.Store self.old self.new result (λ s found. found ≡ not (is_third_clerk clerk (third_at s batch))) }
+    {
+        let found = self.find_third(batch)?;
+        Ok(!is_third_clerk(clerk, &found))
+    }
+
+    /// Returns whether a clerk's keying of a batch in a round has other papers.
+    fn keying_differs(&mut self, clerk: u32, command: &KeyingCommand) -> Result<bool, Fault>
+        ensures { Loads S.Store self.old self.new result (λ s found. found ≡ is_keying_otherwise s clerk command.now) }
+    {
+        let papers = self.list_keying(command.batch, command.round, clerk)?;
+        Ok(!has_texts(&papers, &command.papers))
+    }
+
+    /// Returns whether the verdict on a paper is another.
+    fn verdict_differs(&mut self, command: &VerdictCommand) -> Result<bool, Fault>
+        ensures { Loads S.Store self.old self.new result (λ s found. found ≡ is_verdict_otherwise s command.now) }
+    {
+        let found = self.find_verdict(command.batch, command.paper)?;
+        Ok(!is_judged_alike(&found, command))
+    }
+
+    /// Returns whether the lot of a ward at a stage drew another candidate.
+    fn lot_differs(&mut self, ward: u32, stage: u32, candidate: u32) -> Result<bool, Fault>
+        ensures { Loads S.Store self.old self.new result (λ s found. found ≡ not (list_any (is_drawn stage candidate) (lots_of s ward))) }
+    {
+        let lots = self.list_lots(ward)?;
+        Ok(!is_drawn(&lots, stage, candidate))
+    }
+
+    /// Returns whether what is kept of a request that is sent again differs from what it says. Nothing is read for a request whose
+    /// subject says all of it. It changes nothing, and adds nothing to what a stop may leave. `Memory` or `Store` if a row can't be read.
+    pub fn load_keeps_other(&mut self, request: &Request) -> Result<bool, Fault>
+        ensures shows { HasCleanDisk (state S.Store self.new) → (s : OfficeState) → IsAt s (state S.Store self.old) → IfOk result (λ found. found ≡ is_kept_otherwise s request.now) }
+        ensures cause { HasCleanDisk (state S.Store self.new) → (s : OfficeState) → IsAt s (state S.Store self.old) → IfErr result (FailsBy (state S.Store self.old) (state S.Store self.new)) }
+        ensures reads { OnlyReads (state S.Store self.old) (state S.Store self.new) }
+        ensures keeps { HasCleanDisk (state S.Store self.new) → (s : OfficeState) → IsAt s (state S.Store self.old) → IsAt s (state S.Store self.new) }
+    {
+        match &request.command {
+            Command::Ward(WardCommand::Add { ward, seats, name }) => {
+                self.ward_differs(*ward, *seats, name.as_str())
+            }
+            Command::Ward(WardCommand::Close { .. }) => Ok(false),
+            Command::Candidate(
+                CandidateCommand::Add {
+                    ward,
+                    candidate,
+                    name,
+                },
+            ) => self.candidate_differs(*ward, *candidate, name.as_str()),
+            Command::Candidate(CandidateCommand::Withdraw { .. }) => Ok(false),
+            Command::Batch(
+                BatchCommand::Add {
+                    batch,
+                    ward,
+                    size,
+                    first_clerk,
+                    second_clerk,
+                },
+            ) => self.batch_differs(*batch, *ward, *size, (*first_clerk, *second_clerk)),
+            Command::Batch(BatchCommand::Again { .. }) => Ok(false),
+            Command::Batch(BatchCommand::Third { batch, clerk }) => {
+                self.third_differs(*batch, *clerk)
+            }
+            Command::Keying(keying) => self.keying_differs(request.actor, keying),
+            Command::Verdict(judged) => self.verdict_differs(judged),
+            Command::Count(
+                CountCommand::Lot {
+                    ward,
+                    stage,
+                    candidate,
+                },
+            ) => self.lot_differs(*ward, *stage, *candidate),
+            Command::Count(CountCommand::Seal { .. }) => Ok(false),
+            Command::Count(CountCommand::Advance { .. }) => Ok(false),
+            Command::Count(CountCommand::Declare { .. }) => Ok(false),
+        }
+    }
+}

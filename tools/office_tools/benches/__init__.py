@@ -1,0 +1,1 @@
+"""Tools that measure: one module for each name of tools/bench."""

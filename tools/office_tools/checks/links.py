@@ -1,0 +1,63 @@
+"""Compares the links of the pages with what they lead to.
+
+A link within the repository leads to a file that is there, and what comes after its # is a heading of that page. Each refusal, file
+fault and fault that docs/ELECTION.md shows as printed has a link there to its own heading in docs/REFUSALS.md.
+"""
+import re
+
+from office_tools.office import ROOT
+from releasing.book import slug
+
+GUIDE = ROOT / "docs/ELECTION.md"
+FENCED = re.compile(r"^(```|~~~)([^\n]*)\n(.*?)^\1[^\n]*$", re.S | re.M)
+LINK = re.compile(r"\]\(([^)\s]+)\)")
+PRINTED = re.compile(r"^(refused \d+|file fault \d+|fault \d+)\b", re.M)
+
+
+def pages():
+    """Returns the pages of the repository."""
+    return [ROOT / name for name in ("README.md", "CHANGELOG.md", "CONTRIBUTING.md")] + sorted((ROOT / "docs").glob("*.md"))
+
+
+def without_code(text):
+    return re.sub(r"`[^`\n]*`", "code", FENCED.sub("", text))
+
+
+def headings(page):
+    """Returns the names of a page's headings, as links have them: one that comes again has a number after it."""
+    seen, names = {}, set()
+    for heading in re.findall(r"^#{1,6} +(.*)$", FENCED.sub("", page.read_text(encoding="utf-8")), re.M):
+        own = slug(re.sub(r"\[([^]]*)\]\([^)]*\)", r"\1", heading))
+        seen[own] = seen.get(own, -1) + 1
+        names.add(f"{own}-{seen[own]}" if seen[own] else own)
+    return names
+
+
+def lost(page):
+    """Yields the links of a page that lead nowhere."""
+    for target in LINK.findall(without_code(page.read_text(encoding="utf-8"))):
+        file, _, heading = target.partition("#")
+        if re.match(r"[a-z]+:", target):
+            continue
+        to = (page.parent / file).resolve() if file else page
+        if not to.exists():
+            yield f"no file of {target}"
+        elif heading and (to.suffix != ".md" or heading not in headings(to)):
+            yield f"no heading of {target}"
+
+
+def unlinked():
+    """Yields what the guide shows as printed, and has no link for."""
+    text = GUIDE.read_text(encoding="utf-8")
+    printed = {found for block in FENCED.findall(text) for found in PRINTED.findall(block[2])}
+    linked = {target.partition("#")[2] for target in LINK.findall(text) if target.startswith("REFUSALS.md#")}
+    for found in sorted(printed):
+        if not any(heading.startswith(found.replace(" ", "-") + "-") for heading in linked):
+            yield f"no link for {found}"
+
+
+def main(_):
+    faults = [f"{page.name}: {fault}" for page in pages() for fault in lost(page)]
+    faults += [f"{GUIDE.name}: {fault}" for fault in unlinked()]
+    print(*faults, sep="\n", end="\n" * bool(faults))
+    return 1 if faults else 0

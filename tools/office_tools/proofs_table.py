@@ -1,0 +1,107 @@
+"""The page docs/PROOFS-TABLE.md, made from the sources: each public function, its clauses, and the wrong bodies of it."""
+import re
+
+HEAD = """# Every public function and its clauses
+
+`tools/check proofs --write` makes this page from the sources, and `tools/check proofs` compares it with them. What the promises rest on, what is only tested, the premises and what is trusted stand in [PROOFS.md](PROOFS.md).
+
+Each function is proved safe, to return, and to meet its clauses. They stand above its body, as its documentation does, of which the first sentence is shown; a clause without a name most often says what the result is, and a dash stands where the type or the trait says all. A *wrong body* is an edit in `must-fail/` or `wrong-bodies/` of the crate that turns the meaning of the function in its row, and that the contract of its own crate refuses. Functions that aren't public, and definitions, are listed only where an edit changes them. All crates together have {public} public functions with {clauses} clauses, and {edits} wrong bodies.
+"""
+
+
+def first_sentence(comment):
+    paragraph = " ".join(re.split(r"\n\s*\n", comment.strip())[0].split())
+    found = re.match(r".*?[^.]\.(?=\s|$)", paragraph)
+    return (found.group() if found else paragraph).rstrip(".").replace("|", "\\|") or "–"
+
+
+def changes_of(edit):
+    """Returns [(file, old text)] of an edit."""
+    path, found = "", []
+    for line in edit.splitlines():
+        key, _, words = line.partition(": ")
+        if key == "file":
+            path = words.strip()
+        elif key == "old":
+            found.append((path, words))
+    return found
+
+
+def definition_at(text, place):
+    """Returns the definition of specs/, or the constant, within which a place stands; or None."""
+    names = re.findall(r"^(?:abbrev|unfoldable|record|data)\b[^:\n]*?([^\s:]+) :|\bconst (\w+):", text[:place], re.M)
+    return "".join(names[-1]) if names else None
+
+
+def targets_of(crate, edit):
+    """Returns what an edit changes: functions of the crate, or (file, name) of something else."""
+    found = []
+    for path, old in changes_of(edit):
+        there = crate.folder / path
+        text = there.read_text() if there.is_file() else ""
+        place = text.find(old)
+        inside = [f for f in crate.functions if f.path == path and f.start <= place < f.end]
+        if inside and inside[-1] not in found:
+            found.append(inside[-1])
+        elif not inside and not old.startswith("use "):
+            found.append((path, definition_at(text, place) if place >= 0 else None))
+    return found
+
+
+def misplaced(crate):
+    """Yields what is reported of the edits whose old text doesn't stand just once in its file."""
+    for name, edit in crate.edits.items():
+        for path, old in changes_of(edit):
+            there = crate.folder / path
+            times = there.read_text().count(old) if there.is_file() else 0
+            if times != 1:
+                yield f"{crate.name}/{name}.edit: its old text stands {times} times in {path}"
+
+
+def function_cell(crate, function):
+    if crate.is_shown(function):
+        return f"`{function.title}`"
+    if function.in_trait_impl:
+        return f"`{function.title}`, of `{function.owners[-1]}`"
+    return f"`{function.title}`, within `{function.path}`"
+
+
+def clauses_cell(function):
+    names = [f"`{name}`" if name else "one without a name" for name in function.ensures]
+    return ", ".join(names) or "–"
+
+
+def edits_by_target(crate):
+    """Returns {id of a function, or (file, name): the edits that change it}, and the targets that are no functions."""
+    edits, others = {}, []
+    for name, edit in crate.edits.items():
+        for target in targets_of(crate, edit):
+            key = target if isinstance(target, tuple) else id(target)
+            edits.setdefault(key, []).append(name)
+            if key is target and target not in others:
+                others.append(target)
+    return edits, others
+
+
+def section(crate):
+    """Returns the table of a crate, in the reading order of its modules; nothing if there is no row."""
+    order = re.findall(r"^(?:pub(?:\([^)]*\))? )?mod (\w+);", crate.texts.get("src/lib.rt", ""), re.M)
+    edits, others = edits_by_target(crate)
+    rows = []
+    for function in sorted(crate.functions, key=lambda f: order.index(f.module[0]) if f.module[0] in order else -1):
+        if crate.is_shown(function) or id(function) in edits:
+            refused = ", ".join(f"`{name}`" for name in edits.get(id(function), [])) or "–"
+            rows.append(f"| {function_cell(crate, function)} | {first_sentence(function.comment)} | {clauses_cell(function)} | {refused} |")
+    for path, name in others:
+        what = f"`{name}`, within `{path}`" if name else f"`{path}`"
+        rows.append(f"| {what} | – | – | {', '.join(f'`{edit}`' for edit in edits[(path, name)])} |")
+    head = [f"\n## `{crate.name}`\n", "| function | what it does | clauses | wrong bodies refused |", "|---|---|---|---|"]
+    return head + rows if rows else []
+
+
+def page(crates):
+    """Returns the whole page, as text."""
+    shown = [function for crate in crates for function in crate.functions if crate.is_shown(function)]
+    clauses, edits = sum(len(function.ensures) for function in shown), sum(len(crate.edits) for crate in crates)
+    head = HEAD.rstrip().format(public=len(shown), clauses=clauses, edits=edits)
+    return "\n".join([head] + [line for crate in crates for line in section(crate)]) + "\n"

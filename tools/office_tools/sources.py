@@ -1,0 +1,176 @@
+"""What the Rattle sources under crates/ hold: their functions, with documentation and contracts, and their wrong bodies.
+
+Read as text, by brackets and words; nothing is built or checked.
+"""
+import re
+from dataclasses import dataclass, field
+from pathlib import Path
+
+from office_tools.office import ROOT
+
+NOISE = re.compile(r'//[^\n]*|b?"(?:\\.|[^"\\])*"|b?\'(?:\\.[^\'\n]*|[^\'\\\n])\'', re.S)
+TOKEN = re.compile(r"\b(?:impl|trait)\b[^{};]*\{|\bfn\s+\w+|[{}]")
+# words of specs/ that say what several clauses say, each with its record, whose fields those are
+WORDS = {"Migrates": "Migrates", "CopiesTo": "CopiesTo", "Loads": "LoadsAt", "Alters": "Alters"}
+CONTRACT = re.compile(r"\b(ensures|requires)\b\*?\s*(\w*)\*?\s*$")
+
+
+@dataclass
+class Function:
+    """A function of a crate: where it is, whose it is, and what is said of it."""
+    path: str                   # below the crate's folder, as src/lib.rt
+    line: int
+    owners: list                # the type and the trait of its block
+    name: str
+    public: bool
+    in_trait_impl: bool
+    comment: str                # the comment above it, without its slashes
+    ensures: list = field(default_factory=list)
+    requires: list = field(default_factory=list)
+    words: dict = field(default_factory=dict)   # the first word of each of its clauses, by the clause's name
+    head: str = ""              # from `fn` to its contract, without comments and literals
+    body: str = ""              # the body, without comments and literals
+    start: int = 0              # where it begins and ends in its file
+    end: int = 0
+
+    @property
+    def title(self):
+        return f"{self.owners[0]}::{self.name}" if self.owners else self.name
+
+    @property
+    def module(self):
+        return Path(self.path).relative_to("src").with_suffix("").parts
+
+
+def masked(text):
+    """Returns the text with comments and literals blanked, each of its length."""
+    return NOISE.sub(lambda m: re.sub(r"[^\n]", " ", m.group()), text)
+
+
+def owners_of(head):
+    """Returns the types whose functions are in the block that begins so: of a trait's impl, type and trait."""
+    while re.search(r"<[^<>]*>", head.replace("->", "")):
+        head = re.sub(r"<[^<>]*>", "", head.replace("->", ""))
+    head = head.split(":")[0] if head.startswith("trait") else head
+    parts = re.split(r"\bfor\b", head.rstrip("{ \n").split(" where ")[0])
+    return [re.findall(r"\w+", part)[-1] for part in parts if re.findall(r"\w+", part)][::-1]
+
+
+def after_bracket(text, at):
+    """Returns the place after the bracket that closes the one at a place."""
+    depth = 0
+    for match in re.compile(r"[{}]").finditer(text, at):
+        depth += 1 if match.group() == "{" else -1
+        if depth == 0:
+            return match.end()
+    return len(text)
+
+
+def comment_above(lines, number):
+    """Returns the comment right above a line, past its attributes; its lines without slashes."""
+    found = []
+    while number > 0:
+        number -= 1
+        line = lines[number].strip()
+        if line.startswith("//"):
+            found.append(line.lstrip("/").strip())
+        elif not line.startswith("#["):
+            break
+    return "\n".join(reversed(found))
+
+
+def read_contract(function, text, at):
+    """Reads a function's contract from the end of its name on: the names of its clauses, and where its body is."""
+    depth, heads = 0, []
+    for match in re.compile(r"[()\[\]{};]").finditer(text, at):
+        token, place = match.group(), match.start()
+        if place < at:
+            continue
+        if token in "()[]":
+            depth += 1 if token in "([" else -1
+        elif token == ";" and depth == 0:
+            function.head, function.end = text[function.start:place], match.end()
+            break
+        elif token == "{":
+            clause = CONTRACT.search(text[at:place])
+            at = after_bracket(text, place)
+            if not clause:
+                function.head, function.body, function.end = text[function.start:place], text[place:at], at
+                break
+            (function.ensures if clause.group(1) == "ensures" else function.requires).append(clause.group(2))
+            if clause.group(1) == "ensures":
+                function.words[clause.group(2)] = re.match(r"\W*(\w*)", text[place:at]).group(1)
+            heads.append(place)
+    if heads:
+        function.head = re.split(r"\b(?:ensures|requires)\b", function.head)[0]
+
+
+def functions_in(path, source):
+    """Returns the functions of a source file, in its order; those of `mod tests` at its end left out."""
+    text, lines, found, blocks = masked(source), source.split("\n"), [], []
+    text = text[:(re.search(r"#\[cfg\(test\)\]\s*mod tests \{", text) or re.search(r"\Z", text)).start()]
+    past = 0
+    for match in TOKEN.finditer(text):
+        token = match.group()
+        if match.start() < past:
+            continue
+        if token.startswith("fn"):
+            owners, is_trait, is_impl = next((block for block in reversed(blocks) if block), ([], False, False))
+            public = is_trait or re.search(r"\bpub (const )?$", text[:match.start()]) is not None
+            line = text.count("\n", 0, match.start())
+            function = Function(path, line + 1, owners, token.split()[1], public, is_impl, comment_above(lines, line), start=match.start())
+            read_contract(function, text, match.end())
+            found.append(function)
+            past = function.end
+        elif token == "{":
+            blocks.append(None)
+        elif token == "}":
+            blocks and blocks.pop()
+        else:
+            public_trait = token.startswith("trait") and text[:match.start()].rstrip().endswith("pub")
+            blocks.append((owners_of(token), public_trait, token.startswith("impl") and " for " in token))
+    return found
+
+
+def fields_in(text):
+    """Returns {record of a file of specs/: the names of its fields}"""
+    found = {}
+    for match in re.finditer(r"^( *)pub record (\w+)[^\n]* where\n((?:\1  [^\n]*\n)+)", text, re.M):
+        found[match.group(2)] = re.findall(rf"^{match.group(1)}  pub (\w+) :", match.group(3), re.M)
+    return found
+
+
+class Crate:
+    """A crate's sources: texts by path below its folder, functions, and wrong bodies by name."""
+
+    def __init__(self, folder):
+        self.name = folder.name
+        self.texts = {str(path.relative_to(folder)): path.read_text() for path in sorted((folder / "src").rglob("*.rt"))}
+        self.functions = [f for path, text in self.texts.items() for f in functions_in(path, text)]
+        self.records = {}
+        for path in sorted(folder.glob("specs/**/*.antt")):
+            self.records.update(fields_in(path.read_text() + "\n"))
+        self.edits = {path.stem: path.read_text() for part in ("must-fail", "wrong-bodies") for path in sorted(folder.glob(part + "/*.edit"))}
+        self.folder = folder
+
+    def is_shown(self, function):
+        """Returns whether a function is public, and its module is open or its type named by a `pub use`."""
+        declared = "\n".join(self.texts.values())
+        shown = set(re.findall(r"\w+", " ".join(re.findall(r"^pub use ([^;]*);", declared, re.M))))
+        opened = set(re.findall(r"^pub mod (\w+);", declared, re.M))
+        is_open = function.module == ("lib",) or all(part in opened for part in function.module)
+        return "src/lib.rt" in self.texts and function.public and (is_open or (function.owners or [function.name])[0] in shown)
+
+
+def spread(functions, records):
+    """Puts the fields of a record in the place of a clause that says no more than that record."""
+    for function in functions:
+        function.ensures = [part for name in function.ensures for part in records.get(WORDS.get(function.words.get(name)), [name])]
+
+
+def crates():
+    """Returns all crates in the order of crates.txt, lowest first."""
+    names = [line.split(":")[0].strip() for line in (ROOT / "crates.txt").read_text().splitlines() if ":" in line.split("#")[0]]
+    found = [Crate(ROOT / "crates" / name) for name in names]
+    spread([function for crate in found for function in crate.functions], {name: fields for crate in found for name, fields in crate.records.items()})
+    return found

@@ -1,0 +1,1 @@
+"""Tools that make something fail, or play a hostile part: one module for each name of tools/try."""

@@ -1,0 +1,156 @@
+"""Plays made-up evenings, sends the journal of each to a new office, and compares all rows.
+
+docs/HOSTILE.md says what the evenings have, and what must hold. As many evenings are played side by side as there are processors
+(`taskset -c 0,1` for two).
+"""
+import collections
+import concurrent.futures
+import os
+import random
+import re
+
+from office_tools.command import numbers
+from office_tools.office import SCRIPT, Office, Wrong, temporary_folder
+from office_tools.sessions import Session, typed
+from office_tools.tables import Table
+
+SECONDS = 120
+PHASES = ("nominations", "keying", "sealed", "declared")
+REFUSED = re.compile(r"line (\d+): refused (\d+): (.*)\n")
+
+
+def arguments(parser):
+    numbers(parser, sessions=200, seed=7)
+
+
+def new_office(folder):
+    """Returns an empty office."""
+    office = Office(folder)
+    if office.run("init", seconds=SECONDS) != (0, "office ready\n", ""):
+        raise Wrong("init makes no office")
+    return office
+
+
+def replayed(office, text):
+    """Sends a text as a script."""
+    (office.folder / SCRIPT).write_text(text, encoding="utf-8", newline="")
+    return office.run("replay", SCRIPT, seconds=SECONDS)
+
+
+def sent(office, orders):
+    """Sends orders, past those that are refused. Returns for each its refusal, a number and a text, or None."""
+    results = []
+    while len(results) < len(orders):
+        rest = orders[len(results):]
+        printed = replayed(office, "".join(typed(words) + "\n" for words in rest))
+        if printed.status == 0:
+            return results + [None] * len(rest)
+        refused = REFUSED.fullmatch(printed.err)
+        if printed.status != 1 or not refused:
+            raise Wrong(f"a session's orders: {printed}")
+        results += [None] * (int(refused[1]) - 1) + [(int(refused[2]), refused[3])]
+    return results
+
+
+def played(chance, office):
+    """Plays a session. Returns how many of its orders were refused."""
+    session = Session(chance, office.folder)
+    answers, refused = {life: None for life in session.lives()}, 0
+    while answers:
+        life = chance.choice(list(answers))
+        try:
+            orders = life.send(answers[life])
+        except StopIteration:
+            del answers[life]
+            continue
+        noise = [session.noise() for _ in range(chance.choice((0, 0, 0, 1, 2)))]
+        results = sent(office, noise + orders)
+        refused += sum(result is not None for result in results)
+        answers[life] = results[len(noise):]
+    return refused
+
+
+def journal(office):
+    """Returns the journal of an office."""
+    printed = office.run("journal", seconds=SECONDS)
+    if printed.status or printed.err:
+        raise Wrong(f"journal: {printed}")
+    return printed.out
+
+
+def compared(office, chance, in_other_forms):
+    """Checks that the journal of an office makes the same office. Returns its rows."""
+    found, text = office.rows(), journal(office)
+    lines = [line for line in text.split("\n") if line and not line.startswith("#")]
+    if len(lines) != len(found["receipt"]):
+        raise Wrong(f"{len(lines)} lines for {len(found['receipt'])} receipts")
+    new = new_office(office.folder / "new")
+    printed = replayed(new, text)
+    if printed.status or printed.err or printed.out.count("\n") != len(lines):
+        raise Wrong(f"the journal sent: {printed}")
+    again = new.rows()
+    for table in found:
+        if found[table] != again[table]:
+            raise Wrong(f"table {table}: {found[table]} and {again[table]}")
+    if journal(new) != text:
+        raise Wrong("the new office has another journal")
+    if in_other_forms:
+        check_other_forms(office, chance, text, found)
+    return found
+
+
+def check_other_forms(office, chance, text, found):
+    """Sends the journal in other forms to new offices."""
+    lines = text.split("\n")
+    mixed = list(lines)
+    chance.shuffle(mixed)
+    forms = {"twice": text + text, "cut": text[:chance.randint(0, len(text))], "lines-cut": "\n".join(lines[:chance.randint(0, len(lines))]), "shuffled": "\n".join(mixed)}
+    for name, form in forms.items():
+        new = new_office(office.folder / name)
+        printed = replayed(new, form)
+        if printed.status not in (0, 1, 2) or (name == "twice" and printed.status):
+            raise Wrong(f"the journal {name}: {printed}")
+        if name == "twice" and new.rows() != found:
+            raise Wrong("the journal sent twice made other tables")
+        journal(new)
+
+
+def counted(found, refused):
+    """Returns what a session had, by its rows."""
+    had = collections.Counter({"sessions": 1, "orders accepted": len(found["receipt"]), "orders refused": refused})
+    had["candidates withdrawn"] = sum(receipt[2].startswith("withdraw ") for receipt in found["receipt"])
+    had.update(f"wards in {PHASES[ward[2] - 1]}" for ward in found["ward"])
+    had["batches"] = len(found["batch"])
+    had["rounds past the first"] = sum(batch[5] - 1 for batch in found["batch"])
+    had["third clerks"] = len(found["third"])
+    had["keyings"] = sum(keyed[3] == 1 for keyed in found["keying"])
+    had["verdicts"] = len(found["verdict"])
+    had["stages"] = sum(ward[3] for ward in found["ward"])
+    had["lots"] = len(found["lot"])
+    return had
+
+
+def session_of(seed, number):
+    """Plays one session and compares. Returns what it had, counted."""
+    chance = random.Random(f"{seed} {number}")
+    with temporary_folder() as folder:
+        try:
+            office = new_office(folder / "town")
+            refused = played(chance, office)
+            return counted(compared(office, chance, number % 10 == 0), refused)
+        except Wrong as wrong:
+            raise Wrong(f"session {number} of seed {seed}: {wrong}") from wrong
+
+
+def main(given):
+    had = collections.Counter()
+    with concurrent.futures.ThreadPoolExecutor(len(os.sched_getaffinity(0))) as pool:
+        try:
+            for result in pool.map(lambda number: session_of(given.seed, number), range(given.sessions)):
+                had.update(result)
+        except Wrong:
+            pool.shutdown(wait=False, cancel_futures=True)
+            raise
+    table = Table(f"What the sessions had (seed {given.seed})", "number")
+    for name, number in had.items():
+        table.row(name, number)

@@ -1,0 +1,60 @@
+"""Kills each order of a small election at a random moment, and sees that nothing is lost.
+
+docs/HOSTILE.md says what must hold after each kill. An import or a script may leave the rows after each of its records that was
+answered, and more.
+"""
+import random
+import statistics
+import time
+
+from office_tools.command import numbers
+from office_tools.election import election
+from office_tools.office import Wrong, ended, temporary_folder
+from office_tools.tables import Table, added
+from office_tools.trials import left, trials
+
+# The election has 99 valid papers and a doubtful one.
+COPIES = 11
+
+
+def arguments(parser):
+    numbers(parser, runs=100, seed=7)
+
+
+def seconds_of(trial):
+    """Returns how long an order takes: the middle one of three times."""
+    times = []
+    for _ in range(3):
+        began = time.perf_counter()
+        trial.order.done(trial.office.copied(trial.folder / "timed"))
+        times.append(time.perf_counter() - began)
+    return statistics.median(times)
+
+
+def killed(trial, wait):
+    """Kills the order after some seconds, and judges. Returns (whether it was killed, the number of the state that was found)."""
+    here = trial.office.copied(trial.folder / "run")
+    process = trial.order.started(here)
+    time.sleep(wait)
+    process.kill()
+    printed = ended(process)
+    trial.check_beside(here, printed, keeps=printed.status < 0)
+    place = trial.place_of(printed, left(here, printed.status))
+    if printed.status >= 0 and printed != trial.printed:
+        raise Wrong(f"{trial.order.name} ends with {printed}")
+    trial.check_again(here, printed, place)
+    return printed.status < 0, place
+
+
+def main(given):
+    chance, totals = random.Random(given.seed), [0] * 4
+    table = Table(f"Order ({given.runs} runs each, seed {given.seed})", "killed", "rows before it found", "rows after it", "some records")
+    with temporary_folder() as folder:
+        for trial in trials(folder, orders=election(COPIES)):
+            longest = 1.2 * seconds_of(trial)
+            found = [killed(trial, chance.uniform(0, longest)) for _ in range(given.runs)]
+            counts = [sum(is_killed for is_killed, _ in found), *trial.places([place for _, place in found])]
+            words = trial.order.words
+            table.row(f"`{' '.join(words if len(words) < 12 else [*words[:5], '..', *words[-2:]])}`", *counts)
+            totals = added(totals, counts)
+    table.row("all", *totals)

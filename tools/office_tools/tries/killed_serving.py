@@ -1,0 +1,191 @@
+"""Kills `serve` at random moments while clients are answered, and sees that nothing is lost.
+
+One client sends a request, at once or in pieces. Then twenty clerks key at once, next to silent clients, and ten orders are handed
+over. docs/HOSTILE.md says what must hold after each kill.
+"""
+import collections
+import json
+import random
+import socket
+import statistics
+import threading
+import time
+from concurrent.futures import ThreadPoolExecutor
+
+from office_tools.command import numbers
+from office_tools.election import REQUESTS, offices
+from office_tools.office import SECONDS, STORE, Office, Wrong, temporary_folder
+from office_tools.tables import Table
+from office_tools.trials import Trial
+from office_tools.web import BROKEN, HERE, is_whole, request
+
+PIECES = 8
+CLERKS, SILENT, PAPERS, WARDS = range(1, 21), 10, 2, range(11, 21)
+AT_ONCE, IN_PIECES, AFTER = "at once", "in pieces", "killed after the answer"
+
+
+def arguments(parser):
+    numbers(parser, runs=200, seed=7)
+
+
+def pieces(sends, chance):
+    """Returns a request cut at random places."""
+    places = sorted(chance.sample(range(1, len(sends)), PIECES))
+    return [sends[begin:end] for begin, end in zip([0, *places], [*places, len(sends)])]
+
+
+def exchanged(line, parts, pause):
+    """Sends a request in parts, and returns what comes back until the answer is whole, or the connection ends."""
+    text = b""
+    line.setsockopt(socket.IPPROTO_TCP, socket.TCP_NODELAY, 1)
+    try:
+        for number, part in enumerate(parts):
+            time.sleep(pause if number else 0)
+            line.sendall(part)
+        while not is_whole(text) and (piece := line.recv(65536)):
+            text += piece
+    except BROKEN:
+        pass
+    return text
+
+
+class OneClient:
+    """A request on the office before it, and how long its answer takes."""
+
+    def __init__(self, folder, office, order):
+        self.trial, self.sends = Trial(folder, office, order), order.sends
+        self.seconds = 0
+        self.seconds = statistics.median(self.served([self.sends])[0] for _ in range(5))
+
+    def served(self, parts, wait=None):
+        """Returns (seconds, the office, what the client had) of a `serve` that is killed after so many seconds, or after the answer."""
+        here = self.trial.office.copied(self.trial.folder / "run")
+        with here.serve(2) as serving, serving.connect() as line:
+            killer = threading.Timer(wait or 0, serving.process.kill)
+            began = time.perf_counter()
+            if wait is not None:
+                killer.start()
+            text = exchanged(line, parts, self.seconds / PIECES)
+            seconds = time.perf_counter() - began
+            if wait is not None:
+                killer.join()
+        return seconds, here, text
+
+    def killed(self, how, chance):
+        """Returns (whether the client had the whole answer, whether the rows are those after the request)."""
+        parts = pieces(self.sends, chance) if how == IN_PIECES else [self.sends]
+        longest = self.seconds * (2.4 if how == IN_PIECES else 1.2)
+        _, here, text = self.served(parts, None if how == AFTER else chance.uniform(0, longest))
+        states, found = self.trial.states, (here.rows(), None)
+        if found not in states:
+            raise Wrong(f"{self.trial.order.name} left other rows")
+        if is_whole(text) and (found != states[-1] or text.decode() != self.trial.printed.out):
+            raise Wrong(f"{self.trial.order.name} was answered {text} and is lost")
+        self.trial.check_again(here, text, 0)
+        return is_whole(text), found == states[-1] != states[0]
+
+
+def crowded_office(folder):
+    """Returns an office with a batch for each of twenty clerks."""
+    return Office(folder).begin(["ward 7 2 Harbour --id w", *(f"candidate 7 {n} 'Candidate {n}' --id c{n}" for n in (1, 2, 3)), "close 7 --id n",
+                                 *(f"batch {n} 7 {PAPERS} {n} 999 --id b{n}" for n in CLERKS)])
+
+
+class Crowd:
+    """Twenty clerks who key at once, and orders that are handed over meanwhile."""
+
+    def __init__(self, folder):
+        self.office, self.here = crowded_office(folder / "office"), folder / "here"
+        self.before = self.office.rows()
+        here = self.office.copied(self.here)
+        self.seconds, self.answers, printed = self.served(here, random.Random(0))
+        self.after = here.rows()
+        if not all(map(is_whole, self.answers.values())) or set(printed) != set(WARDS):
+            raise Wrong(f"twenty clerks at once get {self.answers}, and the wards {printed} are added")
+
+    def key(self, port, number, pauses):
+        """Keys a batch, and returns what the clerk had of the answer."""
+        body = json.dumps({"id": "k", "round": 1, "papers": ["1,2,", "D"]}, separators=(",", ":"))
+        sends = request(f"/clerks/{number}/batches/{number}/keying", body=body)
+        text = b""
+        try:
+            with socket.create_connection((HERE, port), timeout=SECONDS) as line:
+                for place, pause in enumerate(pauses):
+                    line.sendall(sends[9 * place:9 * place + 9])
+                    time.sleep(pause)
+                text = exchanged(line, [sends[9 * len(pauses):]], 0)
+        except (*BROKEN, ConnectionRefusedError):
+            pass
+        return text
+
+    def order(self, here):
+        """Adds ten wards, one after the other, and returns those that were answered. The others must print a fault of the store."""
+        added = []
+        for ward in WARDS:
+            printed = here.run("ward", ward, 2, f"Ward {ward}", "--id", f"w{ward}")
+            if printed == (0, f"ward {ward} added\n", ""):
+                added.append(ward)
+            elif printed != (3, "", STORE):
+                raise Wrong(f"the order for ward {ward} prints {printed}")
+        return added
+
+    def served(self, here, chance, wait=None):
+        """Returns (seconds, the clerks' answers, the wards) of a `serve` that is killed after so many seconds, or once all were answered."""
+        with here.serve() as serving, ThreadPoolExecutor(len(CLERKS) + 1) as pool:
+            silent = [serving.connect() for _ in range(SILENT)]
+            began = time.perf_counter()
+            killer = threading.Timer(wait or 0, serving.process.kill)
+            if wait is not None:
+                killer.start()
+            wards = pool.submit(self.order, here)
+            keyed = {n: pool.submit(self.key, serving.port, n, [chance.uniform(0, 0.002) for _ in range(PIECES)] if n % 2 else []) for n in CLERKS}
+            answers, added = {number: answer.result() for number, answer in keyed.items()}, wards.result()
+            seconds = time.perf_counter() - began
+            killer.cancel() if wait is None else killer.join()
+            for line in silent:
+                line.close()
+        return seconds, answers, added
+
+    def kept(self, found):
+        """Returns (the clerks whose keyings are there, the wards that are), each whole and with its receipt. There are no other rows."""
+        for table, rows in found.items():
+            if not set(self.before[table]) <= set(rows) <= set(self.after[table]):
+                raise Wrong(f"twenty clerks at once left other rows of {table}")
+        papers = collections.Counter(clerk for _, _, clerk, _, _ in found["keying"])
+        receipts = {actor for actor, _, _, _ in found["receipt"]} - {0}
+        wards = {row[0] for row in found["ward"]} & set(WARDS)
+        ordered = {row[1] for row in found["receipt"] if row[0] == 0} & {f"w{ward}" for ward in WARDS}
+        if set(papers.values()) - {PAPERS} or set(papers) != receipts or ordered != {f"w{ward}" for ward in wards}:
+            raise Wrong(f"twenty clerks at once left {papers}, receipts of {receipts}, and wards {wards} with {ordered}")
+        return receipts, wards
+
+    def killed(self, chance):
+        """Returns how many clerks were answered, keyings are kept, orders were answered, and orders are kept."""
+        here = self.office.copied(self.here)
+        _, answers, added = self.served(here, chance, chance.uniform(0, 1.2 * self.seconds))
+        kept, wards = self.kept(here.rows())
+        had = {number for number, text in answers.items() if is_whole(text)}
+        if not had <= kept or not set(added) <= wards:
+            raise Wrong(f"the keyings of {sorted(had - kept)}, or the wards {sorted(set(added) - wards)}, were answered, and are lost")
+        _, answers, added_again = self.served(here, chance)
+        if answers != self.answers or set(added_again) != set(WARDS) or here.rows() != self.after:
+            raise Wrong("twenty clerks who key again, and the officer, get something else, or leave other rows")
+        return len(had), len(kept), len(added), len(wards)
+
+
+def main(given):
+    chance = random.Random(given.seed)
+    table = Table(f"The request ({given.runs} runs each, seed {given.seed})", "sent", "the whole answer had", "rows before it found", "rows after it")
+    with temporary_folder() as folder:
+        before = offices(folder)
+        for number, order in (REQUESTS[place] for place in (1, 0, 2)):
+            for how in (AT_ONCE, IN_PIECES, AFTER):
+                client = OneClient(folder / "client", before[number], order)
+                found = [client.killed(how, chance) for _ in range(given.runs)]
+                new = sum(is_new for _, is_new in found)
+                table.row(f"`{order.name}`", how, sum(had for had, _ in found), given.runs - new, new)
+        crowd = Crowd(folder)
+        found = [crowd.killed(chance) for _ in range(given.runs)]
+    table = Table("Twenty clerks at once, and ten orders", "runs", "answered", "found", "runs with some of them, and not all")
+    table.row("each clerk keys a batch", given.runs, sum(run[0] for run in found), sum(run[1] for run in found), sum(0 < run[1] < len(CLERKS) for run in found))
+    table.row("the office adds ten wards", given.runs, sum(run[2] for run in found), sum(run[3] for run in found), sum(run[2] < len(WARDS) for run in found))

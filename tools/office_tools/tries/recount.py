@@ -1,0 +1,375 @@
+"""Counts the ballots of a file anew, apart from the program; or compares made-up wards that the program counts with its own count.
+
+The count is written from the text of the Order alone, as tellers do it who lay papers into parcels. BALLOTS is what the order `ballots`
+prints, or another program's BLT file: without a comment `# Ward N` the ward is 1, and without `# Rejected 1: ..` no paper was rejected.
+Preferences for the withdrawn are passed over, and a paper is read up to the first rank that several share who stand. It prints the stage
+sheet, and stops if a lot is needed that the file doesn't have. Status 1: the file can't be read, or has a lot that isn't needed.
+
+With --wards N wards are made up and played to their declarations. At each stage and lot `ballots` must print the papers that were made
+up, and `sheet` the recount's sheet of them, byte for byte; a lot is asked for just where the recount stops, among the same candidates.
+"""
+import collections
+import itertools
+import random
+import re
+import shutil
+import sys
+import tempfile
+from pathlib import Path
+
+from office_tools.office import Wrong
+from office_tools.tables import Table
+from office_tools.wards import PlayedWard, Ward
+
+# Values are whole hundred-thousandths of a vote.
+VOTE = 100000
+CODES = range(1, 6)
+# A name, the numbers that share a rank, a number, or a comment.
+WORD = re.compile(r'"((?:[^"\\\n]|\\[^\n])*)"|([0-9]+(?:=[0-9]+)+)|(-?[0-9]+)|#([^\n]*)|\s+', re.ASCII)
+# What a comment of ours says, and the numbers at most; blanks, colons and commas part its words.
+OURS = {
+    "ward": ("Ward ([0-9]+)", 255),
+    "rejected": ("Rejected " + " ".join(f"{code} ([0-9]+)" for code in CODES), 2 ** 32 - 1),
+    "lot": ("Lot at stage ([0-9]+) ([0-9]+)", 255),
+}
+BEGINS_AS_OURS = re.compile(r"[^0-9a-z]*(ward|rejected|lot)(?![a-z])", re.ASCII | re.IGNORECASE)
+FINISHED = "refused 25: count finished\n"
+
+# Equal papers, held together.
+Bundle = collections.namedtuple("Bundle", "papers preferences")
+# Bundles that a candidate received together, and the value at which each of their papers came.
+Parcel = collections.namedtuple("Parcel", "value bundles")
+
+
+class Unreadable(Wrong):
+    """What makes a file no ballots file."""
+
+
+def told_by(comment, is_alone):
+    """Returns what a comment of ours says, and its numbers; nothing for another program's. One that only begins as ours can't be read."""
+    words = " ".join(re.split("[ \t\r:,]+", comment))
+    for what, (form, most) in OURS.items():
+        if is_alone and (found := re.fullmatch(f" {form} ?", words, re.ASCII)) and max(map(int, found.groups())) <= most:
+            return what, [int(number) for number in found.groups()]
+    if BEGINS_AS_OURS.match(comment):
+        raise Unreadable(f"a comment that begins as ours do: {comment[:40]!r}")
+    return None
+
+
+def words_of(text):
+    """Returns the numbers, the shared ranks and the names of a ballots file, and what our comments in it say."""
+    if left := WORD.sub("", text):
+        raise Unreadable(f"neither a number nor a name: {left[:40]!r}")
+    words, ours = [], []
+    for found in WORD.finditer(text):
+        name, rank, number, comment = found.groups()
+        if name is not None:
+            words.append(re.sub(r'\\(["\\])', r"\1", name))
+        elif rank:
+            words.append(tuple(map(int, rank.split("="))))
+        elif number:
+            words.append(int(number))
+        elif comment is not None:
+            line = text[text.rfind("\n", 0, found.start()) + 1:found.start()]
+            if told := told_by(comment, not line.strip(" \t\r")):
+                ours.append(told)
+    return iter(words), ours
+
+
+def taken(words, kind):
+    """Returns the next word, which must be a number, or a name."""
+    word = next(words, None)
+    if not isinstance(word, kind):
+        raise Unreadable(f"a {'number' if kind is int else 'name'} is wanted in place of {'the end' if word is None else repr(word)}")
+    return word
+
+
+def read_up_to_shared(ranks, withdrawn):
+    """Returns the preferences of a paper with these ranks: each is one candidate's, once the withdrawn are passed over, up to one that isn't."""
+    shared = (place for place, rank in enumerate(ranks) if sum(number not in withdrawn for number in rank) > 1)
+    return [number for rank in ranks[:next(shared, len(ranks))] for number in rank]
+
+
+class Ballots:
+    """The contents of a ballots file."""
+
+    def __init__(self, content):
+        words, ours = words_of(content.decode("utf-8", "surrogateescape").removeprefix("\ufeff"))
+        highest, self.seats = taken(words, int), taken(words, int)
+        numbers, withdrawn = range(1, highest + 1), set()
+        while (papers := taken(words, int)) < 0:
+            withdrawn.add(-papers)
+        self.bundles = []
+        while papers:
+            ranks = [rank if isinstance(rank, tuple) else (rank,) for rank in iter(lambda: taken(words, (int, tuple)), 0)]
+            preferences = read_up_to_shared(ranks, withdrawn)
+            if papers < 0 or len(set(preferences)) < len(preferences) or not all(number in numbers for rank in ranks for number in rank):
+                raise Unreadable(f"no bundle: {papers} papers with the ranks {ranks}")
+            available = tuple(number for number in preferences if number not in withdrawn)
+            if not available:
+                raise Unreadable(f"no first preference: {papers} papers with the ranks {ranks}")
+            self.bundles.append(Bundle(papers, available))
+            papers = taken(words, int)
+        names = {number: taken(words, str) for number in numbers}
+        self.names = {number: name for number, name in names.items() if number not in withdrawn}
+        self.ward_name = taken(words, str)
+        if self.seats < 1 or next(words, None) is not None:
+            raise Unreadable("no seats, or words after the ward's name")
+        self.take([told for what, told in ours if what == "ward"], [told for what, told in ours if what == "rejected"])
+        self.lots = dict(told for what, told in ours if what == "lot")
+        if len(self.lots) < sum(what == "lot" for what, _ in ours):
+            raise Unreadable("two lots at one stage")
+
+    def take(self, wards, rejected):
+        """Takes the ward's number and the rejected papers, each of which a file may give once at most."""
+        if len(wards) > 1 or len(rejected) > 1:
+            raise Unreadable("a ward's number or rejected papers told twice")
+        if (self.bundles or rejected) and len(self.names) <= self.seats:
+            raise Unreadable("no more candidates than seats, but papers")
+        self.ward = wards[0][0] if wards else 1
+        self.rejected = rejected[0] if rejected else [0 for _ in CODES]
+
+
+def worth(parcel):
+    return parcel.value * sum(bundle.papers for bundle in parcel.bundles)
+
+
+def votes_text(value):
+    return f"{value // VOTE}.{value % VOTE:05}"
+
+
+def written(lines):
+    """Lines as bytes, those of names as they were read."""
+    return "".join(f"{line}\n" for line in lines).encode("utf-8", "surrogateescape")
+
+
+class Candidate:
+    """A candidate, and the parcels that lie before him."""
+
+    def __init__(self, number, name):
+        self.number, self.name, self.parcels, self.votes = number, name, [], 0
+        # His votes at the end of each stage.
+        self.figures = []
+        # As on the sheet: - while he continues, E at the stage at which he is elected and e after it, x once he is excluded.
+        self.letter = "-"
+
+    def receives(self, parcel):
+        """Lays a parcel before him: he is credited with the values of its papers."""
+        self.parcels.append(parcel)
+        self.votes += worth(parcel)
+
+
+class Count:
+    """The count of a ward: as many stages as its lots let it have."""
+
+    def __init__(self, ballots):
+        self.ballots, self.stages = ballots, []
+        self.candidates = {number: Candidate(number, name) for number, name in ballots.names.items()}
+        # The quota: the papers divided by one more than the seats, the whole part of that, and one vote more.
+        self.valid = sum(bundle.papers for bundle in ballots.bundles)
+        self.quota = (self.valid // (ballots.seats + 1) + 1) * VOTE
+        self.non_transferable = self.lost = 0
+        # The lots that no stage has taken; and the stage that a lot is wanted for, with the tied.
+        self.lots, self.waits = dict(ballots.lots), None
+        # Where there are no more candidates than seats all are elected, without a poll.
+        self.is_contested = len(self.candidates) > ballots.seats
+        if self.is_contested:
+            self.first_preferences()
+            while self.vacancies() and not self.waits:
+                self.next_stage()
+
+    def those(self, letters):
+        return [candidate for candidate in self.candidates.values() if candidate.letter in letters]
+
+    def vacancies(self):
+        return self.ballots.seats - len(self.those("Ee"))
+
+    def first_preferences(self):
+        """Lays each paper before the candidate of its first preference, as one vote."""
+        for bundle in self.ballots.bundles:
+            self.candidates[bundle.preferences[0]].receives(Parcel(VOTE, [bundle]))
+        self.end_stage("first preferences")
+
+    def next_stage(self):
+        """Transfers the highest surplus; if there is none, excludes the continuing candidate with the fewest votes."""
+        surpluses = [candidate for candidate in self.those("Ee") if candidate.votes > self.quota]
+        chosen = self.foremost(surpluses, max) if surpluses else self.foremost(self.those("-"), min)
+        if chosen and surpluses:
+            self.transfer_surplus(chosen)
+        elif chosen:
+            self.exclude(chosen)
+
+    def foremost(self, candidates, most):
+        """Returns the candidate with the most votes, or the fewest; None if a lot has to be drawn for that."""
+        # Between equal ones the latest stage before decides at which they weren't equal: the one with the most, or fewest, votes
+        # there is chosen. Between several who are equal there too the stages before it decide in turn, else a lot.
+        tied = candidates
+        for stage in reversed(range(len(self.stages))):
+            figure = most(candidate.figures[stage] for candidate in tied)
+            tied = [candidate for candidate in tied if candidate.figures[stage] == figure]
+        due, numbers = len(self.stages) + 1, [candidate.number for candidate in tied]
+        if len(tied) == 1:
+            return tied[0]
+        if self.lots.get(due) in numbers:
+            return self.candidates[self.lots.pop(due)]
+        self.waits = due, numbers
+        return None
+
+    def transfer_surplus(self, giver):
+        """Hands on all papers of an elected candidate, each at its part of his surplus; he keeps the quota."""
+        surplus, credited = giver.votes - self.quota, giver.votes
+        handed_on = self.hand_on(giver, lambda received: surplus * received // credited)
+        giver.votes = self.quota
+        # What his papers didn't take with them, since their values are cut down.
+        self.lost += surplus - handed_on
+        self.end_stage(f"surplus of {giver.number}")
+
+    def exclude(self, giver):
+        """Excludes a candidate, and hands on his papers at the values at which he received them."""
+        giver.letter = "x"
+        if len(self.those("-")) == self.vacancies():
+            # All the others are elected now, so that no paper has to be handed on, and his votes stay.
+            self.end_stage(f"exclusion of {giver.number}, last vacancies")
+        else:
+            giver.votes -= self.hand_on(giver, lambda received: received)
+            self.end_stage(f"exclusion of {giver.number}")
+
+    def hand_on(self, giver, value_of):
+        """Hands on each parcel of a candidate, at the value that comes of the one at which he received it. Gives the worth of all."""
+        handed_on = 0
+        for parcel in giver.parcels:
+            heaps = collections.defaultdict(list)
+            for bundle in parcel.bundles:
+                heaps[self.next_available(bundle, giver)].append(bundle)
+            for receiver, bundles in heaps.items():
+                heap = Parcel(value_of(parcel.value), bundles)
+                handed_on += worth(heap)
+                if receiver is None:
+                    self.non_transferable += worth(heap)
+                else:
+                    receiver.receives(heap)
+        giver.parcels = []
+        return handed_on
+
+    def next_available(self, bundle, giver):
+        """Returns the continuing candidate whom a bundle's papers prefer next after the one that has them; None if there is none."""
+        behind = bundle.preferences[bundle.preferences.index(giver.number) + 1:]
+        return next((self.candidates[number] for number in behind if self.candidates[number].letter == "-"), None)
+
+    def end_stage(self, action):
+        """Deems elected who has the quota, or is needed for the last vacancies, and writes the stage down."""
+        for candidate in self.those("E"):
+            candidate.letter = "e"
+        is_last = len(self.those("-")) == self.vacancies()
+        for candidate in self.those("-"):
+            if is_last or candidate.votes >= self.quota:
+                candidate.letter = "E"
+        lines = [f"Stage {len(self.stages) + 1}: {action}"]
+        for candidate in self.candidates.values():
+            candidate.figures.append(candidate.votes)
+            lines.append(f"{candidate.number:2} {votes_text(candidate.votes):>13} {candidate.letter} {candidate.name}")
+        lines.append(f"   {votes_text(self.non_transferable):>13} non-transferable")
+        lines.append(f"   {votes_text(self.lost):>13} lost by fractions")
+        self.stages.append(written(lines))
+
+    def sheet(self, done=None):
+        """Returns the stage sheet: with so many stages, or with all."""
+        lines = [f"Ward {self.ballots.ward} {self.ballots.ward_name}", f"Seats {self.ballots.seats}, uncontested"]
+        if self.is_contested:
+            lines[1] = f"Seats {self.ballots.seats}, valid {self.valid}, quota {votes_text(self.quota)}"
+            lines.append("Rejected " + ", ".join(f"{code}: {papers}" for code, papers in zip(CODES, self.ballots.rejected)))
+        return written(lines) + b"".join(self.stages[:done])
+
+    def declaration(self):
+        elected = self.those("Ee" if self.is_contested else "-")
+        lines = [f"Ward {self.ballots.ward} {self.ballots.ward_name}", "Elected"]
+        return written(lines + [f"{candidate.number:2} {candidate.name}" for candidate in elected])
+
+
+def compare(what, told, wanted):
+    """Compares what the program prints with what it should, line by line."""
+    for place, (line, right) in enumerate(itertools.zip_longest(told.split(b"\n"), wanted.split(b"\n")), 1):
+        if line != right:
+            raise Wrong(f"{what}, line {place}: told is {line}, wanted {right}")
+
+
+def recounted(played, done):
+    """Returns the count of the program's ballots file, once that is found right, and the program's sheet of so many stages too."""
+    number = played.ward.number
+    count = Count(Ballots(played.told("ballots", number)))
+    bundles, rejected = played.ward.judged()
+    told = [(bundle.papers, bundle.preferences) for bundle in sorted(count.ballots.bundles)]
+    compare("ballots, sorted", written([count.ballots.rejected, *told]), written([rejected, *bundles]))
+    compare("sheet", played.told("sheet", number), count.sheet(done))
+    if count.lots:
+        raise Wrong(f"ballots: no stage takes these lots: {count.lots}")
+    return count
+
+
+def play(played, totals):
+    """Plays a ward to its declaration, and compares all that the program prints on the way."""
+    number, done = played.ward.number, 0
+    played.seal()
+    count = recounted(played, done)
+    while (told := played.told("advance", number, "--id", f"a{done}", refusals="refused 2[56]: .*\n")) != FINISHED:
+        if isinstance(told, bytes):
+            done += 1
+            totals.update({"stages compared": 1, "figures compared": len(played.ward.names) + 2})
+        else:
+            stage, among = count.waits or (0, [])
+            if told != f"refused 26: lot needed at stage {stage} among {', '.join(map(str, among))}\n":
+                raise Wrong(f"advance after stage {done}: {told!r}, where the recount waits for {count.waits}")
+            totals["lots drawn"] += 1
+            played.lots[stage] = played.ward.chance.choice(among)
+            played.told("lot", number, stage, played.lots[stage], "--id", f"l{stage}")
+        count = recounted(played, done)
+    if count.waits or done < len(count.stages):
+        raise Wrong(f"{FINISHED!r} after stage {done}, where the recount continues")
+    played.told("declare", number, "--id", "d")
+    recounted(played, done)
+    compare("result", played.told("result", number), count.declaration())
+
+
+def play_wards(wards, seed):
+    """Plays made-up wards, and prints the table."""
+    totals, home = collections.Counter(), Path(tempfile.mkdtemp(prefix="recount-"))
+    for place in range(1, wards + 1):
+        played = PlayedWard(home / str(place), Ward(random.Random(f"{seed} {place}")))
+        try:
+            play(played, totals)
+            shutil.rmtree(home / str(place))
+        except Wrong as error:
+            totals["differences"] += 1
+            print(f"recount: seed {seed}, ward {place}: {error}; kept in {home / str(place)}", file=sys.stderr, flush=True)
+        totals["contested" if played.ward.is_contested else "uncontested"] += 1
+        totals["wards with a lot"] += bool(played.lots)
+    table = Table(f"Made-up wards, seed {seed}", wards)
+    for what in ("uncontested", "contested", "stages compared", "figures compared", "lots drawn", "wards with a lot", "differences"):
+        table.row(what, totals[what])
+    if totals["differences"]:
+        raise Wrong("not all wards are counted alike")
+    home.rmdir()
+
+
+def arguments(parser):
+    parser.add_argument("ballots", nargs="?", metavar="BALLOTS", help="the file to count")
+    parser.add_argument("--wards", type=int, metavar="N", help="play so many made-up wards instead")
+    parser.add_argument("--seed", type=int, default=1, help="default 1")
+
+
+def main(given):
+    if given.wards:
+        return play_wards(given.wards, given.seed)
+    if not given.ballots:
+        raise Wrong("a file of ballots is needed, or --wards N")
+    try:
+        count = Count(Ballots(Path(given.ballots).read_bytes()))
+    except (OSError, Unreadable) as error:
+        raise Wrong(f"{given.ballots}: {error}") from error
+    sys.stdout.buffer.write(count.sheet())
+    sys.stdout.flush()
+    if count.waits:
+        print(f"a lot is needed at stage {count.waits[0]} among {', '.join(map(str, count.waits[1]))}", file=sys.stderr)
+    if count.lots:
+        raise Wrong("no stage takes " + ", ".join(f"the lot at stage {stage}: {number}" for stage, number in count.lots.items()))
+    return 0

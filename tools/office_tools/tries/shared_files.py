@@ -1,0 +1,400 @@
+"""Gives two orders at one file at once, takes files away, and looks at the rights of what is made.
+
+docs/HOSTILE.md says what the orders may print, and what the files hold afterwards. The last table is of orders that wait before each
+call on the file that they make, and of `serve`: all that is there must be its owner's alone.
+"""
+import ctypes
+import itertools
+import os
+import random
+import resource
+import shutil
+import signal
+import tempfile
+import time
+from pathlib import Path
+
+from office_tools.command import numbers
+from office_tools.election import COPY, COPYING, ELECTION, FILE, REPLAY, REQUESTS, SCRIPTED, Order, offices
+from office_tools.office import LOG, NO_OFFICE, SECONDS, STORE, TOWN, Office, Wrong, ended, remove, temporary_folder
+from office_tools.tables import Table
+from office_tools.trials import NOT_WRITTEN, left, library
+
+KEYINGS = 7
+GONE = "fault 113: file gone or replaced\n"
+GONE_SENT = "HTTP/1.1 503 Service Unavailable\r\nContent-Type: application/json\r\nContent-Length: 13\r\nConnection: close\r\n\r\n{\"fault\":113}"
+QUAY, HILL, STATUS, INIT = (Order(line.split()) for line in ("ward 8 1 Quay --id q", "ward 9 2 Hill --id h", "status 7", "init"))
+
+
+def with_file(number, file="other.csv"):
+    """Returns an order of the election that reads a file of this name."""
+    order = ELECTION[number]
+    return Order([file if word == FILE else word for word in order.words], order.lines)
+
+
+# What is begun at once: what it is, the office (before the order of this number), and the two orders.
+PAIRS = [
+    ("two clerks' keyings of a batch", KEYINGS, ELECTION[7], with_file(8)),
+    ("one keying, twice", KEYINGS, ELECTION[7], with_file(7)),
+    ("two wards", KEYINGS, QUAY, HILL),
+    ("a ward and a status", KEYINGS, QUAY, STATUS),
+    ("two stages of one count", 15, ELECTION[15], ELECTION[16]),
+    ("a ward's sealing and its first stage", 14, ELECTION[14], ELECTION[15]),
+    ("two `init`", 0, INIT, INIT),
+    ("`init` and a ward", 0, INIT, QUAY),
+    ("a copy and a ward", KEYINGS, COPYING, QUAY),
+    ("two copies at one path", KEYINGS, COPYING, COPYING),
+    ("a script and a copy", SCRIPTED[0], REPLAY, COPYING),
+    ("a script and a ward", SCRIPTED[0], REPLAY, QUAY),
+    ("a script and its first order", SCRIPTED[0], REPLAY, ELECTION[SCRIPTED[0]]),
+    ("a copy and `init` at its path", KEYINGS, COPYING, Order(["init"], town=COPY)),
+]
+
+
+def arguments(parser):
+    numbers(parser, runs=100, seed=7)
+
+
+def kind(printed):
+    """Returns the number of the fault that was printed, or that the order was answered."""
+    return printed[2][6:9] if printed[0] == 3 else "answered"
+
+
+class Pair:
+    """Two orders, and what they print and leave one after the other."""
+
+    def __init__(self, folder, office, first, second):
+        self.folder, self.office, self.orders = folder, office, (first, second)
+        self.in_turn = [self.sequence(0, 1), self.sequence(1, 0)]
+        began = time.perf_counter()
+        self.sequence(0, 1)
+        self.seconds = (time.perf_counter() - began) / 2
+
+    def sequence(self, *places):
+        """Returns ([what each order prints], [the rows after each]), in a sequence."""
+        here = self.office.copied(self.folder / "sequence")
+        printed, found = [None, None], [None, None]
+        for place in places:
+            printed[place], found[place] = self.orders[place].done(here), left(here)
+        return printed, found
+
+    def turned_away(self, last):
+        """Returns what an order may print while the other makes its file."""
+        other = self.orders[1 - last]
+        if other.words != ["init"]:
+            return None
+        return (3, "", NO_OFFICE if other.town == TOWN else NOT_WRITTEN + "\n")
+
+    def tried(self, chance):
+        """Returns 'both', or the fault that one printed."""
+        here = self.office.copied(self.folder / "run")
+        first = self.orders[0].started(here)
+        time.sleep(chance.uniform(0, 1.2 * self.seconds))
+        second = self.orders[1].started(here)
+        printed, found = [ended(first), ended(second)], left(here)
+        for last, (wanted, after) in zip((1, 0), self.in_turn):
+            if printed == wanted and found == after[last]:
+                return next((kind(one) for one in printed if one.status == 3), "both")
+        for last, (wanted, after) in zip((1, 0), self.in_turn):
+            one = 1 - last
+            if printed[one] == wanted[one] and found == after[one] and printed[last] == self.turned_away(last):
+                again = self.orders[last].done(here)
+                if again != wanted[last] or left(here) != after[last]:
+                    raise Wrong(f"{self.orders[last].words} given again: {again}")
+                return kind(printed[last])
+        raise Wrong(f"{self.orders[0].words}, {self.orders[1].words}: {printed}")
+
+
+def print_pairs(folder, before, runs, chance):
+    """Prints the table of orders at once."""
+    kinds = ("102", "105", "109", "110")
+    table = Table(f"Two orders at once ({runs} runs each)", "both answered", *(f"one: fault {word}" for word in kinds))
+    for what, number, first, second in PAIRS:
+        pair = Pair(folder, before[number], first, second)
+        found = [pair.tried(chance) for _ in range(runs)]
+        table.row(what, *map(found.count, ("both", *kinds)))
+
+
+def without_rights():
+    """Takes from the child to come what lets the superuser write to any file."""
+    drop_from_bounds, write_to_any = 24, 1
+    ctypes.CDLL(None).prctl(drop_from_bounds, write_to_any, 0, 0, 0)
+
+
+def held(office):
+    """Opens the two files, so that they can be read after they are removed."""
+    return {name: open(office.folder / name, "rb") for name in (TOWN, LOG)}
+
+
+class Meddling:
+    """What is done to an office's files while orders run, and what must come of it."""
+
+    def __init__(self, folder, office, keyed, other, chance):
+        self.folder, self.office, self.keyed, self.other, self.chance = folder, office, keyed, other, chance
+        self.before, self.keying = office.rows(), ELECTION[KEYINGS]
+
+    def after(self, office, order):
+        """Returns what an order prints if nothing is done to its file, and the rows and the copy that it leaves."""
+        here = office.copied(self.folder / "after")
+        return order.done(here), left(here)
+
+    def held_rows(self, files):
+        """Returns the rows of files that were held."""
+        shutil.rmtree(self.folder / "held", ignore_errors=True)
+        kept = Office(self.folder / "held")
+        for name, file in files.items():
+            with file:
+                (kept.folder / name).write_bytes(file.read())
+        return kept.rows()
+
+    def read_only(self, names, order):
+        """Gives an order on files that can't be written to, and again when they can."""
+        here = self.office.copied(self.folder / "run")
+        before, (wanted, _) = left(here), self.after(self.office, order)
+        for name in names:
+            (here.folder / name).chmod(0o555 if name == "." else 0o444)
+        printed = here.run(*order.words, preexec_fn=without_rights)
+        for name in names:
+            (here.folder / name).chmod(0o755 if name == "." else 0o644)
+        if printed.status == 3 and left(here, 3) != before or order.done(here) != wanted:
+            raise Wrong(f"{names} read-only: {printed}, or other rows then")
+        return printed
+
+    def begun(self, order):
+        """Begins an order, and waits a random part of the time that it takes. Returns the office, its files, and the process."""
+        here = self.office.copied(self.folder / "timed")
+        began = time.perf_counter()
+        order.done(here)
+        seconds = time.perf_counter() - began
+        here = self.office.copied(self.folder / "run")
+        files, process = held(here), order.started(here)
+        time.sleep(self.chance.uniform(0, 1.2 * seconds))
+        return here, files, process
+
+    def removed(self, names, order):
+        """Removes files while an order runs."""
+        here, files, process = self.begun(order)
+        remove(*(here.folder / name for name in names))
+        printed, found = ended(process), self.held_rows(files)
+        wanted, (after, copy) = self.after(self.office, order)
+        if found not in (self.before, after) or printed == wanted and found != after:
+            raise Wrong(f"{names} removed: {printed}, and other rows")
+        if printed != wanted and printed not in [(3, "", fault) for fault in (STORE, NO_OFFICE, *([NOT_WRITTEN + "\n"] if order is COPYING else []))]:
+            raise Wrong(f"{names} removed: {printed}")
+        if left(here)[1] != (copy if printed == wanted else None):
+            raise Wrong(f"{names} removed: {printed}, and another copy")
+        if TOWN in names and STATUS.done(here) != (3, "", NO_OFFICE):
+            raise Wrong(f"{names} removed: an office is there")
+        return printed
+
+    def replaced(self, names, order):
+        """Puts another office's files in the place of those that an order opened."""
+        come = self.other.copied(self.folder / "come")
+        here, files, process = self.begun(order)
+        for name in names:
+            os.replace(come.folder / name, here.folder / name)
+        printed, found, at = ended(process), self.held_rows(files), here.rows()
+        wanted, (after, _) = self.after(self.office, order)
+        there, (both, _) = self.after(self.other, order)
+        theirs = self.other.rows()
+        if (printed, found, at) not in [(wanted, after, theirs), ((3, "", STORE), self.before, theirs), (there, self.before, both)]:
+            raise Wrong(f"{names} replaced: {printed}; before {found == self.before}, other's {at == theirs}, both {at == both}")
+        return printed
+
+    def served(self, names, is_replaced, order, result):
+        """Takes files away while `serve` has them open. Where nothing is taken, the order that is handed over and a client's keying are done."""
+        here = self.keyed.copied(self.folder / "run")
+        files = held(here)
+        with here.serve(2) as serving:
+            serving.ask(REQUESTS[0][1].sends)
+            for name in names:
+                (here.folder / name).unlink()
+                if is_replaced:
+                    shutil.copyfile(self.other.folder / name, here.folder / name)
+            printed, client = order.done(here), serving.ask(REQUESTS[1][1].sends).decode()
+            said = serving.ended()
+        after, there, bare = (office.copied(self.folder / name) for office, name in ((self.keyed, "after"), (self.other, "there"), (self.keyed, "bare")))
+        if not names:
+            order.done(after)
+        answered = GONE_SENT if names else REQUESTS[1][1].done(after).out
+        if result == "answered":
+            order.done(there)
+        remove(*(bare.folder / name for name in names))
+        at = left(after) if not names else left(there) if is_replaced else left(bare)
+        if said != (0, "", GONE if names else "") or client != answered or self.held_rows(files) != after.rows() or kind(printed) != result or left(here) != at:
+            raise Wrong(f"{names} taken from serve, which prints {said}; the order {printed}, the client {client}")
+        return printed
+
+    def cases(self, runs):
+        """Returns (what is done to the files, how often, a function that does it once and returns what was printed)."""
+        one, log, both = ("the file", [TOWN]), ("its log", [LOG]), ("both", [TOWN, LOG])
+        for what, names in (one, log, ("the folder", ["."])):
+            yield f"{what} can't be written to", 1, lambda names=names: self.read_only(names, QUAY)
+        yield "the folder can't be written to, where a copy is made", 1, lambda: self.read_only(["."], COPYING)
+        for what, names in (one, log, both):
+            yield f"{what} removed while an order runs", runs, lambda names=names: self.removed(names, self.keying)
+        yield "the file removed while it is copied", runs, lambda: self.removed([TOWN], COPYING)
+        for what, names in (one, both):
+            yield f"{what} replaced while an order runs", runs, lambda names=names: self.replaced(names, self.keying)
+        for what, *case in (
+            ("nothing, and `serve` has them open", [], False, HILL, "answered"),
+            ("nothing, and `serve` has them open while a copy is made", [], False, COPYING, "answered"),
+            ("both removed, and `serve` has them open", [TOWN, LOG], False, HILL, "105"),
+            ("the file replaced, and `serve` has them open", [TOWN], True, HILL, "102"),
+            ("both replaced, and `serve` has them open", [TOWN, LOG], True, HILL, "answered"),
+            ("its log removed, and `serve` has them open", [LOG], False, HILL, "113"),
+        ):
+            yield what, 1, lambda case=case: self.served(*case)
+
+
+# Orders that make a file, the office before them, the file's name, and those that are given at that file meanwhile.
+MAKING = [("`init`", 0, INIT, TOWN), ("a copy", KEYINGS, COPYING, COPY)]
+COMING = [("`init`", INIT.words), ("a ward", QUAY.words)]
+ROOM = 40960
+# An order that doesn't come so far within so many seconds waits for another. It tries again, so no more of its calls are taken than an
+# order makes that doesn't have to.
+STUCK, FIRST_CALLS = 0.4, 24
+
+
+def without_room():
+    """Lets the child to come write no file past a length: such a write fails."""
+    signal.signal(signal.SIGXFSZ, signal.SIG_IGN)
+    resource.setrlimit(resource.RLIMIT_FSIZE, (ROOM, ROOM))
+
+
+class Waiting:
+    """An order that waits before one of its calls on a file."""
+
+    def __init__(self, made, here, order, name, call, has_room=True, limit=SECONDS):
+        place = Path(tempfile.mkdtemp(dir=here.folder.parent))
+        self.note, self.awaited = place / "waits", place / "goes"
+        env = {**os.environ, "LD_PRELOAD": made, "REFUSING_WAY": "waits", "REFUSING_NAMES": name, "REFUSING_CALL": str(call),
+               "REFUSING_TOLD": str(self.note), "REFUSING_AWAITED": str(self.awaited)}
+        self.process = order.started(here, env=env, restore_signals=False, preexec_fn=None if has_room else without_room)
+        until = time.monotonic() + limit
+        while not self.note.exists() and self.process.poll() is None and time.monotonic() < until:
+            time.sleep(0.0005)
+        self.waits = self.note.exists()
+
+    def ended(self, seconds=None):
+        """Lets it go on, and returns what it prints; None if it doesn't end within these seconds."""
+        self.awaited.touch()
+        until = time.monotonic() + (seconds or 0)
+        while seconds and self.process.poll() is None:
+            if time.monotonic() > until:
+                return None
+            time.sleep(0.0005)
+        return ended(self.process)
+
+
+def check_made(here, name, printed, before):
+    """Checks that what was answered is there under its name; or that nothing is left of the file, and an office can be made."""
+    at = here.rows(name)
+    there = [file for file in (name, name + "-wal") if (here.folder / file).exists()]
+    if printed.status == 0:
+        is_right = bool(at) and here.run("wards", town=name).status == 0
+    else:
+        is_right = not at and not there and here.run("init", town=name) == (0, "office ready\n", "")
+    if not is_right or before.rows() != (here.rows() if name != TOWN else None):
+        raise Wrong(f"an order that finds no room at {name}, and another, which prints {printed}: {there} is left")
+
+
+def gaps(folder, made, office, first, name, words):
+    """Returns what each second order prints, for all pairs of calls before which the two wait."""
+    for one in itertools.count(1):
+        for other in range(1, FIRST_CALLS + 1):
+            here = office.copied(folder / "gap")
+            making = Waiting(made, here, first, name, one, False)
+            if not making.waits:
+                making.ended()
+                return
+            coming = Waiting(made, here, Order(words, town=name), name, other, limit=STUCK)
+            making_printed = making.ended(STUCK)
+            printed = coming.ended()
+            making_printed = making_printed or making.ended()
+            if making_printed.status != 3:
+                raise Wrong(f"{first.words} without room: {making_printed}")
+            check_made(here, name, printed, office)
+            yield printed
+            if not coming.waits:
+                break
+
+
+def print_gaps(folder, made, before):
+    """Prints the table of orders that find no room."""
+    table = Table("An order that finds no room for its file", "another at that file", "pairs of calls", "answered", "fault 102", "fault 105")
+    for what, number, first, name in MAKING:
+        for coming, words in COMING:
+            found = [kind(printed) for printed in gaps(folder, made, before[number], first, name, words)]
+            if not found:
+                raise Wrong("no order waits before its calls: the program has to be linked dynamically")
+            table.row(what, coming, len(found), *map(found.count, ("answered", "102", "105")))
+
+
+def open_to_others(office):
+    """Returns the files of an office, of its copy and its socket, that others than their owner have rights to."""
+    paths = [office.folder / (name + ending) for name in (TOWN, COPY) for ending in ("", "-wal", "-journal", "-serve")]
+    return [path.name for path in paths if path.exists() and path.stat().st_mode & 0o077]
+
+
+def private(office, folder):
+    """Returns a copy of an office, its owner's alone."""
+    here = office.copied(folder)
+    for path in here.folder.iterdir():
+        path.chmod(0o600)
+    return here
+
+
+def rights(folder, made, office, first, name):
+    """Lets an order wait before each of its calls on the file that it makes, and looks at the rights. Returns how many calls there were."""
+    for call in itertools.count(1):
+        here = private(office, folder / "rights")
+        making = Waiting(made, here, first, name, call)
+        found = open_to_others(here)
+        printed = making.ended()
+        if found or open_to_others(here) or printed.status:
+            raise Wrong(f"{first.words}, before call {call}: others have rights to {found}; then {open_to_others(here)}; {printed}")
+        if not making.waits:
+            return call
+
+
+def rights_served(folder, office):
+    """Looks at the rights of what is there while `serve` runs, and after a copy that it made."""
+    here = private(office, folder / "rights")
+    with here.serve(2) as serving:
+        serving.ask(REQUESTS[0][1].sends)
+        printed = COPYING.done(here)
+        if open_to_others(here) or printed.status or not (here.folder / (TOWN + "-serve")).exists():
+            raise Wrong(f"while served others have rights to {open_to_others(here)}; {printed}")
+    return 1
+
+
+def print_rights(folder, made, before):
+    """Prints the table of rights."""
+    table = Table("What is made, under masks 0, 022 and 077", "its rights looked at, of their owner alone")
+    kinds = [(what, lambda number=number, first=first, name=name: rights(folder, made, before[number], first, name)) for what, number, first, name in MAKING]
+    for what, look in [*kinds, ("a socket, and a copy of an office that is served", lambda: rights_served(folder, before[KEYINGS + 1]))]:
+        looks = 0
+        for mask in (0o000, 0o022, 0o077):
+            own = os.umask(mask)
+            looks += look()
+            os.umask(own)
+        table.row(what, looks)
+
+
+def main(given):
+    chance = random.Random(given.seed)
+    with temporary_folder() as folder:
+        before = offices(folder)
+        other = before[2].copied(folder / "other")
+        QUAY.done(other)
+        print_pairs(folder, before, given.runs, chance)
+        kinds = ("102", "105", "110", "113")
+        table = Table(f"What is done to the file and its log (seed {given.seed})", "runs", "answered", *(f"fault {word}" for word in kinds))
+        meddling = Meddling(folder, before[KEYINGS], before[KEYINGS + 1], other, chance)
+        for what, times, meddle in meddling.cases(given.runs):
+            found = [kind(meddle()) for _ in range(times)]
+            table.row(what, times, *map(found.count, ("answered", *kinds)))
+        made = library(folder)
+        print_gaps(folder, made, before)
+        print_rights(folder, made, before)

@@ -1,0 +1,83 @@
+# How a clone keeps its two programs, for count-office and tools/build: both set `here` to the clone's folder, and read this file.
+#
+# out/BUILT-FROM says of which sources the programs in out/ are. out/listing has the times of these sources, as they were when the
+# two were compared: one look at the folders shows whether a source changed since.
+# shellcheck shell=sh disable=SC2154
+
+out=$here/out
+
+fail() {
+    printf 'count-office: %s\n' "$1" >&2
+    exit 4
+}
+
+# Becomes find, over the sources of the programs: the code of the crates, and what is promised of it. Proofs and tests change neither.
+sources() {
+    export LC_ALL=C
+    cd "$here" && exec find crates/*/src crates/*/specs crates.txt -path '*_tests/*' -prune -o -type f -name '*.*t' "$@"
+}
+
+# The time is that of the last change to a file or to its attributes: nobody can set it.
+listing() {
+    sources -printf '%p %C@\n'
+}
+
+digest() {
+    sources -print0 | LC_ALL=C sort -z | (cd "$here" && xargs -0 sha256sum) | sha256sum | cut -d ' ' -f 1
+}
+
+is_listed() {
+    listing 2>/dev/null | cmp -s - "$out/listing"
+}
+
+# Whether the programs of a folder are of the sources that have this digest.
+is_of() {
+    grep -qsx "sources: $2" "$1/BUILT-FROM"
+}
+
+# One call at a time changes out/.
+lock() {
+    mkdir -p "$out" 2>/dev/null
+    if [ -w "$out" ]; then exec 9>"$out/lock" && flock 9; fi
+}
+
+# Makes an empty folder for new programs.
+begin() {
+    { rm -rf "$out/new" && mkdir -p "$out/new"; } || fail "cannot write to $out: make the first call as a user who can"
+}
+
+# Puts the programs of out/new in their place. BUILT-FROM is removed first and put last, so it is never beside programs of other sources.
+put() {
+    "$out/new/count-office" --version >/dev/null || fail "this machine can't run $out/new/count-office, which is for Linux on x86-64"
+    { sync "$out"/new/* && rm -f "$out/BUILT-FROM" "$out/listing" && mv -f "$out/new/count-office" "$out/new/check-count" "$out" &&
+        mv "$out/new/BUILT-FROM" "$out" && rmdir "$out/new"; } || fail "the programs couldn't be put into $out"
+}
+
+# Unpacks the programs of release/.
+unpack() {
+    sum=$(grep '\.tar\.xz$' "$here/release/SHA256SUMS")
+    archive=${sum##* }
+    (cd "$here/release" && echo "$sum" | sha256sum --status --check -) 2>/dev/null ||
+        fail "the archive in $here/release is missing or damaged: get it again, or type $here/tools/build"
+    begin
+    tar -xmJf "$here/release/$archive" -C "$out/new" --strip-components=3 "${archive%.tar.xz}/lib/count-office" ||
+        fail "$here/release/$archive couldn't be unpacked, which needs tar, xz and room on the disk"
+    put
+    echo "count-office: this is $archive, which was made from these sources; tools/build proves and builds them here" >&2
+}
+
+# Makes sure that out/ has the programs of these sources, and keeps the listing. A source that changed within the last two seconds could
+# change again and be listed just the same: then the next call compares the sources once more.
+make_ready() {
+    listed=$(listing)
+    fresh=$(sources -newerct '2 seconds ago' -print -quit)
+    own=$(digest)
+    lock
+    if ! { [ -x "$out/count-office" ] && [ -x "$out/check-count" ] && is_of "$out" "$own"; }; then
+        is_of "$here/release" "$own" ||
+            fail "no program here was built from these sources: type $here/tools/build, which needs rt and takes half an hour or more"
+        unpack
+    fi
+    if [ -z "$fresh" ] && [ -w "$out" ]; then printf '%s\n' "$listed" >"$out/listing.new" && mv "$out/listing.new" "$out/listing"; fi
+    return 0
+}
