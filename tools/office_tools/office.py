@@ -8,6 +8,7 @@ import socket
 import sqlite3
 import subprocess
 import tempfile
+import threading
 import time
 from pathlib import Path
 from typing import NamedTuple
@@ -49,41 +50,30 @@ def needs(*commands):
             raise Wrong(f"the command {command} is missing; on Debian: apt-get install {command}")
 
 
-@functools.cache
-def has_ipv6():
-    """Returns whether this machine has the address [::1]."""
-    return is_free(0, socket.AF_INET6, "::1")
-
-
-def is_free(port, family=socket.AF_INET, host=HERE):
-    """Returns whether a port can be bound."""
-    with socket.socket(family) as listener:
-        listener.setsockopt(socket.SOL_SOCKET, socket.SO_REUSEADDR, 1)
-        try:
-            listener.bind((host, port))
-            return True
-        except OSError:
-            return False
+def is_free(port, host=HERE):
+    """Returns whether a port can be bound. Of port 0 it says whether the machine has the address."""
+    try:
+        socket.create_server((host, port), family=socket.AF_INET6 if ":" in host else socket.AF_INET).close()
+        return True
+    except OSError:
+        return False
 
 
 def free_port():
     """Returns a port that is free at both loopback addresses. Processes side by side take theirs from ranges of their own."""
-    first = 10000 + 1000 * (os.getpid() % 20)
-    while True:
-        port = first + next(PORTS) % 1000
-        if is_free(port) and (not has_ipv6() or is_free(port, socket.AF_INET6, "::1")):
-            return port
+    hosts, first = [host for host in (HERE, "::1") if is_free(0, host)], 10000 + 1000 * (os.getpid() % 20)
+    return next(port for port in (first + number % 1000 for number in PORTS) if all(is_free(port, host) for host in hosts))
 
 
 def ended(process, seconds=SECONDS):
     """Waits for a program, and returns what it printed."""
     try:
-        out, err = process.communicate(timeout=seconds)
+        printed = process.communicate(timeout=seconds)
     except subprocess.TimeoutExpired as error:
         process.kill()
         process.communicate()
         raise Wrong(f"no end within {seconds} seconds") from error
-    return Printed(process.returncode, out.decode("utf-8", "surrogateescape"), err.decode("utf-8", "surrogateescape"))
+    return Printed(process.returncode, *(text.decode("utf-8", "surrogateescape") for text in printed))
 
 
 @contextlib.contextmanager
@@ -140,7 +130,8 @@ class Office:
 
     def begin(self, lines=()):
         """Makes the office, sends these orders as one script, and returns the office."""
-        self.do("init")
+        if (printed := self.run("init")) != (0, "office ready\n", ""):
+            raise Wrong(f"init: {printed}")
         if lines:
             self.replay(lines)
         return self
@@ -231,6 +222,12 @@ class Serving:
     def ended(self, seconds=SECONDS):
         """Waits for its end, and returns what it printed."""
         return ended(self.process, seconds)
+
+    def killed_after(self, seconds=None):
+        """Begins to wait for so many seconds, and kills it then; without a number it does nothing."""
+        killer = threading.Timer(seconds or 0, self.process.kill if seconds is not None else bool)
+        killer.start()
+        return killer
 
     def kill(self):
         """Kills it, and returns what it printed."""

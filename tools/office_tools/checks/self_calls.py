@@ -23,18 +23,16 @@ def uses_of(text):
     found = {}
 
     def add(prefix, tree):
-        for part in re.split(r",(?![^{]*\})", tree):
-            part = part.strip()
-            group = re.fullmatch(r"([\w:]*?)(?:::)?\{(.*)\}", part, re.S)
-            if group:
-                add(prefix + [p for p in group.group(1).split("::") if p], group.group(2))
+        for part in map(str.strip, re.split(r",(?![^{]*\})", tree)):
+            if group := re.fullmatch(r"([\w:]*?)(?:::)?\{(.*)\}", part, re.S):
+                add(prefix + group[1].split("::"), group[2])
             elif part:
                 path, _, other = part.partition(" as ")
-                words = prefix + [p for p in path.strip().split("::") if p]
+                words = [word for word in prefix + path.strip().split("::") if word]
                 found[other.strip() or words[-1]] = words
 
-    for match in re.finditer(r"^\s*(?:pub(?:\([^)]*\))? )?use ([^;]*);", text, re.M):
-        add([], match.group(1))
+    for tree in re.findall(r"^\s*(?:pub(?:\([^)]*\))? )?use ([^;]*);", text, re.M):
+        add([], tree)
     return found
 
 
@@ -65,8 +63,7 @@ class Calls:
                 for name, kind in re.findall(r"\b(\w+)(?::|\()\s*([^,\n]+)", inside):
                     self.parts[(match.group(1), name)] = kind
             for name, kinds in re.findall(r"\bstruct (\w+)(?:<[^()]*>)?\(([^;]*)\)[^;()]*;", text):
-                for place, kind in enumerate(re.split(r",(?![^<]*>)", kinds)):
-                    self.parts[(name, str(place))] = kind
+                self.parts.update({(name, str(place)): kind for place, kind in enumerate(re.split(r",(?![^<]*>)", kinds))})
 
     def methods(self, name, owner=None):
         return [f for f in self.crate.functions if f.name == name and f.owners and (owner is None or owner in f.owners)]
@@ -106,8 +103,7 @@ class Calls:
     def given_in_a_tuple(self, function, name):
         """Returns the function that gives `name` in a `let (name, other) = (first(..), second(..))`, where it is of the same file."""
         for names, values in re.findall(r"\blet \(([\w, ]+)\) = \(((?:[^()]|\([^()]*\))*)\);", function.body):
-            values = re.findall(r"(\w+)\([^()]*\)", values)
-            names = [word.strip() for word in names.split(",")]
+            names, values = re.findall(r"\w+", names), re.findall(r"(\w+)\([^()]*\)", values)
             if name in names and len(values) == len(names):
                 value = values[names.index(name)]
                 return next((f for f in self.crate.functions if f.name == value and f.path == function.path and not f.owners), None)
@@ -184,16 +180,12 @@ def self_calls(crate):
             yield function, through, bound.group() if bound else None
 
 
-def arguments(parser):
-    parser.add_argument("crates", nargs="*", metavar="CRATE", help="all, if none is named")
-
-
-def main(given):
+def main(*only):
     crates = {crate.name: crate for crate in sources.crates()}
-    if unknown := set(given.crates) - set(crates):
+    if unknown := set(only) - set(crates):
         raise Wrong(f"no such crate: {', '.join(sorted(unknown))}")
     status = 0
-    for name in given.crates or crates:
+    for name in only or crates:
         for function, through, bound in self_calls(crates[name]):
             how = f" through {', '.join(through)}" if through else ""
             print(f"crates/{name}/{function.path}:{function.line}: {function.title} calls itself{how}: {bound or 'no bound is stated'}")

@@ -13,7 +13,6 @@ import tempfile
 import time
 from pathlib import Path
 
-from office_tools.command import numbers
 from office_tools.office import ROOT, Wrong, temporary_folder
 from office_tools.tables import Table
 from office_tools.tries.recount import Ballots, Count, Unreadable
@@ -40,9 +39,7 @@ def made_up(chance):
     gone = {c for c in range(1, highest - 1) if chance.random() < 0.1}
     standing = [c for c in range(1, highest + 1) if c not in gone]
     seats = chance.randint(1, max(1, len(standing) - 1))
-    lists = set()
-    for _ in range(chance.randint(0, 40)):
-        lists.add(tuple(chance.sample(standing, chance.randint(1, len(standing)))))
+    lists = {tuple(chance.sample(standing, chance.randint(1, len(standing)))) for _ in range(chance.randint(0, 40))}
     lines = [f"{highest} {seats}"] + ([" ".join(f"-{c}" for c in sorted(gone))] if gone else [])
     lines += [f"{chance.choice((1, 1, 2, 3, 50))} {' '.join(map(str, named))} 0" for named in sorted(lists)] + ["0"]
     lines += [quoted("withdrawn" if c in gone else chance.choice(NAMES)) for c in range(1, highest + 1)]
@@ -63,9 +60,7 @@ def counted(lines, chance):
 
 def as_others_write(lines, chance):
     """Returns the same ballots in other words: lines of papers in another order and parted, remarks, blanks and line ends."""
-    end = lines.index("0")
-    start = 2 if lines[1].startswith("-") else 1
-    papers = []
+    end, start, papers = lines.index("0"), 2 if lines[1].startswith("-") else 1, []
     for line in lines[start:end]:
         number, named = line.split(" ", 1)
         share = chance.randint(0, int(number))
@@ -111,16 +106,14 @@ def shared(lines, chance):
 
 def changed(sheet, chance):
     """Returns a sheet with a byte, a figure or a line that is another, missing or moved."""
-    way = chance.randrange(4)
-    lines = sheet.splitlines(keepends=True)
+    way, lines = chance.randrange(4), sheet.splitlines(keepends=True)
     if way == 0:
         at = chance.randrange(len(sheet))
         return sheet[:at] + bytes([sheet[at] ^ (1 << chance.randrange(8))]) + sheet[at + 1:]
     if way == 1:
         at = chance.choice([m.start() for m in re.finditer(rb"[0-9]", sheet)])
         return sheet[:at] + b"%d" % ((sheet[at] - 48 + 1) % 10) + sheet[at + 1:]
-    at = chance.randrange(len(lines))
-    line = lines.pop(at)
+    line = lines.pop(chance.randrange(len(lines)))
     if way == 2:
         lines.insert(chance.randrange(len(lines) + 1), line)
     return b"".join(lines)
@@ -209,8 +202,8 @@ def agrees(check, what, lines, chance):
     return is_taken
 
 
-ALIKE, OTHER, CHANGED, DAMAGED = "sheets and declarations", "as another program writes them", "changed sheets", "damaged ballots"
-OURS_AND_NEAR, SHARED = "comments of ours and near them", "shared ranks"
+KINDS = ALIKE, OTHER, OURS_AND_NEAR, SHARED, CHANGED, DAMAGED = (
+    "sheets and declarations", "as another program writes them", "comments of ours and near them", "shared ranks", "changed sheets", "damaged ballots")
 
 
 def check_ward(check, ward, chance, runs):
@@ -218,41 +211,34 @@ def check_ward(check, ward, chance, runs):
     lines, count = counted(made_up(chance), chance)
     ballots = "\n".join(lines).encode() + b"\n"
     sheet, declaration = count.sheet(), count.declaration()
+
+    def given(what, content, text, wanted, begins=b""):
+        status, told = check(content, text)
+        check.expect(f"ward {ward}, {what}", status, told, status in wanted and told.startswith(begins))
+        runs[what, status] += 1
+
     for text, name in ((sheet, b"stage sheet"), (declaration, b"declaration")):
-        status, told = check(ballots, text)
-        check.expect(f"ward {ward}", status, told, status == 0 and told.startswith(b"the text is the %s that" % name))
-        runs[ALIKE, 0] += 1
-    status, told = check(as_others_write(lines, chance), chance.choice((sheet, declaration)))
-    check.expect(f"ward {ward} of another program", status, told, status == 0)
-    runs[OTHER, 0] += 1
+        given(ALIKE, ballots, text, [0], b"the text is the %s that" % name)
+    given(OTHER, as_others_write(lines, chance), chance.choice((sheet, declaration)), [0])
     for what, other in ((OURS_AND_NEAR, commented), (SHARED, shared)):
         for _ in range(10):
             runs[what, 0 if agrees(check, f"ward {ward}, {what}", other(lines, chance), chance) else 2] += 1
     for _ in range(5):
         while (text := changed(sheet, chance)) in (sheet, declaration):
             pass
-        status, told = check(ballots, text)
-        line = first_line_that_differs(text, sheet, declaration)
-        check.expect(f"ward {ward} changed", status, told, status == 1 and told.startswith(b"line %d differs" % line))
-        runs[CHANGED, 1] += 1
+        given(CHANGED, ballots, text, [1], b"line %d differs" % first_line_that_differs(text, sheet, declaration))
     for _ in range(10):
-        status, told = check(damaged(ballots, chance), sheet)
-        check.expect(f"ward {ward} damaged", status, told, status in (0, 1, 2))
-        runs[DAMAGED, status] += 1
+        given(DAMAGED, damaged(ballots, chance), sheet, [0, 1, 2])
 
 
-def arguments(parser):
-    numbers(parser, wards=100, seed=1)
-
-
-def main(given):
+def main(wards=100, seed=1):
     runs = collections.Counter()
     with temporary_folder() as folder:
         check = Checker(folder)
-        for ward in range(given.wards):
-            check_ward(check, ward, random.Random(f"{given.seed} {ward}"), runs)
-        table = Table(f"What the checker is given ({given.wards} wards, seed {given.seed})", "runs", "yes", "no", "not understood")
-        for what in (ALIKE, OTHER, OURS_AND_NEAR, SHARED, CHANGED, DAMAGED):
+        for ward in range(wards):
+            check_ward(check, ward, random.Random(f"{seed} {ward}"), runs)
+        table = Table(f"What the checker is given ({wards} wards, seed {seed})", "runs", "yes", "no", "not understood")
+        for what in KINDS:
             counts = [runs[what, status] for status in (0, 1, 2)]
             table.row(what, sum(counts), *counts)
         for what, content in EXTREME.items():
