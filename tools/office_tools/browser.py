@@ -52,7 +52,8 @@ class Window:
             self.logins += 1
             is_new = self.name and said["requestId"] not in self.tried
             self.tried.add(said["requestId"])
-            answer = {"response": "ProvideCredentials", "username": self.name, "password": self.code} if is_new else {"response": "CancelAuth"}
+            given = {"response": "ProvideCredentials", "username": self.name, "password": self.code}
+            answer = given if is_new else {"response": "CancelAuth"}
             self.send("Fetch.continueWithAuth", requestId=said["requestId"], authChallengeResponse=answer)
         elif method == "Page.javascriptDialogOpening":
             self.send("Page.handleJavaScriptDialog", accept=True)
@@ -78,7 +79,6 @@ class Window:
         return answer["result"].get("value")
 
     def until(self, expression, seconds=SECONDS):
-        """Waits until something holds on the page."""
         end = time.monotonic() + seconds
         while not self.value(expression):
             if time.monotonic() > end:
@@ -116,7 +116,8 @@ class Window:
 
     def press(self, key, modifiers=0, repeats=False, place=""):
         """Presses a key, as on a keyboard; at a place on it, if another is meant than the usual one."""
-        code, number = (key, NAMED[key]) if key in NAMED else SIGNS.get(key) or (("Digit" if key.isdigit() else "Key") + key.upper(), ord(key.upper()))
+        usual = (("Digit" if key.isdigit() else "Key") + key.upper(), ord(key[0].upper()))
+        code, number = (key, NAMED[key]) if key in NAMED else SIGNS.get(key, usual)
         text = {"text": "\r" if key == "Enter" else key} if key == "Enter" or key not in NAMED else {}
         said = {"key": key, "code": place or code, "windowsVirtualKeyCode": number, "modifiers": modifiers}
         self.call("Input.dispatchKeyEvent", type="keyDown" if text else "rawKeyDown", autoRepeat=repeats, **said, **text)

@@ -36,7 +36,8 @@ def add_word(parser, word):
 def run(package, command, name, words):
     """Runs a module, and returns the status: 1 if a condition isn't met."""
     module = importlib.import_module(f"office_tools.{package}.{name.replace('-', '_')}")
-    parser = argparse.ArgumentParser(prog=f"{command} {name}", description=module.__doc__, formatter_class=argparse.RawDescriptionHelpFormatter)
+    how = {"description": module.__doc__, "formatter_class": argparse.RawDescriptionHelpFormatter}
+    parser = argparse.ArgumentParser(prog=f"{command} {name}", **how)
     parameters = inspect.signature(module.main).parameters.values()
     for word in parameters:
         add_word(parser, word)

@@ -14,14 +14,15 @@ MADE = {"init": (3, "", NO_OFFICE), "migrate": (0, "office is at version 2\n", "
 
 def ward_orders(*batches, candidates=("Ann", "Bob", "Cy"), seats=2):
     """Returns the orders of ward 7 up to its batches, each of a number, a size and two clerks."""
-    return [f"ward 7 {seats} Harbour --id w", *(f"candidate 7 {number} '{name}' --id c{number}" for number, name in enumerate(candidates, 1)),
-            "close 7 --id n", *(f"batch {batch} 7 {size} {first} {second} --id b{batch}" for batch, size, first, second in batches)]
+    nominated = [f"candidate 7 {number} '{name}' --id c{number}" for number, name in enumerate(candidates, 1)]
+    given_out = [f"batch {batch} 7 {size} {first} {second} --id b{batch}" for batch, size, first, second in batches]
+    return [f"ward 7 {seats} Harbour --id w", *nominated, "close 7 --id n", *given_out]
 
 
 def keying(papers, columns):
     """Returns the lines of a keying's import file. The marks of a doubtful paper are D."""
-    doubtful = "D" + "," * (len(columns) - 1)
-    return [",".join(["paper", *map(str, columns)]), *(f"{number},{doubtful if marks == 'D' else marks}" for number, marks in enumerate(papers, 1))]
+    records = [f"{number},{'D' + ',' * (len(columns) - 1) if marks == 'D' else marks}" for number, marks in enumerate(papers, 1)]
+    return [",".join(["paper", *map(str, columns)]), *records]
 
 
 @dataclass
@@ -46,7 +47,6 @@ class Order:
             office.write(FILE, ELECTION[7].lines)
 
     def started(self, office, **how):
-        """Starts the order."""
         self.put_files(office)
         return office.start(*self.words, town=self.town, **how)
 
@@ -114,7 +114,6 @@ def offices(folder, orders=ELECTION):
 
 
 def earlier_office(folder):
-    """Returns an office of an earlier program."""
     office = Office(folder)
     older_office.main(office.folder / TOWN)
     return office
@@ -142,6 +141,7 @@ def evening_office(folder, codes=None):
         for number, candidate in enumerate(candidates, 1):
             office.do("candidate", "--id", f"c{ward}-{number}", "--", ward, number, candidate)
         office.do("close", ward, "--id", f"n{ward}")
-    office.replay(f"batch {batch} {ward} {size} 4 9 --id b{batch}" for batch, ward, size in ((12, 7, 50), (13, 8, 3), (14, 7, 1), (15, 7, 1)))
+    for batch, ward, size in ((12, 7, 50), (13, 8, 3), (14, 7, 1), (15, 7, 1)):
+        office.do("batch", batch, ward, size, 4, 9, "--id", f"b{batch}")
     office.write_codes(codes or CODES)
     return office

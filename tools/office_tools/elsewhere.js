@@ -1,9 +1,13 @@
-// What a page from elsewhere tries, with the address of an office, the batch of its first keying, the step to the next, and how often it tries.
-// Its value is a list: of each way what it is, the id of its keying, and the text that it could read.
+// What a page from elsewhere tries, with the address of an office, the batch of its first keying, the step to the next, and how often it
+// tries. Its value is a list: of each way what it is, the id of its keying, and the text that it could read.
 (async ({office, batch, step, turns}) => {
   const wait = (seconds) => new Promise((done) => setTimeout(() => done(''), 1000 * seconds));
   const made = (name, fields) => Object.assign(document.createElement(name), fields);
-  const loaded = (it) => Promise.race([wait(20), new Promise((done) => { it.onload = it.onerror = () => done(''); document.body.append(it); })]);
+  const loaded = (it) => {
+    const ends = new Promise((done) => { it.onload = it.onerror = () => done(''); });
+    document.body.append(it);
+    return Promise.race([wait(20), ends]);
+  };
   const work = `${office}/clerks/4/work`;
   const page = `${office}/clerks/4/`;
   const read = async (address, options) => (await fetch(address, {credentials: 'include', ...options})).text();

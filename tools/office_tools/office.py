@@ -91,7 +91,6 @@ def open_many_files():
 
 
 def remove(*paths):
-    """Removes the files that are there."""
     for path in paths:
         Path(path).unlink(missing_ok=True)
 
@@ -104,7 +103,6 @@ class Office:
         self.folder.mkdir(parents=True, exist_ok=True)
 
     def start(self, *words, town=None, **how):
-        """Starts the program on the file."""
         words = [program(), town or self.town, *map(str, words)]
         return subprocess.Popen(words, cwd=self.folder, stdout=subprocess.PIPE, stderr=subprocess.PIPE, **how)
 
@@ -142,7 +140,6 @@ class Office:
         (self.folder / "codes.txt").chmod(0o600)
 
     def serve(self, connections=0, *words, **how):
-        """Starts `serve`."""
         return Serving(self, connections, *words, **how)
 
     def copied(self, folder, town=None):
@@ -207,7 +204,6 @@ class Serving:
         return None
 
     def wait(self):
-        """Waits until it listens."""
         line = self.connect()
         if line is None:
             raise Wrong(f"serve doesn't start: {ended(self.process)}")

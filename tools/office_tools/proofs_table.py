@@ -100,7 +100,6 @@ def section(crate):
 
 
 def page(crates):
-    """Returns the whole page, as text."""
     shown = [function for crate in crates for function in crate.functions if crate.is_shown(function)]
     clauses, edits = sum(len(function.ensures) for function in shown), sum(len(crate.edits) for crate in crates)
     head = HEAD.rstrip().format(public=len(shown), clauses=clauses, edits=edits)

@@ -1,8 +1,8 @@
 """Made-up evenings at an office: for tools that compare the results of many of them.
 
-A `Session` has wards, each of which lives for itself: a generator that yields lists of orders, and is sent the result of each: None if it was
-accepted, else the number and the text of its refusal. Between them come orders that are refused, or sent again. Everything is drawn from one
-seed.
+A `Session` has wards, each of which lives for itself: a generator that yields lists of orders, and is sent the result of each, None if it
+was accepted, else the number and the text of its refusal. Between them come orders that are refused, or sent again. Everything is drawn
+from one seed.
 """
 import collections
 import string
@@ -12,9 +12,9 @@ from office_tools.election import keying
 LAST_CANDIDATE = 30
 CLERKS = (1, 4, 5, 9, 17, 998, 999)
 NAMES = (
-    "Ann", "Bob", "Old Harbour", "O'Neill", 'the "Red" one', '"', "'", "''", '""', "\"'\"'", "-Harbour", "-", "--", "--id", "--id=x", "--help",
-    "-h", "#", "# a comment", "key", "ward 7 2", "withdrawn candidate 1", " before", "behind ", "  ", "\\", "a\\b", "$HOME", "`ls`", "=1+1", "*",
-    "~", "Łódź", "名前", "\u00a0", "\u0080", "\u202eeman", "\ufeff", "x" * 120, "é" * 60, "7", "0", "accept:1,,",
+    "Ann", "Bob", "Old Harbour", "O'Neill", 'the "Red" one', '"', "'", "''", '""', "\"'\"'", "-Harbour", "-", "--", "--id", "--id=x",
+    "--help", "-h", "#", "# a comment", "key", "ward 7 2", "withdrawn candidate 1", " before", "behind ", "  ", "\\", "a\\b", "$HOME",
+    "`ls`", "=1+1", "*", "~", "Łódź", "名前", "\u00a0", "\u0080", "\u202eeman", "\ufeff", "x" * 120, "é" * 60, "7", "0", "accept:1,,",
 )
 ODD_IDS = ("-", "--", "---", "-x", "--id", "--help", "-h", "id", "7", "0", "z" * 40, "-" * 40, "a-1", "a-2")
 

@@ -150,7 +150,8 @@ class Crate:
         self.records = {}
         for path in sorted(folder.glob("specs/**/*.antt")):
             self.records.update(fields_in(path.read_text() + "\n"))
-        self.edits = {path.stem: path.read_text() for part in ("must-fail", "wrong-bodies") for path in sorted(folder.glob(part + "/*.edit"))}
+        edits = (path for part in ("must-fail", "wrong-bodies") for path in sorted(folder.glob(part + "/*.edit")))
+        self.edits = {path.stem: path.read_text() for path in edits}
         self.folder = folder
 
     def is_shown(self, function):
@@ -172,5 +173,6 @@ def crates():
     """Returns all crates in the order of crates.txt, lowest first."""
     names = [line.split(":")[0].strip() for line in (ROOT / "crates.txt").read_text().splitlines() if ":" in line.split("#")[0]]
     found = [Crate(ROOT / "crates" / name) for name in names]
-    spread([function for crate in found for function in crate.functions], {name: fields for crate in found for name, fields in crate.records.items()})
+    records = {name: fields for crate in found for name, fields in crate.records.items()}
+    spread([function for crate in found for function in crate.functions], records)
     return found

@@ -14,7 +14,6 @@ class Table:
         self.show("|---" * len(heads) + "|")
 
     def row(self, *cells):
-        """Prints a row."""
         self.show("| " + " | ".join(map(str, cells)) + " |")
 
     def show(self, line):

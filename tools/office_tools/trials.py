@@ -6,7 +6,8 @@ import sys
 from concurrent.futures import ProcessPoolExecutor
 from pathlib import Path
 
-from office_tools.election import COPY, COPY_LOG, COPYING, ELECTION, FILE, MADE, READS, REPLAY, REQUESTS, SCRIPTED, Order, earlier_office, offices
+from office_tools.election import (
+    COPY, COPY_LOG, COPYING, ELECTION, FILE, MADE, READS, REPLAY, REQUESTS, SCRIPTED, Order, earlier_office, offices)
 from office_tools.office import LOG, NO_OFFICE, ROOT, SCRIPT, TOWN, Wrong, remove
 
 NOT_WRITTEN = "fault 110: copy not written"
@@ -120,7 +121,7 @@ class Trial:
         return what if note.exists() else None
 
     def runs(self, refusals, faults):
-        """Gives the order with each refusal until a run meets none. Returns (how many were refused, and what they found; what was wrong)."""
+        """Gives the order with each refusal until a run meets none. Returns ([how many met one, and what they found], [what was wrong])."""
         found, wrong = [], []
         for which, refusal in refusals:
             try:
@@ -158,7 +159,7 @@ def trials(folder, name="", orders=None):
 
 
 def side_by_side(runs, tried):
-    """Yields each trial with its lists of numbers, as `runs` returns them for it, two at a time. Prints what was wrong; at the end it raises that."""
+    """Yields each trial with the numbers of its runs, of two trials at a time. Prints what was wrong, and raises that at the end."""
     wrongs = refused = 0
     with ProcessPoolExecutor(2) as pool:
         for trial, results in zip(tried, pool.map(runs, tried)):

@@ -68,7 +68,7 @@ class Ward:
         return kinds * copies if copies and chance.randrange(2) else [chance.choice(kinds) for _ in range(papers)]
 
     def levelled(self, level, others, papers):
-        """Returns the preferences by which some candidates have equally many votes at last, which came from the others at different stages."""
+        """Returns the preferences by which some candidates tie at last, with votes that came from the others at different stages."""
         return [
             list(dict.fromkeys([*self.chance.sample(others, self.chance.choice([0, 0, 0, 1])), number, *self.chance.sample(level, 1)]))
             for number in level for _ in range(papers // len(level))
@@ -131,5 +131,6 @@ class PlayedWard:
             if verdict is not None:
                 word = f"reject:{verdict}" if verdict else f"accept:{','.join(marks)}"
                 orders.append(f"judge {batch} {place} {word} --id v{batch}-{place}")
-        self.office.write(f"{batch}.csv", keying([",".join(marks) if verdict is None else "D" for marks, verdict in papers], self.ward.names))
+        texts = [",".join(marks) if verdict is None else "D" for marks, verdict in papers]
+        self.office.write(f"{batch}.csv", keying(texts, self.ward.names))
         return orders

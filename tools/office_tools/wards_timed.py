@@ -85,7 +85,7 @@ def nominated(folder, *batches):
 
 
 def keyed_batches(office, count, chance):
-    """Writes the files of both clerks' keyings of so many papers. Returns the orders that import them, and those that judge the doubtful papers."""
+    """Writes the import files of so many papers. Returns the orders by which two clerks key them, and the verdicts on doubtful ones."""
     lines, judged = [], []
     for batch in range(1, count // BATCH + 1):
         texts, file = list(papers(chance, BATCH)), f"batch-{batch}.csv"
@@ -105,7 +105,8 @@ def keep_batches(office, batches, chance, doubtful="D", receipts=True):
             texts = list(papers(chance, BATCH, doubtful))
             told = [(0, f"b{batch}", f"batch {batch}", f"batch {batch} added")]
             for clerk in (4, 9):
-                base.executemany("INSERT INTO keying VALUES (?, 1, ?, ?, ?)", [(batch, clerk, number, text) for number, text in enumerate(texts, 1)])
+                rows = [(batch, clerk, number, text) for number, text in enumerate(texts, 1)]
+                base.executemany("INSERT INTO keying VALUES (?, 1, ?, ?, ?)", rows)
                 told.append((clerk, f"k{batch}", f"key {batch} 1", f"batch {batch} round 1 keyed"))
             base.executemany("INSERT INTO receipt VALUES (?, ?, ?, ?)", told if receipts else [])
     base.close()
@@ -114,7 +115,7 @@ def keep_batches(office, batches, chance, doubtful="D", receipts=True):
 def keyed_ward(folder, count):
     """Returns an office with a ward of so many papers, keyed by two clerks, and one more batch that nobody keyed; and the batch's number.
 
-    The file keying.csv is a keying of that batch. Of more than 20,000 papers the stock SQLite adds the rows, since the orders would take long.
+    The file keying.csv is a keying of that batch. The stock SQLite adds more than 20,000 papers, since the orders would take long.
     """
     office, chance, new = nominated(folder), random.Random(7), count // BATCH + 1
     if count > 20000:
@@ -134,9 +135,10 @@ def orders_in_keying(office, new):
     names, script, file = (office.folder / name for name in ("names.csv", "script.txt", "keying.csv"))
     marks = [line.split(",", 1)[1] for line in file.read_text().splitlines()[1:]]
     for name, line in (
-        ("`status` 7", "status 7"), ("`wards`", "wards"), ("`batches` 7", "batches 7"), ("`doubtful` 7", "doubtful 7"), ("`receipts`", "receipts"),
-        ("`papers` of a batch", "papers 1"), ("`index`", "index"), ("`journal`", "journal"), (WARD, QUAY), ("`batch`", f"batch {new + 1} 7 {BATCH} 4 9 --id x"),
-        (f"`import-keying` of {BATCH} papers", f"import-keying 4 {new} 1 {file} --id x"), ("`judge`", f"judge {batch} {paper} reject:3 --id x"),
+        ("`status` 7", "status 7"), ("`wards`", "wards"), ("`batches` 7", "batches 7"), ("`doubtful` 7", "doubtful 7"),
+        ("`receipts`", "receipts"), ("`papers` of a batch", "papers 1"), ("`index`", "index"), ("`journal`", "journal"), (WARD, QUAY),
+        ("`batch`", f"batch {new + 1} 7 {BATCH} 4 9 --id x"), ("`judge`", f"judge {batch} {paper} reject:3 --id x"),
+        (f"`import-keying` of {BATCH} papers", f"import-keying 4 {new} 1 {file} --id x"),
     ):
         yield name, line.split(), 0
     yield f"`key` of {BATCH} papers", ["key", "4", str(new), "1", "--id", "x", *("D" if text[0] == "D" else text for text in marks)], 0
@@ -148,15 +150,16 @@ def orders_in_keying(office, new):
     office.write(names.name, ["ward,candidate,name", *(f"8,{c},Candidate {c}" for c in ADDED)])
     office.write(script.name, [f"candidate 8 {c} 'Candidate {c}' --id r{c}" for c in ADDED])
     for name, line in (
-        ("`candidate`", "candidate 8 11 Ann --id x"), (f"`import-candidates` of {len(ADDED)} candidates", f"import-candidates {names} --id x"),
-        ("`withdraw`", "withdraw 8 1 --id x"), ("`close`", "close 8 --id x"), ("`next` 7", "next 7"), ("`differences`", f"differences {new}"),
-        ("`again`", f"again {new} --id x"), ("`third`", f"third {new} 5 --id x"), (f"`replay` of {len(ADDED)} orders", f"replay {script}"),
+        ("`candidate`", "candidate 8 11 Ann --id x"),
+        (f"`import-candidates` of {len(ADDED)} candidates", f"import-candidates {names} --id x"), ("`withdraw`", "withdraw 8 1 --id x"),
+        ("`close`", "close 8 --id x"), ("`next` 7", "next 7"), ("`differences`", f"differences {new}"), ("`again`", f"again {new} --id x"),
+        ("`third`", f"third {new} 5 --id x"), (f"`replay` of {len(ADDED)} orders", f"replay {script}"),
     ):
         yield name, line.split(), 0
 
 
 def orders_in_count(office):
-    """Yields the same of each order on an office of agreed papers, which is counted and declared on the way; each stage under its number."""
+    """Yields the same of each order on an office of agreed papers, which is counted on the way; each stage under its number."""
     yield "`seal`", "seal 7 --id x".split(), 0
     office.do("seal", 7, "--id", "seal")
     yield WARD + ", sealed", QUAY.split(), 0
@@ -203,7 +206,7 @@ def asked(serving, target, body=""):
 
 
 def sheet_seconds(folder, count):
-    """Returns the seconds for a sheet of so many papers over HTTP, with three stages done, read anew each time, and answered from memory."""
+    """Returns the seconds for a sheet of three stages of so many papers over HTTP, read anew each time, and answered from memory."""
     office = agreed_ward(folder, count)
     office.do("seal", 7, "--id", "seal")
     advance(office, 3)

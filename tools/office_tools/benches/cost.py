@@ -20,12 +20,14 @@ from office_tools.office import ROOT, TOWN, Wrong, ended, program, remove, tempo
 from office_tools.tables import Table, put_into
 from office_tools.tries import older_office
 from office_tools.wards_timed import (
-    BATCH, COLUMNS, advance, agreed_ward, asked, best, best_of, keyed_batches, keyed_ward, nominated, orders_in_count, orders_in_keying, papers,
-    run, sheet_seconds, shortest)
+    BATCH, COLUMNS, advance, agreed_ward, asked, best, best_of, keyed_batches, keyed_ward, nominated, orders_in_count, orders_in_keying,
+    papers, run, sheet_seconds, shortest)
 from office_tools.web import request
 
 MOST_OVER_HTTP, STOCK = 10000, "its rows added by the stock sqlite"
-ONCE = [f"a keying of {BATCH} papers over HTTP, the office open", "the same by an order, in a ward that is keyed so", "`replay` of a whole election"]
+ONCE = [f"a keying of {BATCH} papers over HTTP, the office open", "the same by an order, in a ward that is keyed so",
+        "`replay` of a whole election"]
+SHEETS = ["a sheet of 3 stages over HTTP, the office open", "the same asked again, answered from memory"]
 
 
 def read_all(base):
@@ -139,9 +141,8 @@ def measured(count):
         once = [(None, None)] * 3
         if count <= MOST_OVER_HTTP:
             once = [*((seconds, None) for seconds in keyings(folder / "http", count)), whole_election(folder / "whole", count)]
-        anew, again = sheet_seconds(folder / "sheets", count)
-        rows += [*counted, *((what, *found) for what, found in zip(ONCE, once)), ("a sheet of 3 stages over HTTP, the office open", anew, None)]
-        return [*rows, ("the same asked again, answered from memory", again, None)], stages
+        once += [(seconds, None) for seconds in sheet_seconds(folder / "sheets", count)]
+        return [*rows, *counted, *((what, *found) for what, found in zip(ONCE + SHEETS, once))], stages
 
 
 def cell(seconds, peak):

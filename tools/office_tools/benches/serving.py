@@ -1,11 +1,11 @@
 """Times clients that are served side by side, and orders that are handed over to `serve`, and prints the tables of docs/COST.md.
 
 Twenty clerks key batches of 500 papers next to 300 silent connections, as fast as they are answered, or with a pause of a second on
-average; before it one at a time. 1, 20 and 200 clients ask again and again for a clerk's work; next to it stands what `ab` counts, if it is
-there. A sheet of a tenth of the papers is read anew, and answered from memory. Each order on a ward of so many papers is given alone,
-and handed over, each on a copy of the file, as the shortest of several runs. Memory is that of `serve` at its start, and with 512 connections
-that have each sent half of a body of 1 MiB. PAPERS is a multiple of 500; with fewer than 10,000 all numbers are small: to see that it works.
-With --write the tables go into docs/COST.md.
+average; before it one at a time. 1, 20 and 200 clients ask again and again for a clerk's work; next to it stands what `ab` counts, if it
+is there. A sheet of a tenth of the papers is read anew, and answered from memory. Each order on a ward of so many papers is given alone,
+and handed over, each on a copy of the file, as the shortest of several runs. Memory is that of `serve` at its start, and with 512
+connections that have each sent half of a body of 1 MiB. PAPERS is a multiple of 500; with fewer than 10,000 all numbers are small, to see
+that it works. With --write the tables go into docs/COST.md.
 """
 import json
 import random
@@ -83,7 +83,6 @@ def closed(lines):
 
 
 def print_keyings(folder, sizes):
-    """Prints the table of keyings."""
     office, bodies = office_to_key(folder, sizes.rounds)
     part = [{clerk: works[turn * sizes.rounds:(turn + 1) * sizes.rounds] for clerk, works in bodies.items()} for turn in range(3)]
     with office.serve().wait() as serving:
@@ -92,10 +91,11 @@ def print_keyings(folder, sizes):
         rows = [("one clerk at a time", lone),
                 (f"{len(CLERKS)} clerks beside {SILENT} silent connections", keyed_beside_silent(serving, part[1], 0)),
                 ("the same, each with a pause of a second on average", keyed_beside_silent(serving, part[2], 1))]
-    table = Table(f"Keyings of {BATCH} papers", "keyings", "the middle one, ms", "the slowest, ms", "beside the slowest of one clerk", "a second")
+    heads = ("keyings", "the middle one, ms", "the slowest, ms", "beside the slowest of one clerk", "a second")
+    table = Table(f"Keyings of {BATCH} papers", *heads)
     for what, (times, seconds) in rows:
-        slowest = f"{times[-1] / lone[0][-1]:.1f} times"
-        table.row(what, len(times), f"{1000 * times[len(times) // 2]:.1f}", f"{1000 * times[-1]:.1f}", slowest, f"{len(times) / seconds:.0f}")
+        middle, slowest = (f"{1000 * took:.1f}" for took in (times[len(times) // 2], times[-1]))
+        table.row(what, len(times), middle, slowest, f"{times[-1] / lone[0][-1]:.1f} times", f"{len(times) / seconds:.0f}")
     return table
 
 
@@ -126,7 +126,6 @@ def counted_by_ab(port, clients, seconds):
 
 
 def print_requests(folder, sizes):
-    """Prints the table of requests."""
     office, _ = office_to_key(folder, sizes.rounds)
     table = Table("Clients who ask for a clerk's work", "answers a second", "as `ab` counts")
     with office.serve().wait() as serving:
@@ -137,7 +136,6 @@ def print_requests(folder, sizes):
 
 
 def print_sheets(folder, sizes):
-    """Prints the table of sheets."""
     anew, again = sheet_seconds(folder, sizes.sheet)
     table = Table(f"A sheet of {sizes.sheet:,} papers over HTTP, 3 stages done", "a second", "ms")
     table.row("read anew each time", f"{1 / anew:.0f}", f"{1000 * anew:.1f}")
@@ -197,7 +195,6 @@ def half_sent(serving):
 
 
 def print_memory(folder, sizes):
-    """Prints the table of memory."""
     with office_to_key(folder, sizes.rounds)[0].serve().wait() as serving:
         asked(serving, WORK)
         alone, (peak, gone) = serving.memory(), half_sent(serving)

@@ -15,7 +15,6 @@ PRINTED = re.compile(r"^(refused \d+|file fault \d+|fault \d+)\b", re.M)
 
 
 def pages():
-    """Returns the pages of the repository."""
     return [ROOT / name for name in ("README.md", "CHANGELOG.md", "CONTRIBUTING.md")] + sorted((ROOT / "docs").glob("*.md"))
 
 

@@ -61,7 +61,7 @@ class Order:
         return " ".join([self.name, *self.words, *(["--id ID"] if self.has_id else [])])
 
     def takes(self, words):
-        """Returns whether the words are of its form; those that may be left out may be there, and any number of the last one if it may be many."""
+        """Returns whether the words are of its form; some may be left out, and the last one may be there any number of times."""
         needed = [word for word in self.words if word[0] != "["]
         given = words[1:words.index("--id")] if "--id" in words else words[1:]
         is_enough = len(needed) <= len(given) and (self.has_many or len(given) <= len(self.words))
@@ -91,7 +91,8 @@ def check_pages(orders, scripted):
     for name, words, rest in rows:
         if name in orders:
             same(place, name, name + words, orders[name].typed())
-            for option in (*(f"--{option} {value}" for option, value in orders[name].optional), *(f"--{flag}" for flag in orders[name].flags)):
+            with_words = [f"--{option} {value}" for option, value in orders[name].optional]
+            for option in with_words + [f"--{flag}" for flag in orders[name].flags]:
                 differ(place, f"{name}: {option} is missing", f"`{option}`" in rest)
     for names, told in re.findall(r"^\| ([A-Z_, ]+) \| (.*) \|$", text.split("| Word | Range |")[1].split("\n\n")[0], re.M):
         ranges.update({name: RANGE.findall(told)[:1] for name in names.split(", ")})

@@ -138,7 +138,8 @@ class Calls:
         last = words[-1] if words else "crate"
         if self.methods(name, last):
             return self.methods(name, last)
-        places = {"crate": ["lib", "main"], "self": function.module[-1:], "super": function.module[-2:-1] or ["lib", "main"]}.get(last, [last])
+        tops = ["lib", "main"]
+        places = {"crate": tops, "self": function.module[-1:], "super": function.module[-2:-1] or tops}.get(last, [last])
         outside = words and words[0] not in ("crate", "self", "super") and not any(words[0] in f.module for f in self.crate.functions)
         return [] if outside else [f for f in self.crate.functions if f.name == name and not f.owners and f.module[-1] in places]
 

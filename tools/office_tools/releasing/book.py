@@ -3,7 +3,8 @@ import html
 import re
 import subprocess
 
-PAGES = ["INSTALLING", "ELECTION", "TELLERS", "AGENTS", "FORMATS", "ORDERS", "REFUSALS", "IMPORTS", "SHEETS", "BALLOTS", "RULES", "HTTP", "DATABASE", "GLOSSARY"]
+PAGES = ["INSTALLING", "ELECTION", "TELLERS", "AGENTS", "FORMATS", "ORDERS", "REFUSALS", "IMPORTS", "SHEETS", "BALLOTS", "RULES", "HTTP",
+         "DATABASE", "GLOSSARY"]
 BOOK = """<!DOCTYPE html>
 <html lang="en">
 <head>

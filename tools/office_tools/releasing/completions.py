@@ -83,8 +83,9 @@ def quoted(text):
 
 
 def bash(orders):
-    cases = "".join(f"        {order.name}) options=\"{options_of(order)}\" files={'yes' if order.takes_file() else ''} ;;\n" for order in orders)
-    return BASH % (" ".join(order.name for order in orders), cases)
+    files = {True: "yes", False: ""}
+    cases = (f'        {order.name}) options="{options_of(order)}" files={files[order.takes_file()]} ;;\n' for order in orders)
+    return BASH % (" ".join(order.name for order in orders), "".join(cases))
 
 
 def zsh(orders):

@@ -23,7 +23,6 @@ def read(path):
 
 
 def said(*words, **how):
-    """Returns what a command prints."""
     ran = subprocess.run(words, cwd=ROOT, stdout=subprocess.PIPE, text=True, **how)
     if ran.returncode:
         fail(f"{' '.join(map(str, words))} ended with {ran.returncode}")

@@ -24,7 +24,7 @@ class Order:
     options: list
 
     def takes_file(self):
-        return any(word.name.strip("<>[]") in ("FILE", "NEW") for word in self.words) or any("<FILE>" in option.name for option in self.options)
+        return any(word.name.strip("<>[]") in ("FILE", "NEW") for word in self.words) or any("<FILE>" in one.name for one in self.options)
 
     def long_options(self):
         """Returns the options other than --help."""
@@ -72,6 +72,7 @@ def orders(program):
     listed = re.findall(r"^  ([a-z][a-z-]*)(?: \[?[A-Z]+\]?)*  +\S", overview, re.M)
     for name in dict.fromkeys(commands + listed):
         parts = sections(told(program, "DB", name, "--help"))
-        about = [line for line in parts[""] if line]
-        found.append(Order(name, " ".join(about[:-1]).rstrip(":"), about[-1], parts["Usage"][0], items(parts.get("Arguments", [])), items(parts["Options"])))
+        *about, example = filter(None, parts[""])
+        words, options = items(parts.get("Arguments", [])), items(parts["Options"])
+        found.append(Order(name, " ".join(about).rstrip(":"), example, parts["Usage"][0], words, options))
     return found

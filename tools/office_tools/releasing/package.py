@@ -63,7 +63,7 @@ def with_folders(files):
 
 
 def plain_parts(files, version, time):
-    """Returns {name: bytes} of the package's two archives, as yet unpacked: the files below /usr, and the folder of the offices' settings."""
+    """Returns {name: bytes} of the package's two archives, as yet unpacked. The files go below /usr."""
     size = sum(len(text) for _, text in files.values()) // 1024 + 1
     control = CONTROL.format(version=version, architecture=ARCHITECTURE, size=size)
     scripts = {"postinst": AFTER_INSTALL, "prerm": BEFORE_REMOVAL, "postrm": AFTER_REMOVAL}

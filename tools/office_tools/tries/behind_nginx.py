@@ -25,7 +25,8 @@ def configuration(folder, port, tls):
     """Returns the configuration of HTTP.md, with these ports, the certificate of the folder and the network of the clients here."""
     text = re.search(r"```nginx\n(.*?)# send a browser", (ROOT / "docs" / "HTTP.md").read_text(encoding="utf-8"), re.DOTALL)[1]
     changes = {
-        "listen 443 ssl": f"listen {HERE}:{tls} ssl", "/etc/ssl/certs/count.pem": f"{folder}/count.pem", "/etc/ssl/private/count.key": f"{folder}/count.key",
+        "listen 443 ssl": f"listen {HERE}:{tls} ssl",
+        "/etc/ssl/certs/count.pem": f"{folder}/count.pem", "/etc/ssl/private/count.key": f"{folder}/count.key",
         "allow 192.0.2.0/24": f"allow {NETWORK}", "http://127.0.0.1:8080": f"http://{HERE}:{port}",
     }
     for old, new in changes.items():
@@ -41,8 +42,8 @@ class Nginx:
 
     def __init__(self, folder, port):
         self.port, self.folder = free_port(), folder
-        certificate = ["openssl", "req", "-x509", "-newkey", "rsa:2048", "-nodes", "-days", "2", "-subj", f"/CN={NAME}", "-keyout", "count.key", "-out", "count.pem"]
-        subprocess.run(certificate, cwd=folder, check=True, stderr=subprocess.DEVNULL)
+        certificate = f"openssl req -x509 -newkey rsa:2048 -nodes -days 2 -subj /CN={NAME} -keyout count.key -out count.pem"
+        subprocess.run(certificate.split(), cwd=folder, check=True, stderr=subprocess.DEVNULL)
         (folder / "nginx.conf").write_text(configuration(folder, port, self.port), encoding="utf-8")
         self.process = subprocess.Popen(["nginx", "-p", folder, "-c", folder / "nginx.conf"], stderr=subprocess.DEVNULL)
 
@@ -80,7 +81,9 @@ def main(seed=7, *, seconds=180):
         folder.chmod(0o755)
         office = evening_office(folder / "office", codes)
         with office.serve(0, "--codes", "codes.txt", "--origin", f"https://{NAME}").wait() as serving, Nginx(folder, serving.port) as nginx:
-            check_beside_guesses(f"{seconds} seconds, through nginx", lambda sends, clerk: nginx.ask(sends, f"127.0.1.{clerk or OUTSIDER}"), codes, chance, seconds)
+            def send(sends, clerk):
+                return nginx.ask(sends, f"127.0.1.{clerk or OUTSIDER}")
+            check_beside_guesses(f"{seconds} seconds, through nginx", send, codes, chance, seconds)
             # They come from many addresses, since nginx limits each.
             check_bodies(lambda sends, number: nginx.ask(sends, f"127.0.1.{1 + number % 199}"))
             stranger = nginx.ask(with_code(4, codes[4]), STRANGER)

@@ -17,7 +17,7 @@ from office_tools.office import TOWN, Office, Wrong, free_port, is_free, open_ma
 from office_tools.tables import Table
 from office_tools.web import ask, request
 
-V4, V6 = socket.AF_INET, socket.AF_INET6
+V4, V6, BOTH = socket.AF_INET, socket.AF_INET6, ["127.0.0.1", "::1"]
 TAKEN = (3, "", "fault 107: socket or output\n")
 ASKS, WORK = request("/clerks/4/work", "Host: localhost"), b'{"clerk":4,"work":[]}'
 SECONDS, PATIENCE = 20, 10
@@ -39,7 +39,8 @@ def keep_from_ipv6():
     """Has each `socket(AF_INET6, ..)` of this process fail with EAFNOSUPPORT, as systemd's RestrictAddressFamilies does."""
     call = {"x86_64": 41, "aarch64": 198}[platform.machine()]
     # Instructions of a seccomp filter: load the call's number; if it is `socket`, load its first argument; if that is AF_INET6, fail.
-    code = [(0x20, 0, 0, 0), (0x15, 0, 3, call), (0x20, 0, 0, 16), (0x15, 0, 1, V6), (0x06, 0, 0, 0x00050000 | 97), (0x06, 0, 0, 0x7FFF0000)]
+    fail, allow = 0x00050000 | 97, 0x7FFF0000
+    code = [(0x20, 0, 0, 0), (0x15, 0, 3, call), (0x20, 0, 0, 16), (0x15, 0, 1, V6), (0x06, 0, 0, fail), (0x06, 0, 0, allow)]
     text = ctypes.create_string_buffer(b"".join(struct.pack("HBBI", *line) for line in code))
     filter_ = ctypes.create_string_buffer(struct.pack("H6xQ", len(code), ctypes.addressof(text)))
     libc = ctypes.CDLL(None, use_errno=True)
@@ -124,7 +125,8 @@ def without_ipv6(office):
     """Serves where there is no [::1]. Returns None if such a network can't be made here."""
     if not all(map(shutil.which, ("unshare", "ip", "curl"))):
         return None
-    run = subprocess.run(["unshare", "--net", "sh", "-c", WITHOUT_IPV6, "sh", program(), TOWN], cwd=office.folder, capture_output=True, timeout=SECONDS)
+    words = ["unshare", "--net", "sh", "-c", WITHOUT_IPV6, "sh", program(), TOWN]
+    run = subprocess.run(words, cwd=office.folder, capture_output=True, timeout=SECONDS)
     if b"unshare" in run.stderr or run.returncode == 77:
         return None
     return run.returncode == 0 and run.stdout == WORK and run.stderr == b""
@@ -141,8 +143,8 @@ CASES = [
     ("another process has all addresses", taken(V6, "", False)),
     (f"{CROWD} silent connections at 127.0.0.1, and a client at [::1]", crowded("127.0.0.1", ["::1"] * 3, CROWD)),
     (f"{CROWD} silent connections at [::1], and a client at 127.0.0.1", crowded("::1", ["127.0.0.1"] * 3, CROWD)),
-    (f"{DESCRIPTORS} descriptors, {SILENT} silent connections at 127.0.0.1", crowded("127.0.0.1", ["127.0.0.1", "::1"], SILENT, preexec_fn=few_files)),
-    (f"{DESCRIPTORS} descriptors, {SILENT} silent connections at [::1]", crowded("::1", ["127.0.0.1", "::1"], SILENT, preexec_fn=few_files)),
+    (f"{DESCRIPTORS} descriptors, {SILENT} silent connections at 127.0.0.1", crowded("127.0.0.1", BOTH, SILENT, preexec_fn=few_files)),
+    (f"{DESCRIPTORS} descriptors, {SILENT} silent connections at [::1]", crowded("::1", BOTH, SILENT, preexec_fn=few_files)),
     ("a machine without [::1]", without_ipv6),
     ("a program that is kept from IPv6", kept_from_ipv6),
 ]

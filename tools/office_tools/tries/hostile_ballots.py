@@ -203,7 +203,8 @@ def agrees(check, what, lines, chance):
 
 
 KINDS = ALIKE, OTHER, OURS_AND_NEAR, SHARED, CHANGED, DAMAGED = (
-    "sheets and declarations", "as another program writes them", "comments of ours and near them", "shared ranks", "changed sheets", "damaged ballots")
+    "sheets and declarations", "as another program writes them", "comments of ours and near them", "shared ranks", "changed sheets",
+    "damaged ballots")
 
 
 def check_ward(check, ward, chance, runs):

@@ -20,7 +20,8 @@ from office_tools.web import BROKEN, HERE, answer, basic, received, request, sta
 CODES = {4: "kf7m-2wxt-h4dn", 5: "hh3m-7wpn-4kfr", 9: "r4tc-3mfk-wp2y"}
 # The work of this clerk is more than sockets take of an answer that nobody reads, if they are small.
 READER, BATCHES = 5, 800
-FOREIGN = [b"Origin: http://evil.example", b"Origin: null", b"Sec-Fetch-Site: cross-site", b"Host: evil.example:8080", b"host: 127.0.0.1.evil.example"]
+FOREIGN = [b"Origin: http://evil.example", b"Origin: null", b"Sec-Fetch-Site: cross-site", b"Host: evil.example:8080",
+           b"host: 127.0.0.1.evil.example"]
 KEYING = '{"id":"h1","round":1,"papers":["1,2,","9"]}'
 PATIENCE, MOST = 30, 8000
 CROWD, FEW = 1000, 30
@@ -145,7 +146,6 @@ def kinds(served, chance):
 
 
 def print_kinds(served, seed):
-    """Prints the table of clients that come one after the other."""
     table = Table(f"The clients (seed {seed})", "clients", "answers, by status", "let go without one", "seconds")
     for what, most, act in kinds(served, random.Random(seed)):
         began = time.perf_counter()
@@ -230,8 +230,8 @@ def asked_meanwhile(served, crowd):
 
 
 def print_crowds(served):
-    """Prints the table of crowds."""
-    table = Table("Clients who", "at once", f"came in {CROWDED} seconds", "answers that the other one had", "the slowest of them, seconds", "memory so far, MB")
+    heads = ("answers that the other one had", "the slowest of them, seconds", "memory so far, MB")
+    table = Table("Clients who", "at once", f"came in {CROWDED} seconds", *heads)
     port = served.serving.port
     for what, crowd in (
         ("say nothing", Crowd(port)),

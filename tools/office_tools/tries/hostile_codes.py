@@ -51,7 +51,6 @@ def shown(said):
 
 
 def print_denied(port):
-    """Tries each way to ask, and prints the status of the answer."""
     four, nine, header = basic(4, CODES[4]), basic(9, CODES[9]), "Authorization: "
     right = header + four
     table = Table("A request for `/clerks/4/`", "The answer")
@@ -156,7 +155,7 @@ def print_times(port, codes, chance):
 
 
 def check_beside_guesses(title, send, codes, chance, seconds):
-    """Checks what tellers get while somebody guesses codes under their numbers. The function sends a request from a teller's place, or another (0)."""
+    """Checks what tellers get while somebody guesses codes. `send` sends a request from the place of a teller, or from another (0)."""
     ends = time.monotonic() + seconds
 
     def guesses():
@@ -208,7 +207,7 @@ def check_limit(port, codes, chance):
     while status(guessed(chance.choice(TELLERS))) == 429 and time.monotonic() < began + 2 * MINUTE:
         time.sleep(0.25)
     waited = time.monotonic() - began
-    print(f"\n{MOST} wrong codes came within {took:.0f} seconds. From then on one got 429, until {waited:.0f} seconds after the first. All tellers were let in.")
+    print(f"\n{MOST} wrong codes came within {took:.0f} seconds. From then on one got 429, until {waited:.0f} seconds after the first.")
     if not MINUTE - 2 < waited < MINUTE + 2:
         raise Wrong("the limit should have lasted for a minute from the first wrong code on")
 

@@ -1,7 +1,7 @@
 """Gives the program files that are no office, or a damaged one, and prints what it reports.
 
-docs/HOSTILE.md says what must hold of each. Then files belong to other accounts, which needs root: an order doesn't read another
-account's log, but root's, or if others may write to DB; `serve` refuses another's codes (codes fault 5), and makes no socket for another's DB.
+docs/HOSTILE.md says what must hold of each. Then files belong to other accounts, which needs root: an order doesn't read another account's
+log, but root's, or if others may write to DB; `serve` refuses another's codes (codes fault 5), and makes no socket for another's DB.
 """
 import os
 import random
@@ -24,8 +24,8 @@ STATUS, QUAY = "status 7", "ward 8 1 Quay --id q"
 # Every other order, each with words that it understands.
 FURTHER = [
     "withdraw 7 2 --id x", "third 12 5 --id t", "again 12 --id g", "judge 12 1 accept:1,2, --id j", "lot 7 3 2 --id l", "declare 7 --id d",
-    f"import-candidates {FILE} --id i", STATUS, "wards", "batches 7", "doubtful 7", "differences 12", "papers 12", "receipts", "journal", "next 7",
-    "sheet 7", "ballots 7", "result 7", "page 7", "table 7", "index", f"key 9 12 1 {' '.join(PAPERS)} --id y", "count 7 --id e",
+    f"import-candidates {FILE} --id i", STATUS, "wards", "batches 7", "doubtful 7", "differences 12", "papers 12", "receipts", "journal",
+    "next 7", "sheet 7", "ballots 7", "result 7", "page 7", "table 7", "index", f"key 9 12 1 {' '.join(PAPERS)} --id y", "count 7 --id e",
     f"replay {FILE}", "copy copy.db", "migrate", "serve 65000 1"]
 EVERY = [shlex.split(line) for line in MADE + COUNTED + FURTHER]
 # The longest log that `init` begins before it writes the first page of the file.
@@ -79,7 +79,7 @@ def kinds(folder, town, chance):
     return [(what, files) for what, *files in (
         ("random bytes", [noise(length) for length in (0, 2, 15, 16, 100, 512, PAGE, 3 * PAGE, len(town)) for _ in range(4)]),
         ("one byte", [noise(1) for _ in range(4)]),
-        ("a header and random bytes", [town[:100] + noise(length) for length in (0, 1, 412, PAGE - 100, len(town) - 100) for _ in range(4)]),
+        ("a header and random bytes", [town[:100] + noise(length - 100) for length in (100, 101, 512, PAGE, len(town)) for _ in range(4)]),
         ("cut before each page", [town[:place] for place in pages]),
         ("cut within each page", [town[:place + chance.randrange(1, PAGE)] for place in pages]),
         ("a page of zeros", [town[:place] + bytes(PAGE) + town[place + PAGE:] for place in pages]),
@@ -183,9 +183,9 @@ def tried_beside(folder, town, name, content, words):
 
 def print_beside(folder, chance):
     """Prints the table of what is next to the place of DB."""
-    refused, made = "fault 105", "`init` makes an office"
-    table = Table(f"What stands beside the place of DB ({len(EVERY)} orders each)", f"DB missing: {refused}", f"DB of 0 bytes: {refused}", made,
-                  f"DB of 1 byte: {refused}", made)
+    made = "`init` makes an office"
+    heads = ("DB missing: fault 105", "DB of 0 bytes: fault 105", made, "DB of 1 byte: fault 105", made)
+    table = Table(f"What stands beside the place of DB ({len(EVERY)} orders each)", *heads)
     for what, name, contents in beside(chance, killed_log(folder)):
         cells = []
         for town in (None, b"", b"\0"):
@@ -196,8 +196,10 @@ def print_beside(folder, chance):
 
 # Whose DB and its log are, with which rights, and whether the log is read.
 OWNERS = [
-    ("DB root's, its log another's", 0, STRANGER, 0o600, "refused"), ("DB another's, its log a third's", STRANGER, STRANGER - 1, 0o600, "refused"),
-    ("the same, and others may read both", 0, STRANGER, 0o644, "refused"), ("the same, and others may write to DB", 0, STRANGER, 0o666, "taken"),
+    ("DB root's, its log another's", 0, STRANGER, 0o600, "refused"),
+    ("DB another's, its log a third's", STRANGER, STRANGER - 1, 0o600, "refused"),
+    ("the same, and others may read both", 0, STRANGER, 0o644, "refused"),
+    ("the same, and others may write to DB", 0, STRANGER, 0o666, "taken"),
     ("DB another's, its log root's", STRANGER, 0, 0o600, "taken"), ("both another's", STRANGER, STRANGER, 0o600, "taken"),
 ]
 
@@ -229,7 +231,6 @@ def served_once(office, *words):
 
 
 def print_foreign(folder, town):
-    """Prints the table of files that belong to other accounts."""
     table = Table("Whose the files are", "runs", "as it must be")
     if os.geteuid():
         table.row("not tried: that needs root", 0, 0)

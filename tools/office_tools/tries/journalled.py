@@ -58,7 +58,6 @@ def played(chance, office):
 
 
 def journal(office):
-    """Returns the journal of an office."""
     printed = office.run("journal", seconds=SECONDS)
     if printed.status or printed.err:
         raise Wrong(f"journal: {printed}")
@@ -103,12 +102,12 @@ def check_other_forms(office, chance, text, found):
 
 def counted(found, refused):
     """Returns what a session had, by its rows."""
-    withdrawn = sum(receipt[2].startswith("withdraw ") for receipt in found["receipt"])
-    had = collections.Counter({"sessions": 1, "orders accepted": len(found["receipt"]), "orders refused": refused, "candidates withdrawn": withdrawn})
+    had = collections.Counter({"sessions": 1, "orders accepted": len(found["receipt"]), "orders refused": refused})
+    had["candidates withdrawn"] = sum(receipt[2].startswith("withdraw ") for receipt in found["receipt"])
     had.update(f"wards in {PHASES[ward[2] - 1]}" for ward in found["ward"])
     had.update({
-        "batches": len(found["batch"]), "rounds past the first": sum(batch[5] - 1 for batch in found["batch"]), "third clerks": len(found["third"]),
-        "keyings": sum(keyed[3] == 1 for keyed in found["keying"]), "verdicts": len(found["verdict"]),
+        "batches": len(found["batch"]), "rounds past the first": sum(batch[5] - 1 for batch in found["batch"]),
+        "third clerks": len(found["third"]), "keyings": sum(keyed[3] == 1 for keyed in found["keying"]), "verdicts": len(found["verdict"]),
         "stages": sum(ward[3] for ward in found["ward"]), "lots": len(found["lot"])})
     return had
 

@@ -1,10 +1,10 @@
 """Plays an evening of two tellers at the page on which clerks key, in Chromium, by keys alone, and counts the keys.
 
-Two browsers log in as clerks 4 and 9, and each keys the same batch of 50 papers. One leaves a paper out and puts it in, and mends another. A
-page is loaded again in mid-batch, the server is killed and started again, and a line breaks after a keying was kept. At the end
-the rows are those that were typed, each keyed once. Then a clerk keys in the browser of another, a new round comes, wrong codes come
-under a clerk's number, names that would be markup are shown, and pages from elsewhere try what they can in the browser of a
-clerk who is logged in. Pictures at 1024 and 400 pixels go into the folder PICTURES. It needs the program `chromium`.
+Two browsers log in as clerks 4 and 9, and each keys the same batch of 50 papers. One leaves a paper out and puts it in, and mends another.
+A page is loaded again in mid-batch, the server is killed and started again, and a line breaks after a keying was kept. At the end the rows
+are those that were typed, each keyed once. Then a clerk keys in the browser of another, a new round comes, wrong codes come under a clerk's
+number, names that would be markup are shown, and pages from elsewhere try what they can in the browser of a clerk who is logged in.
+Pictures at 1024 and 400 pixels go into the folder PICTURES. It needs the program `chromium`.
 """
 import json
 import random
@@ -85,11 +85,9 @@ class Teller:
             raise Wrong(f"after {keys} there is {found}")
 
     def key(self, papers, at=0):
-        """Keys papers from where the cursor is."""
         self.press(*(key for text in papers for key in keys_of(text)), at=at)
 
     def choose(self, batch):
-        """Opens a batch of the list."""
         button = f"[...document.querySelectorAll('#list button')].find((it) => it.textContent === 'Batch {batch}')"
         self.browser.until(f"Boolean({button})")
         self.browser.value(f"{button}.focus()")
@@ -102,7 +100,6 @@ class Teller:
         self.press("Enter", at=1)
 
     def shows(self, part):
-        """Waits until the page shows a part."""
         self.browser.until(f"!document.getElementById('{part}').hidden")
 
     def shown(self, part):
@@ -230,7 +227,7 @@ class Evening:
         four.key(papers[32:34])
 
     def kept(self, four, nine):
-        """Both send: a line breaks once the keying was kept, and the server is gone when the other sends. The rows are those that were typed."""
+        """Both send: a line breaks once the keying was kept, and the server is gone when the other sends. Each is kept as it was typed."""
         self.line.cuts = 1
         four.press("s")
         four.said("doesn\u2019t answer")
@@ -249,7 +246,7 @@ class Evening:
         for teller in (four, nine):
             rows = self.rows(12, teller.clerk)
             if rows != self.papers:
-                raise Wrong(f"clerk {teller.clerk}: {[(number, *both) for number, both in enumerate(zip(self.papers, rows), 1) if both[0] != both[1]]}")
+                raise Wrong(f"clerk {teller.clerk}: {[both for both in enumerate(zip(self.papers, rows), 1) if both[1][0] != both[1][1]]}")
             if (receipts := self.asked("SELECT subject FROM receipt WHERE actor = ?", teller.clerk)) != ["key 12 1"]:
                 raise Wrong(f"clerk {teller.clerk} has {receipts}")
             if teller.browser.value("Object.keys(localStorage).length"):
@@ -262,12 +259,13 @@ class Evening:
         four.begin(13)
         four.press("1", "0", ".", "1", "2", "/", "1", "Enter", "/", "2", "9", "9")
         self.picture(four, "thirty")
-        labels = browser.labels("textbox")
-        if labels[1:3] != ["Paper 1, candidate 1 \u2068Candidate 1\u2069", "Paper 1, candidate 2 \u2068Candidate 2\u2069"] or not all(labels):
+        labels, wanted = browser.labels("textbox"), [f"Paper 1, candidate {c} \u2068Candidate {c}\u2069" for c in (1, 2)]
+        if labels[1:3] != wanted or not all(labels):
             raise Wrong(f"a screen reader gets {labels}")
         four.press("Enter", "d", "Enter", "0")
         self.two_windows(four)
-        if browser.value("document.querySelectorAll('#papers img, #papers b b').length") or browser.value("document.title") != "Clerk 4: keying":
+        made = browser.value("document.querySelectorAll('#papers img, #papers b b').length")
+        if made or browser.value("document.title") != "Clerk 4: keying":
             raise Wrong("a name is markup")
         browser.name, browser.code = "9", CODES[9]
         browser.open(self.address(9))
@@ -335,7 +333,8 @@ class Evening:
 
     def elsewhere(self, four):
         """Pages from elsewhere try what they can in the browser of clerk 4, who is logged in: nothing is read, and nothing kept."""
-        table, places = Table("A page of", "tries", "reads"), ("another port", "another name, at this machine", "another name, at that name")
+        table = Table("A page of", "tries", "reads")
+        places = ("another port", "another name, at this machine", "another name, at that name")
         with Proxy() as pages:
             for where, (page, office) in zip(places, PLACES):
                 window = four.browser.another()
@@ -363,14 +362,14 @@ class Evening:
 
 
 def print_keys(papers, keys, seconds):
-    """Prints how many keys the papers take, on the page and in a spreadsheet."""
     page, plain = sum(len(keys_of(text)) for text in papers), sum(map(sheet_keys, papers))
     numbers = sum(len(str(number)) + 1 for number in range(1, len(papers) + 1))
     table = Table("50 papers of 5 candidates", "keys", "a paper", "at three keys a second")
     for what, count in (("the page", page), ("a spreadsheet, the papers' numbers typed", plain + numbers),
                         ("a spreadsheet, the numbers filled in before", plain), ("clerk 4, with his mistakes", keys)):
         table.row(what, count, f"{count / len(papers):.1f}", f"{count / 3:.0f} s")
-    print(f"A key takes {1000 * statistics.median(seconds):.0f} ms on the page, {1000 * max(seconds):.0f} at most, the protocol's way included.")
+    middle, most = (f"{1000 * took:.0f}" for took in (statistics.median(seconds), max(seconds)))
+    print(f"A key takes {middle} ms on the page, {most} at most, the protocol's way included.")
 
 
 def main(pictures: Path = None):

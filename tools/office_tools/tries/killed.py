@@ -17,7 +17,6 @@ COPIES = 11
 
 
 def seconds_of(trial):
-    """Returns how long an order takes."""
     office, began = trial.office.copied(trial.folder / "timed"), time.perf_counter()
     trial.order.done(office)
     return time.perf_counter() - began

@@ -109,7 +109,7 @@ class Crowd:
         return added
 
     def served(self, here, chance, wait=None):
-        """Returns (seconds, the clerks' answers, the wards) of a `serve` that is killed after so many seconds, or once all were answered."""
+        """Returns (seconds, the clerks' answers, the wards) of a `serve` that is killed after so many seconds, or at the end."""
         pauses = {n: [chance.uniform(0, 0.002) for _ in range(PIECES)] if n % 2 else [] for n in CLERKS}
         with here.serve() as serving, ThreadPoolExecutor(len(CLERKS) + 1) as pool:
             silent = [serving.connect() for _ in range(SILENT)]
@@ -164,5 +164,6 @@ def main(runs=200, seed=7):
         crowd = Crowd(folder)
         found = list(zip(*(crowd.killed(chance) for _ in range(runs))))
     table = Table("Twenty clerks at once, and ten orders", "runs", "answered", "found", "runs with some of them, and not all")
-    for what, (answered, kept), most in (("each clerk keys a batch", found[:2], len(CLERKS)), ("the office adds ten wards", found[2:], len(WARDS))):
+    kinds = (("each clerk keys a batch", found[:2], len(CLERKS)), ("the office adds ten wards", found[2:], len(WARDS)))
+    for what, (answered, kept), most in kinds:
         table.row(what, runs, sum(answered), sum(kept), sum(0 < count < most for count in kept))

@@ -1,4 +1,4 @@
-"""Makes the file of an office as an earlier program left it, to bring over: the one that crates/store_tests/src/older/rows.rt holds as text."""
+"""Makes the file of an office as an earlier program left it, to bring over: crates/store_tests/src/older/rows.rt holds it as text."""
 import os
 import re
 import sqlite3

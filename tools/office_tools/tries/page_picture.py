@@ -29,7 +29,9 @@ GREYS = """(async () => {
   pen.drawImage(image, 0, 0);
   const {data} = pen.getImageData(0, 0, WIDTH, HEIGHT);
   let greys = '';
-  for (let at = 0; at < data.length; at += 4) greys += Math.floor((299 * data[at] + 587 * data[at + 1] + 114 * data[at + 2] + 8500) / 17000).toString(16);
+  for (let at = 0; at < data.length; at += 4) {
+    greys += Math.floor((299 * data[at] + 587 * data[at + 1] + 114 * data[at + 2] + 8500) / 17000).toString(16);
+  }
   return greys;
 })()"""
 
@@ -37,8 +39,8 @@ GREYS = """(async () => {
 def png_of(greys, height):
     """Returns a PNG in 16 greys."""
     rows = b"".join(b"\0" + bytes.fromhex(greys[WIDTH * row:WIDTH * (row + 1)]) for row in range(height))
-    found = b"\x89PNG\r\n\x1a\n"
-    for name, content in ((b"IHDR", struct.pack(">IIBBBBB", WIDTH, height, 4, 0, 0, 0, 0)), (b"IDAT", zlib.compress(rows, 9)), (b"IEND", b"")):
+    found, head = b"\x89PNG\r\n\x1a\n", struct.pack(">IIBBBBB", WIDTH, height, 4, 0, 0, 0, 0)
+    for name, content in ((b"IHDR", head), (b"IDAT", zlib.compress(rows, 9)), (b"IEND", b"")):
         found += struct.pack(">I", len(content)) + name + content + struct.pack(">I", zlib.crc32(name + content))
     return found
 

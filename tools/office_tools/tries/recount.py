@@ -332,7 +332,6 @@ def play(played, totals):
 
 
 def play_wards(wards, seed):
-    """Plays made-up wards, and prints the table."""
     totals, home = collections.Counter(), Path(tempfile.mkdtemp(prefix="recount-"))
     for place in range(1, wards + 1):
         played = PlayedWard(home / str(place), Ward(random.Random(f"{seed} {place}")))

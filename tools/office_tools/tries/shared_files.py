@@ -22,7 +22,8 @@ from office_tools.trials import NOT_WRITTEN, left, library
 
 KEYINGS = 7
 GONE = "fault 113: file gone or replaced\n"
-GONE_SENT = "HTTP/1.1 503 Service Unavailable\r\nContent-Type: application/json\r\nContent-Length: 13\r\nConnection: close\r\n\r\n{\"fault\":113}"
+GONE_SENT = ("HTTP/1.1 503 Service Unavailable\r\nContent-Type: application/json\r\nContent-Length: 13\r\nConnection: close\r\n"
+             '\r\n{"fault":113}')
 QUAY, HILL, STATUS, INIT = (Order(line.split()) for line in ("ward 8 1 Quay --id q", "ward 9 2 Hill --id h", "status 7", "init"))
 
 
@@ -104,7 +105,6 @@ class Pair:
 
 
 def print_pairs(folder, before, runs, chance):
-    """Prints the table of orders at once."""
     kinds = ("102", "105", "109", "110")
     table = Table(f"Two orders at once ({runs} runs each)", "both answered", *(f"one: fault {word}" for word in kinds))
     for what, number, first, second in PAIRS:
@@ -195,7 +195,7 @@ class Meddling:
         return printed
 
     def served(self, names, is_replaced, order, result):
-        """Takes files away while `serve` has them open. Where nothing is taken, the order that is handed over and a client's keying are done."""
+        """Takes files away while `serve` has them open. If none is, the order that is handed over and a client's keying are done."""
         here = self.keyed.copied(self.folder / "run")
         files = held(here)
         with here.serve(2) as serving:
@@ -206,7 +206,8 @@ class Meddling:
                     shutil.copyfile(self.other.folder / name, here.folder / name)
             printed, client = order.done(here), serving.ask(REQUESTS[1][1].sends).decode()
             said = serving.ended()
-        after, there, bare = (office.copied(self.folder / name) for office, name in ((self.keyed, "after"), (self.other, "there"), (self.keyed, "bare")))
+        after, bare = (self.keyed.copied(self.folder / name) for name in ("after", "bare"))
+        there = self.other.copied(self.folder / "there")
         if not names:
             order.done(after)
         answered = GONE_SENT if names else REQUESTS[1][1].done(after).out
@@ -323,8 +324,8 @@ def gaps(folder, made, office, first, name, words):
 
 
 def print_gaps(folder, made, before):
-    """Prints the table of orders that find no room."""
-    table = Table("An order that finds no room for its file", "another at that file", "pairs of calls", "answered", "fault 102", "fault 105")
+    heads = ("another at that file", "pairs of calls", "answered", "fault 102", "fault 105")
+    table = Table("An order that finds no room for its file", *heads)
     for (what, number, first, name), (coming, words) in itertools.product(MAKING, COMING):
         found = [kind(printed) for printed in gaps(folder, made, before[number], first, name, words)]
         if not found:
@@ -371,7 +372,6 @@ def rights_served(folder, office):
 
 
 def print_rights(folder, made, before):
-    """Prints the table of rights."""
     table = Table("What is made, under masks 0, 022 and 077", "its rights looked at, of their owner alone")
     kinds = [(what, functools.partial(rights, folder, made, before[number], first, name)) for what, number, first, name in MAKING]
     kinds.append(("a socket, and a copy of an office that is served", functools.partial(rights_served, folder, before[KEYINGS + 1])))

@@ -87,7 +87,6 @@ class Waits:
         return self.run("ward", number, 1, f"Ward {number}", "--id", f"w{number}")
 
     def many_at_once(self, orders):
-        """Gives several orders at once."""
         began, wards = time.perf_counter(), range(AT_ONCE, AT_ONCE + orders)
         with ThreadPoolExecutor(orders) as pool:
             expect("orders at once", list(pool.map(self.add, wards)), list(map(added, wards)))
@@ -195,7 +194,6 @@ class Waits:
         return shown.replace(b"\r\n", b"\n")
 
     def terminals(self):
-        """Looks at what orders show at a terminal."""
         expect("a file of its owner's alone is open", OPEN_LINE in self.at_terminal("receipts"), False)
         for mode in (0o640, 0o620, 0o604, 0o602):
             self.path.chmod(mode)
