@@ -7,14 +7,12 @@ script may have. Which these are, the program tells of a script of one line.
 """
 import re
 import shlex
-import subprocess
 
 from office_tools.election import ELECTION, READS, REPLAY
 from office_tools.office import ROOT, SCRIPT, Office, program, temporary_folder
+from office_tools.releasing import help as helps
 
 RANGE = re.compile(r"\d+ to \d+")
-# What the help tells of a word: <WORD>, --option <WORD>, or one of the two that may be left out or come many times.
-TOLD = re.compile(r"^ +(?:--\w+ )?<(\w+)>  +(.*(?:\n {13,}\S.*)*)|^ +\[(ACTOR|MARKS)\](?:\.\.\.)?  +(.*(?:\n {13,}\S.*)*)", re.M)
 PLAYED = "tools/office_tools/election.py"
 differences = []
 
@@ -38,24 +36,16 @@ def text_of(path):
     return (ROOT / path).read_text(encoding="utf-8")
 
 
-def helped(*words):
-    return subprocess.run([program(), *words, "--help"], capture_output=True, text=True, timeout=60).stdout
-
-
 class Order:
     """An order, as its own help has it."""
 
-    def __init__(self, name):
-        help_text = helped(name)
-        usage = re.search(r"^Usage: count-office DB (.*)$", help_text, re.M)
-        words = usage[1] if usage else name
-        self.has_id, self.has_many = "--id <ID>" in words, words.endswith("...")
-        self.name, *self.words = re.sub(r" --id <ID>| \[OPTIONS\]|[<>]", "", words).split()
-        self.optional = re.findall(r"^ +--(?!id\b)(\w+) <(\w+)>", help_text, re.M)
-        self.flags = re.findall(r"^ +--([a-z-]+)  +\S", help_text, re.M)
-        example = re.search(r"^count-office town\.db (.*)$", help_text, re.M)
-        self.example = shlex.split(example[1]) if example else []
-        self.ranges = {word or free: RANGE.findall(line or other) for word, line, free, other in TOLD.findall(help_text)}
+    def __init__(self, told):
+        self.has_id, self.has_many = "--id <ID>" in told.usage, told.usage.endswith("...")
+        self.name, *self.words = re.sub(r" --id <ID>| \[OPTIONS\]|[<>]", "", told.usage).split()
+        self.options = [re.sub("[<>]", "", option.name) for option in told.long_options() if option.name != "--id <ID>"]
+        self.example = shlex.split(told.example.removeprefix("count-office town.db "))
+        named = {re.search(r"[<[](\w+)", item.name): item.text for item in told.words + told.options}
+        self.ranges = {found[1]: RANGE.findall(text) for found, text in named.items() if found}
 
     def typed(self):
         return " ".join([self.name, *self.words, *(["--id ID"] if self.has_id else [])])
@@ -76,13 +66,6 @@ def in_script(order):
         return "stands in no script" not in office.run("replay", SCRIPT).err
 
 
-def told_by_help():
-    """Returns the orders of `--help`, and those of the lists at its end with their words."""
-    commands, end = helped().split("\nCommands:\n")[1].split("\nOptions:\n")
-    listed = re.findall(r"^  ([a-z-]+)((?: [A-Z]+| \[[A-Z]+\])*)  +\S", end.split("\nAn example stands")[0], re.M)
-    return re.findall(r"^  ([a-z-]+)  ", commands, re.M), [(name, words.strip()) for name, words in listed]
-
-
 def check_pages(orders, scripted):
     """Compares the tables of docs/ORDERS.md, and the list of docs/IMPORTS.md."""
     place, text, ranges = "docs/ORDERS.md", text_of("docs/ORDERS.md"), {}
@@ -91,8 +74,7 @@ def check_pages(orders, scripted):
     for name, words, rest in rows:
         if name in orders:
             same(place, name, name + words, orders[name].typed())
-            with_words = [f"--{option} {value}" for option, value in orders[name].optional]
-            for option in with_words + [f"--{flag}" for flag in orders[name].flags]:
+            for option in orders[name].options:
                 differ(place, f"{name}: {option} is missing", f"`{option}`" in rest)
     for names, told in re.findall(r"^\| ([A-Z_, ]+) \| (.*) \|$", text.split("| Word | Range |")[1].split("\n\n")[0], re.M):
         ranges.update({name: RANGE.findall(told)[:1] for name in names.split(", ")})
@@ -104,10 +86,9 @@ def check_pages(orders, scripted):
 
 
 def main():
-    first, listed = told_by_help()
-    names = first + [name for name, _ in listed]
-    orders = {name: Order(name) for name in names}
-    differ("--help", "an order stands twice", len(orders) == len(names))
+    commands, listed = helps.listed(program())
+    orders = {told.name: Order(told) for told in helps.orders(program())}
+    differ("--help", "an order stands twice", len(orders) == len(commands) + len(listed))
     for name, order in orders.items():
         same("--help", f"the help of {name}", order.name, name)
         differ("--help", f"{name}: its example is not of its words", bool(order.example) and order.takes(order.example))

@@ -36,16 +36,6 @@ def uses_of(text):
     return found
 
 
-def matched_with(body, name):
-    """Returns the match of a chain out of whose Some, Ok or Err a variable comes."""
-    pattern = r"\b(?:Some|Ok|Err)\((?:ref |mut )?" + name + r"\)"
-    told = re.search(r"\blet " + pattern + r" = " + CHAIN, body)
-    for found in re.finditer(r"\bmatch " + CHAIN + r" \{", body):
-        if re.search(pattern, body[found.end():sources.after_bracket(body, found.end() - 1)]):
-            told = found
-    return told
-
-
 class Calls:
     """Which functions of a crate a call may mean. A type is known by its name; None stands for one from outside the
     crate, and UNKNOWN for one that can't be known."""
@@ -62,8 +52,6 @@ class Calls:
                 inside = re.sub(r"pub\([^)]*\)", "", text[match.end():sources.after_bracket(text, match.end() - 1) - 1])
                 for name, kind in re.findall(r"\b(\w+)(?::|\()\s*([^,\n]+)", inside):
                     self.parts[(match.group(1), name)] = kind
-            for name, kinds in re.findall(r"\bstruct (\w+)(?:<[^()]*>)?\(([^;]*)\)[^;()]*;", text):
-                self.parts.update({(name, str(place)): kind for place, kind in enumerate(re.split(r",(?![^<]*>)", kinds))})
 
     def methods(self, name, owner=None):
         return [f for f in self.crate.functions if f.name == name and f.owners and (owner is None or owner in f.owners)]
@@ -97,7 +85,7 @@ class Calls:
         given = self.given_in_a_tuple(function, name)
         if given:
             return self.type_in(given.head.rpartition("->")[2], given)
-        first = re.search(r"\blet (?:mut )?" + name + r" = " + CHAIN + r"\??;", function.body) or matched_with(function.body, name)
+        first = re.search(r"\blet (?:mut )?" + name + r" = " + CHAIN + r"\??;", function.body)
         return self.type_of(function, first.group(1)) if first and not first.group(1).startswith(name) else UNKNOWN
 
     def given_in_a_tuple(self, function, name):

@@ -65,14 +65,20 @@ def items(lines):
     return found
 
 
+def listed(program):
+    """Returns the orders that the help of the whole program names: under its commands, and in its lists, these with their words."""
+    commands, end = told(program, "--help").split("\nCommands:\n")[1].split("\nOptions:\n")
+    lists = re.findall(r"^  ([a-z-]+)((?: [A-Z]+| \[[A-Z]+\])*)  +\S", end.split("\nAn example stands")[0], re.M)
+    return re.findall(r"^  ([a-z-]+)  ", commands, re.M), [(name, words.strip()) for name, words in lists]
+
+
 def orders(program):
-    """Returns the orders that the help of the whole program names: under its commands, and in its lists at the end."""
-    overview, found = told(program, "--help"), []
-    commands = [item.name for item in items(sections(overview)["Commands"])]
-    listed = re.findall(r"^  ([a-z][a-z-]*)(?: \[?[A-Z]+\]?)*  +\S", overview, re.M)
-    for name in dict.fromkeys(commands + listed):
+    """Returns all orders."""
+    commands, lists = listed(program)
+    found = []
+    for name in dict.fromkeys([*commands, *(name for name, _ in lists)]):
         parts = sections(told(program, "DB", name, "--help"))
         *about, example = filter(None, parts[""])
         words, options = items(parts.get("Arguments", [])), items(parts["Options"])
-        found.append(Order(name, " ".join(about).rstrip(":"), example, parts["Usage"][0], words, options))
+        found.append(Order(name, " ".join(about).rstrip(":"), example, parts["Usage"][0].removeprefix("count-office DB "), words, options))
     return found

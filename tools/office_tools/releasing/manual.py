@@ -36,8 +36,7 @@ CHECK = "\\fBcount\\-office \\- check\\fR \\fIBALLOTS\\fR \\fISHEET\\fR"
 
 
 def order_lines(order):
-    usage = escaped(order.usage.partition(" ")[2])
-    about = [f".SS {escaped(order.name)}", escaped(order.about + "."), ".PP", f"\\fBcount\\-office\\fR {usage}"]
+    about = [f".SS {escaped(order.name)}", escaped(order.about + "."), ".PP", f"\\fBcount\\-office\\fR DB {escaped(order.usage)}"]
     options = [option for option in order.options if not option.name.startswith("-h")]
     return about + listed(order.words) + listed(options) + [".PP", ".nf", ".RS 4", escaped(order.example), ".RE", ".fi"]
 

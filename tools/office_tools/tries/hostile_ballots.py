@@ -203,8 +203,10 @@ def agrees(check, what, lines, chance):
 
 
 KINDS = ALIKE, OTHER, OURS_AND_NEAR, SHARED, CHANGED, DAMAGED = (
-    "sheets and declarations", "as another program writes them", "comments of ours and near them", "shared ranks", "changed sheets",
-    "damaged ballots")
+    "sheets and declarations", "the same, with ballots as another program writes them",
+    "ballots with a comment of ours or near it, in any form and place, or without one",
+    "ballots with shared ranks, of the withdrawn too, and with words that are no ranks",
+    "sheets with a byte, a figure or a line that is another, missing or moved", "damaged ballots")
 
 
 def check_ward(check, ward, chance, runs):

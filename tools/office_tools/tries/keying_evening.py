@@ -366,7 +366,7 @@ def print_keys(papers, keys, seconds):
     numbers = sum(len(str(number)) + 1 for number in range(1, len(papers) + 1))
     table = Table("50 papers of 5 candidates", "keys", "a paper", "at three keys a second")
     for what, count in (("the page", page), ("a spreadsheet, the papers' numbers typed", plain + numbers),
-                        ("a spreadsheet, the numbers filled in before", plain), ("clerk 4, with his mistakes", keys)):
+                        ("a spreadsheet, the numbers filled in before", plain), ("a teller on the page, with his mistakes", keys)):
         table.row(what, count, f"{count / len(papers):.1f}", f"{count / 3:.0f} s")
     middle, most = (f"{1000 * took:.0f}" for took in (statistics.median(seconds), max(seconds)))
     print(f"A key takes {middle} ms on the page, {most} at most, the protocol's way included.")
