@@ -90,6 +90,26 @@ def open_many_files():
     resource.setrlimit(resource.RLIMIT_NOFILE, (most, most))
 
 
+def timed(act, *words):
+    """Returns what a function returns, and its seconds."""
+    began = time.perf_counter()
+    return act(*words), time.perf_counter() - began
+
+
+def waited(is_so, seconds=SECONDS):
+    """Waits until something is so, at most some seconds. Returns whether it is."""
+    until = time.monotonic() + seconds
+    while not is_so() and time.monotonic() < until:
+        time.sleep(0.0005)
+    return is_so()
+
+
+def listens(address, family=socket.AF_INET):
+    """Returns whether a connection to an address is accepted."""
+    with socket.socket(family) as line:
+        return line.connect_ex(address) == 0
+
+
 def remove(*paths):
     for path in paths:
         Path(path).unlink(missing_ok=True)

@@ -7,7 +7,7 @@ import subprocess
 import time
 
 from office_tools.election import keying, ward_orders
-from office_tools.office import TOWN, Office, Wrong, program, remove
+from office_tools.office import TOWN, Office, Wrong, program, remove, timed
 from office_tools.web import request, status
 
 CANDIDATES, SEATS, BATCH, RUNS = 10, 4, 500, 5
@@ -198,11 +198,10 @@ def advance(office, stages=None, found=0):
 
 def asked(serving, target, body=""):
     """Returns the seconds that an answer with status 200 takes."""
-    began = time.perf_counter()
-    text = serving.ask(request(target, body=body))
+    text, seconds = timed(serving.ask, request(target, body=body))
     if status(text) != 200:
         raise Wrong(f"{target}: {text}")
-    return time.perf_counter() - began
+    return seconds
 
 
 def sheet_seconds(folder, count):

@@ -10,10 +10,9 @@ import re
 import socket
 import ssl
 import subprocess
-import time
 
 from office_tools.election import CODES, evening_office
-from office_tools.office import ROOT, SECONDS, Wrong, free_port, needs, temporary_folder
+from office_tools.office import ROOT, SECONDS, Wrong, free_port, listens, needs, temporary_folder, waited
 from office_tools.tries.hostile_codes import TELLERS, check_beside_guesses, check_bodies, drawn, with_code
 from office_tools.web import HERE, received, status
 
@@ -48,14 +47,10 @@ class Nginx:
         self.process = subprocess.Popen(["nginx", "-p", folder, "-c", folder / "nginx.conf"], stderr=subprocess.DEVNULL)
 
     def __enter__(self):
-        ends = time.monotonic() + SECONDS
-        while time.monotonic() < ends and self.process.poll() is None:
-            try:
-                socket.create_connection((HERE, self.port), timeout=SECONDS).close()
-                return self
-            except ConnectionRefusedError:
-                time.sleep(0.05)
-        raise Wrong(f"nginx doesn't start: {(self.folder / 'errors').read_text(encoding='utf-8')}")
+        waited(lambda: listens((HERE, self.port)) or self.process.poll() is not None)
+        if self.process.poll() is not None:
+            raise Wrong(f"nginx doesn't start: {(self.folder / 'errors').read_text(encoding='utf-8')}")
+        return self
 
     def __exit__(self, *_):
         self.process.terminate()

@@ -10,10 +10,9 @@ import shutil
 import subprocess
 import sys
 import tempfile
-import time
 from pathlib import Path
 
-from office_tools.office import ROOT, Wrong, temporary_folder
+from office_tools.office import ROOT, Wrong, temporary_folder, timed
 from office_tools.tables import Table
 from office_tools.tries.recount import Ballots, Count, Unreadable
 
@@ -245,9 +244,8 @@ def main(wards=100, seed=1):
             counts = [runs[what, status] for status in (0, 1, 2)]
             table.row(what, sum(counts), *counts)
         for what, content in EXTREME.items():
-            began = time.monotonic()
-            status, told = check(content, b"")
+            (status, told), seconds = timed(check, content, b"")
             check.expect(what, status, told, status == 2)
-            table.row(f"{what}: {time.monotonic() - began:.1f} s", 1, 0, 0, 1)
+            table.row(f"{what}: {seconds:.1f} s", 1, 0, 0, 1)
     if check.wrong:
         raise Wrong(f"{check.wrong} wrong")

@@ -13,7 +13,7 @@ import time
 from concurrent.futures import ThreadPoolExecutor
 
 from office_tools.election import ward_orders
-from office_tools.office import Office, Wrong, open_many_files, temporary_folder
+from office_tools.office import Office, Wrong, open_many_files, temporary_folder, timed
 from office_tools.tables import Table
 from office_tools.web import BROKEN, HERE, answer, basic, received, request, status
 
@@ -148,9 +148,7 @@ def kinds(served, chance):
 def print_kinds(served, seed):
     table = Table(f"The clients (seed {seed})", "clients", "answers, by status", "let go without one", "seconds")
     for what, most, act in kinds(served, random.Random(seed)):
-        began = time.perf_counter()
-        answers = act()
-        seconds = time.perf_counter() - began
+        answers, seconds = timed(act)
         if served.ask_well() != served.good:
             raise Wrong(f"{what}: the next client gets something else")
         found = sorted(status(text) for text in answers if text)
@@ -217,9 +215,8 @@ def asked_meanwhile(served, crowd):
     crowd.start()
     try:
         while time.monotonic() < ends:
-            began = time.monotonic()
-            text = served.ask_well()
-            times.append(time.monotonic() - began)
+            text, seconds = timed(served.ask_well)
+            times.append(seconds)
             if text != served.good:
                 raise Wrong(f"beside a crowd a client gets {text}")
             time.sleep(0.05)

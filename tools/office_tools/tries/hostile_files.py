@@ -210,8 +210,9 @@ def of_account(office, owner, *names):
     return office
 
 
-def check_log_of(folder, town, what, owner, owner_of_log, mode, wanted):
+def check_log_of(folder, town, case):
     """Checks whether orders read a log, if DB and its log belong to these accounts and have these rights."""
+    what, owner, owner_of_log, mode, wanted = case
     for line in (STATUS, QUAY):
         office = of_account(of_account(put(folder / "foreign", **{TOWN: town, LOG: bytes(BEGUN)}), owner, TOWN), owner_of_log, LOG)
         for name in (TOWN, LOG):
@@ -235,9 +236,9 @@ def print_foreign(folder, town):
     if os.geteuid():
         table.row("not tried: that needs root", 0, 0)
         return
-    for what, *how, wanted in OWNERS:
-        check_log_of(folder, town, what, *how, wanted)
-        table.row(what, 2, wanted)
+    for case in OWNERS:
+        check_log_of(folder, town, case)
+        table.row(case[0], 2, case[-1])
     office = put(folder / "foreign", **{TOWN: town})
     office.do("codes", "codes.txt", "1-9")
     for owner, wanted in ((STRANGER, "codes fault 5: file open to others\n"), (0, "")):

@@ -8,18 +8,12 @@ import statistics
 import time
 
 from office_tools.election import election
-from office_tools.office import Wrong, ended, temporary_folder
+from office_tools.office import Wrong, ended, temporary_folder, timed
 from office_tools.tables import Table, added
 from office_tools.trials import RESULTS, left, trials
 
 # The election has 99 valid papers and a doubtful one.
 COPIES = 11
-
-
-def seconds_of(trial):
-    office, began = trial.office.copied(trial.folder / "timed"), time.perf_counter()
-    trial.order.done(office)
-    return time.perf_counter() - began
 
 
 def killed(trial, wait):
@@ -42,7 +36,7 @@ def main(runs=100, seed=7):
     table = Table(f"Order ({runs} runs each, seed {seed})", "killed", *RESULTS)
     with temporary_folder() as folder:
         for trial in trials(folder, orders=election(COPIES)):
-            longest = 1.2 * statistics.median(seconds_of(trial) for _ in range(3))
+            longest = 1.2 * statistics.median(timed(trial.order.done, trial.office.copied(trial.folder / "timed"))[1] for _ in range(3))
             found = [killed(trial, chance.uniform(0, longest)) for _ in range(runs)]
             counts = [sum(is_killed for is_killed, _ in found), *trial.places([place for _, place in found])]
             words = trial.order.words

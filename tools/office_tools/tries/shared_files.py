@@ -16,7 +16,7 @@ import time
 from pathlib import Path
 
 from office_tools.election import COPY, COPYING, ELECTION, FILE, REPLAY, REQUESTS, SCRIPTED, Order, offices
-from office_tools.office import LOG, NO_OFFICE, SECONDS, STORE, TOWN, Office, Wrong, ended, remove, temporary_folder
+from office_tools.office import LOG, NO_OFFICE, SECONDS, STORE, TOWN, Office, Wrong, ended, remove, temporary_folder, timed, waited
 from office_tools.tables import Table
 from office_tools.trials import NOT_WRITTEN, left, library
 
@@ -57,19 +57,13 @@ def kind(printed):
     return printed[2][6:9] if printed[0] == 3 else "answered"
 
 
-def seconds_of(order, office, folder):
-    here, began = office.copied(folder), time.perf_counter()
-    order.done(here)
-    return time.perf_counter() - began
-
-
 class Pair:
     """Two orders, and what they print and leave one after the other."""
 
     def __init__(self, folder, office, first, second):
         self.folder, self.office, self.orders = folder, office, (first, second)
         self.in_turn = [self.sequence(0, 1), self.sequence(1, 0)]
-        self.seconds = seconds_of(first, office, folder / "sequence")
+        self.seconds = timed(first.done, office.copied(folder / "sequence"))[1]
 
     def sequence(self, *places):
         """Returns ([what each order prints], [the rows after each]), in a sequence."""
@@ -162,7 +156,7 @@ class Meddling:
 
     def begun(self, order):
         """Begins an order, and waits a random part of the time that it takes. Returns the office, its files, and the process."""
-        seconds, here = seconds_of(order, self.office, self.folder / "timed"), self.office.copied(self.folder / "run")
+        seconds, here = timed(order.done, self.office.copied(self.folder / "timed"))[1], self.office.copied(self.folder / "run")
         files, process = held(here), order.started(here)
         time.sleep(self.chance.uniform(0, 1.2 * seconds))
         return here, files, process
@@ -262,14 +256,6 @@ def without_room():
     """Lets the child to come write no file past a length: such a write fails."""
     signal.signal(signal.SIGXFSZ, signal.SIG_IGN)
     resource.setrlimit(resource.RLIMIT_FSIZE, (ROOM, ROOM))
-
-
-def waited(is_so, seconds):
-    """Waits until something is so, at most some seconds. Returns whether it is."""
-    until = time.monotonic() + seconds
-    while not is_so() and time.monotonic() < until:
-        time.sleep(0.0005)
-    return is_so()
 
 
 class Waiting:

@@ -17,7 +17,7 @@ import threading
 import time
 from concurrent.futures import ThreadPoolExecutor
 
-from office_tools.office import LOG, SCRIPT, STORE, TOWN, Office, Wrong, program, temporary_folder
+from office_tools.office import LOG, SCRIPT, STORE, TOWN, Office, Wrong, listens, program, temporary_folder, timed, waited
 from office_tools.tables import Table
 
 SERVING = 12
@@ -75,11 +75,6 @@ class Waits:
     def run(self, *words):
         return self.office.run(*words, seconds=180)
 
-    def timed(self, *words):
-        """Returns what an order printed, and its seconds."""
-        began = time.perf_counter()
-        return self.run(*words), time.perf_counter() - began
-
     def done(self, what, seconds):
         self.table.row(what, f"{seconds:.1f}")
 
@@ -96,12 +91,12 @@ class Waits:
         """Gives orders while the file is held, for a second and longer than they wait."""
         for hold, what, _ in LOCKS:
             threading.Timer(1, hold(self.path)).start()
-            found, seconds = self.timed("receipts")
+            found, seconds = timed(self.run, "receipts")
             expect(what, (found.status, found.err, seconds >= 1), (0, "", True))
             self.done(f"the file held by {what} for a second: the order is done", seconds)
         for hold, what, who in LOCKS:
             free = hold(self.path)
-            found, seconds = self.timed("receipts")
+            found, seconds = timed(self.run, "receipts")
             free()
             expect(what, found, (3, "", f"{STORE}waited ten seconds for town.db: {who}\n"))
             expect(f"{what}: gave up in time", 9.9 < seconds < 20, True)
@@ -110,14 +105,10 @@ class Waits:
     def serve(self):
         """Serves the office, and waits for the socket of orders."""
         serving = self.office.serve()
-        while serving.process.poll() is None:
-            with socket.socket(socket.AF_UNIX) as line:
-                try:
-                    line.connect(f"{self.path}-serve")
-                    return serving
-                except OSError:
-                    time.sleep(0.01)
-        raise Wrong(f"serve ended: {serving.ended()}")
+        waited(lambda: listens(f"{self.path}-serve", socket.AF_UNIX) or serving.process.poll() is not None)
+        if serving.process.poll() is not None:
+            raise Wrong(f"serve ended: {serving.ended()}")
+        return serving
 
     def while_serve_comes_and_goes(self):
         """Gives orders one after the other, while `serve` begins and is ended again and again."""
@@ -158,7 +149,7 @@ class Waits:
                     then(number)
         feeder = threading.Thread(target=feed, daemon=True)
         feeder.start()
-        found, seconds = self.timed("replay", "pipe")
+        found, seconds = timed(self.run, "replay", "pipe")
         feeder.join()
         expect("a script through a pipe", found, wanted)
         return seconds
@@ -173,7 +164,7 @@ class Waits:
             for size, what, wanted in ((SCRIPT_LIMIT - 4096, "less 4 KiB, while served: it is done", wanted),
                                        (SCRIPT_LIMIT + 4096, "and 4 KiB, while served: fault 102", (3, "", STORE))):
                 self.office.write(SCRIPT, ["# " + "x" * (size - len(text) - 3), text.rstrip()])
-                found, seconds = self.timed("replay", SCRIPT)
+                found, seconds = timed(self.run, "replay", SCRIPT)
                 expect(f"a script of {size} bytes", found, wanted)
                 self.done(f"a script of 32 MiB {what}", seconds)
             seconds = self.piped(KILLED, 4, 1, lambda number: serving.process.kill() if number == 1 else None)
