@@ -111,7 +111,7 @@ def crowded(host, others, count, **how):
                 line = lines.enter_context(socket.socket(V6 if ":" in host else V4))
                 line.setblocking(False)
                 line.connect_ex((host, serving.port))
-            time.sleep(0.5)
+            time.sleep(0.5 if how else 0)
             return all(is_good(serving.port, other, PATIENCE) for other in others)
     return tried
 

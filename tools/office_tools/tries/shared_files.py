@@ -270,10 +270,12 @@ class Waiting:
         waited(lambda: note.exists() or self.process.poll() is not None, limit)
         self.waits = note.exists()
 
-    def ended(self, seconds=SECONDS):
+    def ended(self, seconds=None):
         """Lets it go on, and returns what it prints; None if it doesn't end within these seconds."""
         self.awaited.touch()
-        return ended(self.process) if waited(lambda: self.process.poll() is not None, seconds) else None
+        if seconds and not waited(lambda: self.process.poll() is not None, seconds):
+            return None
+        return ended(self.process)
 
 
 def check_made(here, name, printed, before):
