@@ -34,7 +34,7 @@ def add_word(parser, word):
 
 
 def run(package, command, name, words):
-    """Runs a module, and returns the status: 1 if a condition isn't met."""
+    """Runs a module, and returns the status: 1 if a condition isn't met, or it returns a list of faults."""
     module = importlib.import_module(f"office_tools.{package}.{name.replace('-', '_')}")
     how = {"description": module.__doc__, "formatter_class": argparse.RawDescriptionHelpFormatter}
     parser = argparse.ArgumentParser(prog=f"{command} {name}", **how)
@@ -48,10 +48,14 @@ def run(package, command, name, words):
         else:
             listed += given[word.name] or [] if word.kind is word.VAR_POSITIONAL else [given[word.name]]
     try:
-        return module.main(*listed, **options) or 0
+        found = module.main(*listed, **options) or 0
     except Wrong as wrong:
         print(f"{command} {name}: {wrong}", file=sys.stderr)
         return 1
+    if isinstance(found, list):
+        print(*found, sep="\n")
+        return 1
+    return found
 
 
 def main(package, command, documentation, gate=()):

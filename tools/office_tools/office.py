@@ -118,12 +118,12 @@ def remove(*paths):
 class Office:
     """A folder with the file of an office."""
 
-    def __init__(self, folder, town=TOWN):
-        self.folder, self.town = Path(folder), town
+    def __init__(self, folder):
+        self.folder = Path(folder)
         self.folder.mkdir(parents=True, exist_ok=True)
 
-    def start(self, *words, town=None, **how):
-        words = [program(), town or self.town, *map(str, words)]
+    def start(self, *words, town=TOWN, **how):
+        words = [program(), town, *map(str, words)]
         return subprocess.Popen(words, cwd=self.folder, stdout=subprocess.PIPE, stderr=subprocess.PIPE, **how)
 
     def run(self, *words, seconds=SECONDS, **how):
@@ -162,17 +162,17 @@ class Office:
     def serve(self, connections=0, *words, **how):
         return Serving(self, connections, *words, **how)
 
-    def copied(self, folder, town=None):
+    def copied(self, folder, town=TOWN):
         """Copies the file, or the copy of it that has another name, with its log into an empty folder."""
         shutil.rmtree(folder, ignore_errors=True)
         copy = Office(folder)
         for ending in ("", "-wal"):
-            source = self.folder / ((town or self.town) + ending)
+            source = self.folder / (town + ending)
             if source.exists():
                 shutil.copyfile(source, copy.folder / (TOWN + ending))
         return copy
 
-    def rows(self, town=None):
+    def rows(self, town=TOWN):
         """Returns every row of every table, or None if there is no office. Python's own SQLite reads them from a copy.
 
         An `init` that was stopped may leave a file without the first byte of a database's.

@@ -51,6 +51,4 @@ def unlinked():
 
 
 def main():
-    faults = [*(fault for page in pages() for fault in lost(page)), *unlinked()]
-    print(*faults, sep="\n", end="\n" * bool(faults))
-    return 1 if faults else 0
+    return [*(fault for page in pages() for fault in lost(page)), *unlinked()]

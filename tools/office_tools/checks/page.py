@@ -84,6 +84,4 @@ def wrong_served(page, policy):
 
 def main():
     page, policy = page_of_sources()
-    wrong = wrong_in(page) or wrong_script(page) or (wrong_served(page, policy) if os.environ.get("COUNT_OFFICE") else [])
-    print(*wrong, sep="\n", end="\n" * bool(wrong))
-    return 1 if wrong else 0
+    return wrong_in(page) or wrong_script(page) or (wrong_served(page, policy) if os.environ.get("COUNT_OFFICE") else [])

@@ -127,12 +127,8 @@ def main(*, write=False):
     if write:
         MADE.write_text(page)
     there = MADE.read_text() if MADE.is_file() else ""
-    for line in list(difflib.unified_diff(there.splitlines(), page.splitlines(), lineterm="", n=0))[2:]:
-        if line[0] in "+-":
-            print(f"{MADE.name}: {'wanted' if line[0] == '+' else 'is'}: {line[1:]}")
-    faults = [line for crate in crates for line in proofs_table.misplaced(crate)] + list(faults_of(crates))
+    signs, differing = {"+": "wanted", "-": "is"}, list(difflib.unified_diff(there.splitlines(), page.splitlines(), lineterm="", n=0))[2:]
+    faults = [f"{MADE.name}: {signs[line[0]]}: {line[1:]}" for line in differing if line[0] in signs]
+    faults += [line for crate in crates for line in proofs_table.misplaced(crate)] + list(faults_of(crates))
     faults += [f"{MESSAGES.name}: {fault}" for fault in missing_messages()]
-    if there != page:
-        faults.append("run tools/check proofs --write")
-    print(*faults, sep="\n", end="\n" * bool(faults))
-    return 1 if faults else 0
+    return faults + ["run tools/check proofs --write"] * (there != page)
