@@ -215,7 +215,7 @@ const PLANTED = {
   'a keying that failed isn\u2019t sent again': ['timer = setTimeout(sendNow, 1000 * seconds);', ''],
   'a keying is sent again under another id': ['answer.says.refusal === 2) sent.id', 'answer.says.refusal > 0) sent.id'],
   'each sending has an id of its own': ['sent.sent = true;\n', 'sent.sent = true;\n  sent.id = newId(sent.batch, sent.round);\n'],
-  'a keying that may have been kept is changed': ['and kept once.`, {sends: true, goesBack: false', 'and kept once.`, {sends: true, goesBack: true'],
+  'a keying that may have been kept is changed': ['once.`, {sends: true, goesBack: false}', 'once.`, {sends: true, goesBack: true}'],
   'a draft is forgotten once it was sent': ['if (draft !== sent) return undefined;', 'forget(draftName(sent.batch, sent.round));'],
   'the drafts of all clerks are listed': ['name.startsWith(FRONT)', 'name.startsWith(\'keying\')'],
   'all clerks share their drafts': ['const FRONT = `keying ${CLERK} `;', 'const FRONT = `keying 4 `;'],

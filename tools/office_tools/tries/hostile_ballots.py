@@ -12,6 +12,7 @@ import sys
 import tempfile
 from pathlib import Path
 
+from office_tools.damage import damaged
 from office_tools.office import ROOT, Wrong, temporary_folder, timed
 from office_tools.tables import Table
 from office_tools.tries.recount import Ballots, Count, Unreadable
@@ -25,6 +26,7 @@ OURS = ["Ward N", "Rejected 1: N, 2: N, 3: N, 4: N, 5: N", "Lot at stage N: N"]
 NEAR = ["Ward", "Ward N N", "WardN", "Ward-N", "Wards N", "Warden", "the Ward N", "2017 Ward N", "Rejected N", "Rejections N",
         "Rejected 1: N, 2: N, 3: N, 4: N", "Rejected papers", "Lot N", "Lot at Stage N: N", "Lots at stage N: N", "Lottery", "a lot of N"]
 SIGNS = ["# ", "#", "## ", "#\t", "#: ", "#-", '# "', "#\u00a0", "#\u200b"]
+DAMAGE = [b"\n", b"\r", b"0", b"-", b"#", b'"', b"\\", b"=", b"\0", b"\xff", b"99999999999999999999"]
 NO_RANKS = ["x", "=", "2=", "=1", "99", "-1", "1==2"]
 
 
@@ -116,25 +118,6 @@ def changed(sheet, chance):
     if way == 2:
         lines.insert(chance.randrange(len(lines) + 1), line)
     return b"".join(lines)
-
-
-def damaged(content, chance):
-    """Returns bytes that were ballots."""
-    content = bytearray(content)
-    for _ in range(chance.choice((1, 1, 2, 8))):
-        at, to = sorted(chance.randrange(len(content) + 1) for _ in range(2))
-        to = min(to, at + chance.choice((1, 3, 30)))
-        way = chance.randrange(4)
-        if way == 0:
-            content[at:to] = bytes(chance.randrange(256) for _ in range(to - at))
-        elif way == 1:
-            del content[at:to]
-        elif way == 2:
-            content[at:at] = content[at:to]
-        else:
-            content[at:at] = chance.choice((b"\n", b"\r", b"0", b"-", b"#", b'"', b"\\", b"=", b"\0", b"\xff", b"99999999999999999999"))
-        content = content or bytearray(b"0")
-    return bytes(content)
 
 
 EXTREME = {
@@ -230,7 +213,7 @@ def check_ward(check, ward, chance, runs):
             pass
         given(CHANGED, ballots, text, [1], b"line %d differs" % first_line_that_differs(text, sheet, declaration))
     for _ in range(10):
-        given(DAMAGED, damaged(ballots, chance), sheet, [0, 1, 2])
+        given(DAMAGED, damaged(chance, ballots, 8, 30, DAMAGE), sheet, [0, 1, 2])
 
 
 def main(wards=100, seed=1):

@@ -12,6 +12,7 @@ import threading
 import time
 from concurrent.futures import ThreadPoolExecutor
 
+from office_tools.damage import damaged, noise
 from office_tools.election import ward_orders
 from office_tools.office import Office, Wrong, open_many_files, temporary_folder, timed
 from office_tools.tables import Table
@@ -94,20 +95,6 @@ def endless(line, begins, piece):
     return received(line)
 
 
-def mutated(chance, text):
-    """Returns a request of which some bytes are others, are gone, or stand twice."""
-    found = bytearray(text)
-    for _ in range(chance.randint(1, 4)):
-        place, kind = chance.randrange(len(found)), chance.randrange(3)
-        if kind == 0:
-            found[place] = chance.getrandbits(8)
-        elif kind == 1:
-            del found[place]
-        else:
-            found[place:place] = found[place:place + chance.randint(1, 20)]
-    return bytes(found)
-
-
 def kinds(served, chance):
     """Returns [(what, how many seconds at most each may take, a function that returns the answers)]."""
     work, refused = served.work, served.refused
@@ -123,9 +110,9 @@ def kinds(served, chance):
     def foreign(text, header):
         return text.replace(b"\r\n", b"\r\n" + header + b"\r\n", 1)
 
-    noise = [bytes(chance.getrandbits(8) for _ in range(chance.randint(1, 3000))) for _ in range(500)]
-    changed = [mutated(chance, chance.choice((work, refused))) for _ in range(2000)]
-    foreign_changed = [mutated(chance, foreign(chance.choice((work, refused)), chance.choice(FOREIGN))) for _ in range(2000)]
+    random_bytes = [noise(chance, chance.randint(1, 3000)) for _ in range(500)]
+    changed = [damaged(chance, chance.choice((work, refused))) for _ in range(2000)]
+    foreign_changed = [damaged(chance, foreign(chance.choice((work, refused)), chance.choice(FOREIGN))) for _ in range(2000)]
     body_without_end = b"POST /clerks/4/batches/12/keying HTTP/1.1\r\nContent-Length: 1048576\r\n\r\n"
     return [
         ("whole requests, a byte at a time", 5, each([work] * 3 + [refused] * 3, byte_by_byte)),
@@ -134,7 +121,7 @@ def kinds(served, chance):
         ("gone within the body", 5, each([refused[:-n] for n in range(1, len(KEYING))], gone)),
         ("gone within the answer", 5, each([work] * 20, gone)),
         ("a hundred at once", 10, at_once),
-        ("random bytes", 5, each(noise)),
+        ("random bytes", 5, each(random_bytes)),
         ("requests with bytes changed", 5, each(changed)),
         (ELSEWHERE, 5, each([foreign(text, header) for text in (work, refused) for header in FOREIGN] * 20)),
         ("the same with bytes changed", 5, each(foreign_changed)),

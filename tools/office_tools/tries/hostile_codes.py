@@ -11,6 +11,7 @@ import time
 from collections import Counter
 from concurrent.futures import ThreadPoolExecutor
 
+from office_tools.damage import damaged
 from office_tools.election import CODES, evening_office
 from office_tools.office import SECONDS, Wrong, temporary_folder
 from office_tools.tables import Table
@@ -25,6 +26,7 @@ TELLERS, NOBODY, RATE, PAUSE = range(1, 41), 999, 10, 0.5
 TIMED, CHANGED, SENDERS = range(100, 350), range(400, 999), 4
 # How many requests without a code have a body that is longer than what a socket holds, and how long it is.
 DENIED, BODY = 1000, 200_000
+SIGNS = [b"%c" % sign for sign in b"0123456789/ =\r\n"]
 KEYING = '{"id":"h1","round":1,"papers":["1,,,,"]}'
 
 
@@ -90,15 +92,13 @@ def check_changed(port, codes, chance):
     for turn in range(2000):
         clerk = CHANGED[turn % len(CHANGED)]
         target = f"/clerks/{clerk}/{chance.choice(['', 'work', 'leave', 'batches/12/candidates'])}"
-        sends = bytearray(request(target, f"Authorization: {basic(clerk, codes[clerk])}"))
-        for _ in range(chance.choice([1, 1, 2, 3])):
-            sends[chance.randrange(len(sends))] = chance.choice([chance.randrange(256), chance.choice(b"0123456789/ =\r\n")])
-        text = told(port, bytes(sends))
+        sends = damaged(chance, request(target, f"Authorization: {basic(clerk, codes[clerk])}"), 3, signs=SIGNS)
+        text = told(port, sends)
         said[status(text)] += 1
         found = re.match(rb"\s*[A-Z]+ /clerks/(\d+)/", sends)
         has_code = found and basic(int(found[1]), codes.get(int(found[1]), "")).encode() in sends
         if status(text) in (200, 409) and b"sheet" not in sends and not has_code:
-            raise Wrong(f"{bytes(sends)} gets {text[:200]}")
+            raise Wrong(f"{sends} gets {text[:200]}")
     print(f"\nOf 2000 requests with bytes changed: {shown(said)}.", flush=True)
 
 

@@ -11,6 +11,7 @@ import shutil
 import sqlite3
 import stat
 
+from office_tools.damage import noise
 from office_tools.election import execute, keying, ward_orders
 from office_tools.office import LOG, TOWN, Office, Wrong, remove, temporary_folder
 from office_tools.tables import Table
@@ -50,10 +51,6 @@ def small_office(folder, orders):
     return office
 
 
-def random_bytes(chance, length):
-    return bytes(chance.getrandbits(8) for _ in range(length))
-
-
 def changed(folder, town, statement):
     """Returns the bytes of a database after a statement."""
     path = folder / "made.db"
@@ -72,14 +69,11 @@ def kinds(folder, town, chance):
     def swapped(a, b):
         return town[:a] + town[b:b + PAGE] + town[a + PAGE:b] + town[a:a + PAGE] + town[b + PAGE:]
 
-    def noise(length):
-        return random_bytes(chance, length)
-
-    pages = range(0, len(town), PAGE)
+    pages, lengths = range(0, len(town), PAGE), (100, 101, 512, PAGE, len(town))
     return [(what, files) for what, *files in (
-        ("random bytes", [noise(length) for length in (0, 2, 15, 16, 100, 512, PAGE, 3 * PAGE, len(town)) for _ in range(4)]),
-        ("one byte", [noise(1) for _ in range(4)]),
-        ("a header and random bytes", [town[:100] + noise(length - 100) for length in (100, 101, 512, PAGE, len(town)) for _ in range(4)]),
+        ("random bytes", [noise(chance, length) for length in (0, 2, 15, 16, 100, 512, PAGE, 3 * PAGE, len(town)) for _ in range(4)]),
+        ("one byte", [noise(chance, 1) for _ in range(4)]),
+        ("a header and random bytes", [town[:100] + noise(chance, length - 100) for length in lengths for _ in range(4)]),
         ("cut before each page", [town[:place] for place in pages]),
         ("cut within each page", [town[:place + chance.randrange(1, PAGE)] for place in pages]),
         ("a page of zeros", [town[:place] + bytes(PAGE) + town[place + PAGE:] for place in pages]),
@@ -87,8 +81,8 @@ def kinds(folder, town, chance):
         ("two pages of each other's", [swapped(*sorted(chance.sample(pages, 2))) for _ in range(20)]),
         ("another program's", [changed(folder, b"", text) for text in STRANGE]),
         ("an office with other things beside", [changed(folder, town, text) for text in OTHERS]),
-        ("an office and a log of random bytes", [town] * len(LOG_LENGTHS), [noise(length) for length in LOG_LENGTHS]),
-        ("no file, and a log of random bytes", [None] * len(LOG_LENGTHS), [noise(length) for length in LOG_LENGTHS]))]
+        ("an office and a log of random bytes", [town] * len(LOG_LENGTHS), [noise(chance, length) for length in LOG_LENGTHS]),
+        ("no file, and a log of random bytes", [None] * len(LOG_LENGTHS), [noise(chance, length) for length in LOG_LENGTHS]))]
 
 
 def put(folder, **contents):
@@ -155,7 +149,7 @@ def killed_log(folder):
 def beside(chance, log):
     """Returns [(what is next to the place of DB, its name, [its bytes, where a link leads, or None for a folder])]."""
     return [
-        ("a log of random bytes", LOG, [random_bytes(chance, length) for length in LENGTHS]),
+        ("a log of random bytes", LOG, [noise(chance, length) for length in LENGTHS]),
         ("a log of zeros", LOG, [bytes(length) for length in LENGTHS]),
         ("the log of a killed office, cut at each frame", LOG, [log[:place] for place in (*range(32, len(log), FRAME), len(log))]),
         ("the same, cut within each frame", LOG, [log[:place + chance.randrange(1, FRAME)] for place in range(32, len(log), FRAME)]),
