@@ -213,7 +213,8 @@ def check_ward(check, ward, chance, runs):
             pass
         given(CHANGED, ballots, text, [1], b"line %d differs" % first_line_that_differs(text, sheet, declaration))
     for _ in range(10):
-        given(DAMAGED, damaged(chance, ballots, 8, 30, DAMAGE), sheet, [0, 1, 2])
+        most, longest = chance.choice((1, 2, 8)), chance.choice((1, 3, 30))
+        given(DAMAGED, damaged(chance, ballots, most, longest, DAMAGE), sheet, [0, 1, 2])
 
 
 def main(wards=100, seed=1):
