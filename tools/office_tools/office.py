@@ -35,12 +35,12 @@ class Printed(NamedTuple):
 
 
 @functools.cache
-def program():
-    """Returns the program that COUNT_OFFICE names, or else the one that the script count-office keeps, which builds it if it has to."""
-    if named := os.environ.get("COUNT_OFFICE"):
+def program(variable="COUNT_OFFICE"):
+    """Returns the program that a variable names, or else the one that the script count-office keeps, which unpacks it if it has to."""
+    if named := os.environ.get(variable):
         return os.path.realpath(named)
     subprocess.run([ROOT / "count-office", "--help"], stdout=subprocess.DEVNULL, check=True)
-    return str(ROOT / "out" / "count-office")
+    return str(ROOT / "out" / variable.lower().replace("_", "-"))
 
 
 def needs(*commands):

@@ -1,6 +1,6 @@
 """Gives the checker ballots and sheets from anyone, and compares what it prints with the count of `tools/try recount`.
 
-docs/HOSTILE.md says what the checker must print. The program is the one that CHECK_COUNT names, or that of `./count-office - check`.
+docs/HOSTILE.md says what the checker must print. It is the one that CHECK_COUNT names, or that of `./count-office - check`.
 """
 import collections
 import os
@@ -10,10 +10,9 @@ import shutil
 import subprocess
 import sys
 import tempfile
-from pathlib import Path
 
 from office_tools.damage import damaged
-from office_tools.office import ROOT, Wrong, temporary_folder, timed
+from office_tools.office import Wrong, program, temporary_folder, timed
 from office_tools.tables import Table
 from office_tools.tries.recount import Ballots, Count, Unreadable
 
@@ -141,15 +140,13 @@ class Checker:
     """The checker, and how many of its answers were wrong."""
 
     def __init__(self, folder):
-        named = os.environ.get("CHECK_COUNT")
-        self.words = [named] if named else [ROOT / "count-office", "-", "check"]
-        self.files, self.wrong = [Path(folder) / name for name in ("ballots", "text")], 0
+        self.files, self.wrong = [folder / name for name in ("ballots", "text")], 0
 
     def __call__(self, ballots, text):
         for path, content in zip(self.files, (ballots, text)):
             path.write_bytes(content)
         try:
-            ended = subprocess.run([*self.words, *self.files], capture_output=True, stdin=subprocess.DEVNULL, timeout=SECONDS)
+            ended = subprocess.run([program("CHECK_COUNT"), *self.files], capture_output=True, stdin=subprocess.DEVNULL, timeout=SECONDS)
         except subprocess.TimeoutExpired:
             return None, b""
         return ended.returncode, ended.stdout + ended.stderr
