@@ -1,5 +1,5 @@
 -- What the loop of `has_subject` keeps.
-use Rattle.std.proofs.Common.{◌≡◌, map, drop, string_bytes}
+use Rattle.std.proofs.Common.{◌≡◌, map, drop}
 use Rattle.std.specs.List.{list_any}
 use Rattle.register.specs.Offices.{receipt_entry}
 use Rattle.register.specs.Keepings.{has_subject}
