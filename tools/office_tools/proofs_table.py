@@ -16,13 +16,15 @@ def first_sentence(comment):
 
 
 def changes_of(edit):
-    """Returns [(file, old text)] of an edit."""
+    """Returns [(file, old text, new text)] of an edit."""
     path, found = "", []
-    for key, _, words in (line.partition(": ") for line in edit.splitlines()):
+    for key, _, words in (line.partition(":") for line in edit.splitlines()):
         if key == "file":
             path = words.strip()
         elif key == "old":
-            found.append((path, words))
+            found.append([path, words[1:], ""])
+        elif key == "new":
+            found[-1][2] = words[1:]
     return found
 
 
@@ -39,7 +41,7 @@ def definition_at(text, place):
 def targets_of(crate, edit):
     """Returns what an edit changes: functions of the crate, or (file, name) of something else."""
     found = []
-    for path, old in changes_of(edit):
+    for path, old, _ in changes_of(edit):
         text = text_at(crate, path)
         place = text.find(old)
         inside = [f for f in crate.functions if f.path == path and f.start <= place < f.end]
@@ -53,7 +55,7 @@ def targets_of(crate, edit):
 def misplaced(crate):
     """Yields what is reported of the edits whose old text doesn't stand just once in its file."""
     for name, edit in crate.edits.items():
-        for path, old in changes_of(edit):
+        for path, old, _ in changes_of(edit):
             if (times := text_at(crate, path).count(old)) != 1:
                 yield f"{crate.name}/{name}.edit: its old text stands {times} times in {path}"
 

@@ -122,14 +122,16 @@ uncontested_rows =
     }
 
 pub keeping_rows : KeepingRows
-unfolding has_texts
+unfolding has_texts candidates.subject_of digits
 keeping_rows =
     record {
       same_ward = λ name is. simp is refl;
       other_seats = λ name is. refl;
       other_name = λ name is. simp is refl;
       same_candidate = λ name is. simp is refl;
+      other_candidate = λ name is. simp is refl;
       withdrawn = λ name is. refl;
+      given_again = λ name is. simp is refl;
       same_batch = refl;
       other_size = refl;
       same_third = refl;

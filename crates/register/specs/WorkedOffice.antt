@@ -116,6 +116,10 @@ told_of_eve = told (codes "x2") (codes "candidate 7 2") (codes "candidate 2 of w
 abbrev pub told_of_fay : ReceiptEntry
 told_of_fay = told (codes "x3") (codes "candidate 7 3") (codes "candidate 3 of ward 7 added")
 
+-- the receipt of the withdrawal of Dee
+abbrev pub told_withdrawn : ReceiptEntry
+told_withdrawn = told (codes "x4") (codes "withdraw 7 1") (codes "candidate 1 of ward 7 withdrawn")
+
 -- all three stand
 abbrev pub three_stand : OfficeState
 three_stand = in_nominations (dee 7 ∷ eve 7 ∷ fay 7 ∷ []) (told_of_dee ∷ told_of_eve ∷ told_of_fay ∷ [])
@@ -261,14 +265,16 @@ pub record UncontestedRows : Type 0 where
   pub all_elected : step (with_quay Sealed both_there (told_of_both ++ told_closed ∷ [])) 0 (codes "z1") (commands.Count (counts.Declare 8))
       ≡ accepted (with_quay Declared both_there (told_of_both ++ told_closed ∷ told (codes "z1") (codes "declare 8") (codes "ward 8 declared: 1, 2") ∷ [])) (codes "ward 8 declared: 1, 2")
 
--- Each command that is sent again says what is kept, or something else: other seats, another name, size, third clerk, marks or verdict. A candidate that has
--- withdrawn isn't kept. What the subject says all of is never kept otherwise.
+-- Each command that is sent again says what is kept, or something else: other seats, another name, size, third clerk, marks or verdict. Nothing is kept of a
+-- candidate who has withdrawn, and whoever has that number since is another. What the subject says all of is never kept otherwise.
 pub record KeepingRows : Type 0 where
   pub same_ward : Written (codes "Harbour") (λ name. is_otherwise (in_nominations [] []) 0 (adds_ward 7 2 name) ≡ false)
   pub other_seats : Written (codes "Harbour") (λ name. is_otherwise (in_nominations [] []) 0 (adds_ward 7 3 name) ≡ true)
   pub other_name : Written (codes "Quay") (λ name. is_otherwise (in_nominations [] []) 0 (adds_ward 7 2 name) ≡ true)
   pub same_candidate : Written (codes "Dee") (λ name. is_otherwise three_stand 0 (adds_candidate 7 1 name) ≡ false)
-  pub withdrawn : Written (codes "Dee") (λ name. is_otherwise (in_nominations [] []) 0 (adds_candidate 7 1 name) ≡ true)
+  pub other_candidate : Written (codes "Eve") (λ name. is_otherwise three_stand 0 (adds_candidate 7 1 name) ≡ true)
+  pub withdrawn : Written (codes "Eve") (λ name. is_otherwise (in_nominations [] (told_of_dee ∷ told_withdrawn ∷ [])) 0 (adds_candidate 7 1 name) ≡ false)
+  pub given_again : Written (codes "Eve") (λ name. is_otherwise (in_nominations (dee 7 ∷ []) (told_of_dee ∷ told_withdrawn ∷ [])) 0 (adds_candidate 7 1 name) ≡ false)
   pub same_batch : is_otherwise given_out 0 (adds_batch 12 7 2 4 9) ≡ false
   pub other_size : is_otherwise given_out 0 (adds_batch 12 7 20 4 9) ≡ true
   pub same_third : is_otherwise third_set 0 (sets_third 12 5) ≡ false
