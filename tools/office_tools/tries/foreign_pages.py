@@ -18,8 +18,8 @@ PAGES = ("another port", "a name that leads here", "a name that leads here, at t
 class Tried:
     """An office with a batch for each try, and the table of what came of them."""
 
-    def __init__(self, folder):
-        self.folder, self.office, self.port, self.kept, self.wrong = folder, Office(folder / "office"), free_port(), set(), 0
+    def __init__(self, folder, browser):
+        self.browser, self.office, self.port, self.kept, self.wrong = browser, Office(folder / "office"), free_port(), set(), 0
         self.office.begin(ward_orders(*((batch, 1, CLERK, 9) for batch in range(FIRST, FIRST + BATCHES))))
         self.table = Table("A page of", "tries", "kept", "read")
 
@@ -37,10 +37,12 @@ class Tried:
 
     def opened(self, address, office, batch, meanwhile=lambda: None):
         """Opens a page, and returns what it tried."""
-        with Browser(self.folder, words=LOOSE) as browser:
-            browser.open(address)
-            meanwhile()
-            return tries(browser, office, batch)
+        window = self.browser.another()
+        window.open(address)
+        meanwhile()
+        found = tries(window, office, batch)
+        window.close()
+        return found
 
     def show(self, what, tried, must_pass=False):
         """Prints a line for each try. None may pass; or some must, to key and to read."""
@@ -70,12 +72,12 @@ class Tried:
     def others(self):
         """Asks without a page, and through a proxy: these are answered."""
         work, batch = f"{self.address()}/clerks/{CLERK}/work", FIRST + 80
-        with self.serve(), Browser(self.folder, words=LOOSE) as browser:
+        with self.serve():
             read = curled(work)
             reply = curled("-d", '{"id":"curl","round":1,"papers":["1,2,"]}', f"{self.address()}/clerks/{CLERK}/batches/{batch}/keying")
             for name in (HERE, "localhost"):
-                browser.open(work.replace(HERE, name))
-                text = browser.text()
+                self.browser.open(work.replace(HERE, name))
+                text = self.browser.text()
                 self.wrong += not is_of_office(text)
                 self.row(f"no page: typed, at {name}", "the work", None, is_of_office(text))
         self.note_kept()
@@ -95,8 +97,8 @@ def curled(*words):
 
 def main():
     needs("chromium", "curl")
-    with temporary_folder() as folder:
-        tried = Tried(folder)
+    with temporary_folder() as folder, Browser(folder, words=LOOSE) as browser:
+        tried = Tried(folder, browser)
         tried.pages()
         tried.others()
     if tried.wrong:
