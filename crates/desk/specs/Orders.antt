@@ -54,7 +54,7 @@ number name = record { name = name; kind = kind.Number }
 abbrev pub number_or_none : Text → WordEntry
 number_or_none name = record { name = name; kind = kind.NumberOrNone }
 
--- a word that is a port, and one that is a number of connections
+-- a word that is a port, and one that is a number of connections, which may be left out
 abbrev pub port : Text → WordEntry
 port name = record { name = name; kind = kind.Port }
 
