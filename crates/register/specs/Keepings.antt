@@ -1,7 +1,7 @@
 -- Whether what an office keeps of a request differs from what the request says. A receipt has the request's id and subject, and none of its other words: so a
 -- request that is sent again under its id may say something else than what is kept, and gets the same reply.
 use Rattle.std.specs.Prelude.{ℕ, Bool, true, false, not, ◌&&◌, ◌==◌, List, [], ◌∷◌, string_bytes, Option, Some, None}
-use Rattle.std.specs.List.{list_any}
+use Rattle.std.specs.List.{list_any, filter}
 use Rattle.std.specs.Str.{bytes_eq}
 use Rattle.register.specs.declared.command.Command.{Command}
 use Rattle.register.specs.declared.command.Command.TheVariants.{Ward, Candidate, Batch, Keying, Verdict, Count}
@@ -16,7 +16,8 @@ use Rattle.register.specs.declared.keyings.KeyingCommand.{KeyingCommand}
 use Rattle.register.specs.declared.verdicts.VerdictCommand.{VerdictCommand}
 use Rattle.register.specs.declared.counts.CountCommand.{CountCommand}
 use Rattle.register.specs.declared.counts.CountCommand.TheVariants as counts
-use Rattle.register.specs.Offices.{WardEntry, CandidateEntry, BatchEntry, KeyedEntry, JudgedEntry, LotEntry, OfficeState, ward_at, candidate_at, batch_at, third_at, keying_of, verdict_at, lots_of}
+use Rattle.register.specs.Offices.{WardEntry, CandidateEntry, BatchEntry, KeyedEntry, JudgedEntry, LotEntry, ReceiptEntry, OfficeState, ward_at, candidate_at, batch_at, third_at, keying_of, verdict_at, lots_of}
+use Rattle.register.specs.Candidates.{subject_of}
 use Rattle.register.specs.Papers.{is_third_clerk}
 use Rattle.register.specs.Keyings.{texts_of}
 use Rattle.register.specs.Verdicts.{judged_as}
@@ -32,9 +33,17 @@ is_there test (Some x) = test x
 abbrev pub is_ward_of : ℕ → List ℕ → WardEntry → Bool
 is_ward_of seats name w = (w.seats == seats) && bytes_eq w.name name
 
--- a candidate with this name
-abbrev pub is_named : List ℕ → CandidateEntry → Bool
-is_named name c = bytes_eq c.name name
+-- a candidate with another name
+abbrev pub has_other_name : List ℕ → CandidateEntry → Bool
+has_other_name name c = not (bytes_eq c.name name)
+
+-- a receipt with this subject
+abbrev pub has_subject : List ℕ → ReceiptEntry → Bool
+has_subject subject r = bytes_eq r.subject subject
+
+-- the receipts of the returning officer, who alone adds and withdraws candidates
+abbrev pub office_receipts : OfficeState → List ReceiptEntry
+office_receipts s = filter (λ (r : ReceiptEntry). r.actor == 0) s.receipts
 
 -- a batch of this ward, of so many papers, given to these two clerks
 abbrev pub is_batch_of : ℕ → ℕ → ℕ → ℕ → BatchEntry → Bool
@@ -61,9 +70,14 @@ abbrev pub is_ward_otherwise : OfficeState → WardCommand → Bool
 is_ward_otherwise s (wards.Add ward seats name) = not (is_there (is_ward_of seats (string_bytes name)) (ward_at s ward))
 is_ward_otherwise s (wards.Close ward) = false
 
--- a candidate: the name; and that there is no such candidate any more, since it has withdrawn
+-- a candidate of this number has withdrawn from the ward
+abbrev pub has_withdrawn : OfficeState → ℕ → ℕ → Bool
+has_withdrawn s ward candidate = list_any (has_subject (subject_of (candidates.Withdraw ward candidate))) (office_receipts s)
+
+-- a candidate: the name. Where a candidate of that number has withdrawn, nothing is kept of the one who did, and whoever has the number since is another.
 abbrev pub is_candidate_otherwise : OfficeState → CandidateCommand → Bool
-is_candidate_otherwise s (candidates.Add ward candidate name) = not (is_there (is_named (string_bytes name)) (candidate_at s ward candidate))
+is_candidate_otherwise s (candidates.Add ward candidate name) =
+    is_there (has_other_name (string_bytes name)) (candidate_at s ward candidate) && not (has_withdrawn s ward candidate)
 is_candidate_otherwise s (candidates.Withdraw ward candidate) = false
 
 -- a batch: its ward, its size and its two clerks; or its third clerk

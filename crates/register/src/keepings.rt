@@ -1,20 +1,24 @@
 //! What is kept of a request, compared with the words of one that is sent again under its id.
 //!
 //! A receipt has the id and the subject of its request, and none of the other words. So whether a repeated request says the same is
-//! seen from the entry that the first one left.
+//! seen from the entry that the first one left. Where a candidate has withdrawn, nothing is left to compare with.
 
-ghost use Rattle.std.specs.Prelude.{◌≡◌, map, option_map, string_bytes};
+ghost use Rattle.std.specs.Prelude.{◌≡◌, map, option_map, string_bytes, IfOk};
 ghost use Rattle.std.specs.List.{list_any};
-ghost use Rattle.register.specs.Offices.{ward_entry, candidate_entry, batch_entry, keyed_entry, judged_entry, lot_entry};
+ghost use Rattle.register.specs.Offices.{ward_entry, candidate_entry, batch_entry, keyed_entry, judged_entry, lot_entry, receipt_entry};
+ghost use Rattle.register.specs.declared.candidates.CandidateCommand.TheVariants.{Withdraw};
+ghost use Rattle.register.specs.Candidates.{subject_of};
 ghost use Rattle.register.specs.Verdicts.{judged_as};
-ghost use Rattle.register.specs.Keepings.{is_there, is_ward_of, is_named, is_batch_of, has_texts, is_judged_alike, is_drawn};
+ghost use Rattle.register.specs.Keepings.{is_there, is_ward_of, has_other_name, has_subject, is_batch_of, has_texts, is_judged_alike, is_drawn};
 
 use crate::batches::Batch;
-use crate::candidates::Candidate;
+use crate::candidates::{Candidate, CandidateCommand, subject_of};
 use crate::counts::DrawnLot;
 use crate::keyings::KeyedPaper;
+use crate::receipt::Receipt;
 use crate::verdicts::{ACCEPTED, JudgedPaper, Verdict, VerdictCommand};
 use crate::wards::Ward;
+use std::alloc::{AllocError, Global};
 
 /// Returns whether a ward is there, of so many seats and with this name.
 pub fn is_ward_of(found: &Option<Ward>, seats: u32, name: &str) -> bool
@@ -26,14 +30,40 @@ pub fn is_ward_of(found: &Option<Ward>, seats: u32, name: &str) -> bool
     }
 }
 
-/// Returns whether a candidate is there, with this name.
-pub fn is_named(found: &Option<Candidate>, name: &str) -> bool
-    ensures { result ≡ is_there (is_named name.now) (option_map candidate_entry found.now) }
+/// Returns whether a candidate is there, with another name.
+pub fn has_other_name(found: &Option<Candidate>, name: &str) -> bool
+    ensures { result ≡ is_there (has_other_name name.now) (option_map candidate_entry found.now) }
 {
     match found {
-        Some(candidate) => candidate.name.as_str() == name,
+        Some(candidate) => candidate.name.as_str() != name,
         None => false,
     }
+}
+
+/// Returns whether one of some receipts has this subject.
+fn has_subject(receipts: &[Receipt], subject: &str) -> bool
+    ensures { result ≡ list_any (has_subject subject.now) (map receipt_entry receipts.now) }
+{
+    for receipt in receipts {
+        if receipt.subject.as_str() == subject {
+            return true;
+        }
+    }
+    false
+}
+
+/// Returns whether a candidate of this number has withdrawn from a ward, by the receipts of the returning officer. `AllocError` if
+/// memory is refused.
+pub fn has_withdrawn(
+    alloc: Global,
+    receipts: &[Receipt],
+    ward: u32,
+    candidate: u32,
+) -> Result<bool, AllocError>
+    ensures { IfOk result (λ found. found ≡ list_any (has_subject (subject_of (Withdraw ward candidate))) (map receipt_entry receipts.now)) }
+{
+    let subject = subject_of(alloc, &CandidateCommand::Withdraw { ward, candidate })?;
+    Ok(has_subject(receipts, &subject))
 }
 
 /// Returns whether a batch is there, of this ward and this size, given to these two clerks.

@@ -1,19 +1,21 @@
 //! Whether what is kept of a request that is sent again differs from what the request says.
 
-ghost use Rattle.std.specs.Prelude.{◌≡◌, not, map, IfOk, IfErr, string_bytes};
+ghost use Rattle.std.specs.Prelude.{◌≡◌, not, ◌&&◌, map, IfOk, IfErr, string_bytes};
 ghost use Rattle.std.specs.List.{list_any};
 ghost use Rattle.sqlite.specs.State.{HasCleanDisk};
 ghost use Rattle.sqlite.specs.Held.{state};
 ghost use Rattle.register.specs.Offices.{OfficeState, ward_at, candidate_at, batch_at, third_at, keying_of, verdict_at, lots_of};
 ghost use Rattle.register.specs.Papers.{is_third_clerk};
 ghost use Rattle.register.specs.Verdicts.{judged_as};
-ghost use Rattle.register.specs.Keepings.{is_there, is_ward_of, is_named, is_batch_of, is_keying_otherwise, is_verdict_otherwise, is_drawn, is_kept_otherwise};
+ghost use Rattle.register.specs.Keepings.{is_there, is_ward_of, has_other_name, has_withdrawn, is_batch_of, is_keying_otherwise, is_verdict_otherwise, is_drawn, is_kept_otherwise};
 ghost use Rattle.tables.specs.Reading.{OnlyReads, FailsBy};
 ghost use Rattle.store.specs.Offices.{IsAt};
 ghost use Rattle.store.specs.Loads.{Loads};
 
 use crate::storage::Store;
-use register::keepings::{has_texts, is_batch_of, is_drawn, is_judged_alike, is_named, is_ward_of};
+use register::keepings::{
+    has_other_name, has_texts, has_withdrawn, is_batch_of, is_drawn, is_judged_alike, is_ward_of,
+};
 use register::keyings::is_third_clerk;
 use register::{
     BatchCommand, CandidateCommand, Command, CountCommand, KeyingCommand, Request, VerdictCommand,
@@ -21,6 +23,9 @@ use register::{
 };
 use sqlite::Alter;
 use tables::Fault;
+
+/// The actor of the requests of the office itself.
+const OFFICE: u32 = 0;
 
 impl<S: Alter> Store<S> {
     /// Returns whether the ward of this number has other seats or another name.
@@ -31,12 +36,24 @@ impl<S: Alter> Store<S> {
         Ok(!is_ward_of(&found, seats, name))
     }
 
-    /// Returns whether a candidate of a ward has another name, or isn't there any more.
+    /// Returns whether a candidate of this number has withdrawn from a ward.
+    fn candidate_withdrew(&mut self, ward: u32, candidate: u32) -> Result<bool, Fault>
+        ensures { Loads S.Store self.old self.new result (λ s found. found ≡ has_withdrawn s ward candidate) }
+    {
+        let receipts = self.list_receipts(OFFICE)?;
+        Ok(has_withdrawn(self.alloc, &receipts, ward, candidate)?)
+    }
+
+    /// Returns whether a candidate of a ward has another name, and none of that number has withdrawn. The receipts are read only
+    /// where the name differs.
     fn candidate_differs(&mut self, ward: u32, candidate: u32, name: &str) -> Result<bool, Fault>
-        ensures { Loads S.Store self.old self.new result (λ s found. found ≡ not (is_there (is_named name.now) (candidate_at s ward candidate))) }
+        ensures { Loads S.Store self.old self.new result (λ s found. found ≡ (is_there (has_other_name name.now) (candidate_at s ward candidate) && not (has_withdrawn s ward candidate))) }
     {
         let found = self.find_candidate(ward, candidate)?;
-        Ok(!is_named(&found, name))
+        if !has_other_name(&found, name) {
+            return Ok(false);
+        }
+        Ok(!self.candidate_withdrew(ward, candidate)?)
     }
 
     /// Returns whether a batch is of another ward or size, or has other clerks: the first or the second.
