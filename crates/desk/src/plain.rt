@@ -52,9 +52,7 @@ pub fn perform<S: Alter, R: Read + Drop, O: Sink, E: Sink>(
         file: Cell::new(file),
     };
     match order {
-        Order::Perform(task) => {
-            crate::perform::perform(alloc, task, conn, &folder, out, err)
-        }
+        Order::Perform(task) => { crate::perform::perform(alloc, task, conn, &folder, out, err) }
         Order::Copy { .. } => unreachable!(),
         Order::Journal => unreachable!(),
         Order::Codes { .. } => unreachable!(),

@@ -17,10 +17,7 @@ use std::alloc::Global;
 use std::io::Read;
 
 /// Returns the candidates of a file, in its order, as [`read_candidates`](crate::read_candidates) does if it is asked for no digest.
-pub fn read_candidates<R: Read + Drop>(
-    alloc: Global,
-    r: R,
-) -> Result<Vec<CandidateRow>, FileFault>
+pub fn read_candidates<R: Read + Drop>(alloc: Global, r: R) -> Result<Vec<CandidateRow>, FileFault>
     ensures rows { IfOk result (λ rows. Known (R.remaining r) (λ bytes. file_rows candidates (file_records bytes) ≡ Ok (map candidate_entry rows.items))) }
     ensures fault { IfErr result (λ fault. Known (R.remaining r) (λ bytes. IsFaultOf candidates (file_records bytes) fault)) }
 {

@@ -53,7 +53,10 @@ fn sheets_keep_their_calls(rt: HostRuntime) -> Result<(), Fail> {
     let ward = ward("Harbour", &[]);
     assert!(&rt; can_be_printed(&ward));
     let text = text_of(rt.alloc(), &ward, &[])?;
-    assert!(&rt; text.as_str().starts_with("Ward 7 Harbour\nSeats 2, valid 0"));
+    assert!(&rt;
+        text.as_str()
+            .starts_with("Ward 7 Harbour\nSeats 2, valid 0")
+    );
     Ok(())
 }
 
