@@ -30,10 +30,10 @@ impl<R: Read + Drop> Folder for OneFile<R> {
     }
 }
 
-/// Performs an order as [`perform`](crate::perform::perform) does, over the file that the order names, opened; `None` if it can't be
-/// opened. A script finds no import file: each that it names can't be opened.
+/// Performs an order over a connection and the file that it names, prints its lines, and returns the status and the connection.
 ///
-/// The order has to be one to perform, which all are but those to serve, to copy, and to print a journal or make codes.
+/// `file` is `None` if the file can't be opened. It is [`perform`](crate::perform::perform) over a folder of that one file, so a script
+/// can't open the import files that it names. The order is any but those to serve, to copy, to print a journal and to make codes.
 pub fn perform<S: Alter, R: Read + Drop, O: Sink, E: Sink>(
     alloc: Global,
     order: &Order<'_>,

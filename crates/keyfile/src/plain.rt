@@ -16,7 +16,7 @@ use paper::Columns;
 use std::alloc::Global;
 use std::io::Read;
 
-/// Returns the candidates of a file, in its order, as [`read_candidates`](crate::read_candidates) does if it is asked for no digest.
+/// Returns the candidates of a file, in its order. It is [`read_candidates`](crate::read_candidates) without a digest.
 pub fn read_candidates<R: Read + Drop>(alloc: Global, r: R) -> Result<Vec<CandidateRow>, FileFault>
     ensures rows { IfOk result (λ rows. Known (R.remaining r) (λ bytes. file_rows candidates (file_records bytes) ≡ Ok (map candidate_entry rows.items))) }
     ensures fault { IfErr result (λ fault. Known (R.remaining r) (λ bytes. IsFaultOf candidates (file_records bytes) fault)) }
@@ -27,7 +27,7 @@ pub fn read_candidates<R: Read + Drop>(alloc: Global, r: R) -> Result<Vec<Candid
 /// Returns the marks texts of a keying of papers with some columns, in the order of the papers.
 ///
 /// The header is `paper` and the columns in ascending order. One that names its batch and its clerk, such as `paper 12/4`, isn't the
-/// header here, since neither is known. Everything else is as in [`read_keying`](crate::read_keying).
+/// header here, because neither is known. All else is as in [`read_keying`](crate::read_keying).
 pub fn read_keying<R: Read + Drop>(
     alloc: Global,
     r: R,

@@ -71,7 +71,9 @@ fn tied_for_surplus(due: &Due) -> Option<(u8, Columns)> {
 fn candidate_of(action: Action) -> u8 {
     match action {
         Action::First => 0,
-        Action::Surplus(c) | Action::Exclude(c) | Action::ExcludeLast(c) => c,
+        Action::Surplus(c) => c,
+        Action::Exclude(c) => c,
+        Action::ExcludeLast(c) => c,
     }
 }
 
@@ -82,11 +84,12 @@ fn two() -> Columns {
 
 /// The end of a count of no papers by parcels, and of one by bundles: each waits for a lot.
 fn ends(rt: &impl Abort, alloc: Global, papers: &[Prefs]) -> Result<(CountEnd, CountEnd), Fail> {
+    let candidates = two();
+    assert!(rt; is_contest(&candidates, 1, papers));
+    let mut by_parcels = ParcelBook::new(alloc, candidates, 1, papers)?;
     let bundles = Bundles::new(alloc);
-    assert!(rt; is_contest(&two(), 1, papers));
-    let mut by_parcels = ParcelBook::new(alloc, two(), 1, papers)?;
-    assert!(rt; is_bundled_contest(&two(), 1, &bundles));
-    let mut by_bundles = BundleBook::new(alloc, two(), 1, &bundles)?;
+    assert!(rt; is_bundled_contest(&candidates, 1, &bundles));
+    let mut by_bundles = BundleBook::new(alloc, candidates, 1, &bundles)?;
     Ok((run(&mut by_parcels, &[])?, run(&mut by_bundles, &[])?))
 }
 

@@ -43,8 +43,10 @@ fn fetch_from(bytes: &[u8]) -> (Result<usize, Broken>, u64) {
 #[test]
 fn votes_keep_their_calls(rt: HostRuntime) -> Result<(), Fail> {
     let surplus = Votes::from_units(250000);
-    let value = transfer_value(surplus, quota(0, 15), Votes::from_units(650000));
+    let received = Votes::from_units(100000);
+    let value = transfer_value(surplus, received, Votes::from_units(650000));
     assert_eq!(&rt; value.units(), 38461);
+    assert_eq!(&rt; quota(9, 2).units(), 400000);
     assert_eq!(&rt; fetch_from(b"abc"), (Ok(3), 0));
     match put_in_memory(rt.alloc(), value) {
         (Ok(taken), failures) => assert_eq!(&rt; (taken, failures), (1, 0)),

@@ -16,8 +16,8 @@ use sqlite::Alter;
 use std::alloc::Global;
 use votes::{Sink, Source};
 
-/// Serves one connection as [`serve_one`](crate::serve_one) does if nothing is given: no page of another machine is answered, and a
-/// clerk is known by the number alone.
+/// Serves one connection: reads a request, hands it on to the office, and writes the response. It is [`serve_one`](crate::serve_one)
+/// with nothing given: requests of pages on other machines are denied, and a clerk is known by number alone.
 pub fn serve_one<R: Source, W: Sink, S: Alter>(
     alloc: Global,
     reader: &mut R,
