@@ -1,7 +1,7 @@
 //! The office's desk: words to one order, an order to the office, and what comes of it to lines and a status.
 //!
 //! [`order`](words) reads the words to an [`Order`](orders), and [`perform`](perform) does its task over an opened connection, to
-//! any store of `sqlite`, and prints its lines. A [`Folder`](folders) opens a file that it names, or that a script names.
+//! any store of `sqlite`, and prints its lines; [`plain`] has it over one opened file. A [`Folder`](folders) opens a file that it names, or that a script names.
 //! [`lines`](lines) prints what is wrong with words that are no order, and other failures. [`copy_office`](copying) follows an
 //! order to copy, and [`journal_office`](journalling) one for the journal, each over two connections; the crate `hall` follows
 //! one to serve. In an office that is open already, as one that is served, [`follow`](replaying) does a job, and `copy_open` and
@@ -42,6 +42,7 @@ mod names;
 mod overviews;
 mod papers;
 pub mod perform;
+pub mod plain;
 mod printing;
 pub mod progress;
 pub mod replaying;

@@ -11,7 +11,7 @@ ghost use Rattle.desk.specs.Orders.{ask, no_digest, no_origin, no_verdict, order
 ghost use Rattle.keyfile.specs.Digests.{digest_bytes};
 ghost use Rattle.wire.specs.Origins.{origin_text};
 ghost use Rattle.desk.specs.Words.{digest_at, is_command_name, is_order_name, meaning, meaning_of, names_order, number_at, number_found, origin_at, sent, text_at};
-ghost use Rattle.desk.specs.Words.{flag_at, limit_of, texts_at};
+ghost use Rattle.desk.specs.Words.{flag_at, texts_at};
 
 use crate::orders::{Errand, Job, KeyingFile, Order, Question, Task};
 use crate::requests::{by_clerk, by_office};
@@ -77,7 +77,7 @@ const ORDERS_FROM_SEAL: [Entry; 25] = [
     order!(Election "next" [WARD], "Prints what comes next in a ward, with names:\ncount-office town.db next 7"),
     order!(Election "sheet" [WARD], "Prints the stage sheet of a sealed ward:\ncount-office town.db sheet 7"),
     order!(Election "result" [WARD], "Prints the declaration of a declared ward:\ncount-office town.db result 7"),
-    order!(Election "serve" [PORT, CONNECTIONS, ORIGIN, CODES], "Answers clerks over HTTP on this machine, so many connections:\ncount-office town.db serve 8080 1000"),
+    order!(Election "serve" [PORT, CONNECTIONS, ORIGIN, CODES], "Serves clerks over HTTP on this machine, until it is stopped:\ncount-office town.db serve 8080"),
     order!(Election "migrate" [], "Brings an office of an earlier program over to this one:\ncount-office town.db migrate"),
     order!(Office "wards" [], "Prints how each ward stands, and what is left to do:\ncount-office town.db wards"),
     order!(Office "batches" [WARD], "Prints of each batch of a ward who has keyed it, and how it stands:\ncount-office town.db batches 7"),
@@ -199,13 +199,6 @@ fn flag_in(matches: &ArgMatches<'_>, word: Word) -> bool
     ensures { result ≡ flag_at word.name.now (rows_of (found_of matches.now)) }
 {
     text_in(matches, word) == "true"
-}
-
-/// After how many connections serving ends, by the number of them; 0 stands for no limit.
-fn limit_of(number: u32) -> Option<u32>
-    ensures { result ≡ limit_of number }
-{
-    if number == 0 { None } else { Some(number) }
 }
 
 /// The origin that was matched, if one was.
@@ -393,7 +386,7 @@ fn serve<'a>(matches: &ArgMatches<'a>) -> Result<Order<'a>, NoOrder>
 {
     Ok(Order::Serve {
         port: number_in(matches, PORT),
-        connections: limit_of(number_in(matches, CONNECTIONS)),
+        connections: number_found_in(matches, CONNECTIONS),
         origin: origin_in(matches)?,
         codes: text_found_in(matches, CODES),
     })

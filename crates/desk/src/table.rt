@@ -9,7 +9,7 @@ pub(crate) enum Kind {
     NumberOrNone,
     /// A port, 1 to 65535.
     Port,
-    /// A number of connections, 0 to 1000000; 0 stands for no limit.
+    /// A number of connections, 1 to 1000000, which may be left out.
     Connections,
     /// Any text.
     Text,
@@ -133,7 +133,7 @@ pub(crate) const PORT: Word = word!(Port "PORT", "The port of this machine, 1 to
 pub(crate) const MAX_CONNECTIONS: i64 = 1_000_000;
 
 pub(crate) const CONNECTIONS: Word =
-    word!(Connections "CONNECTIONS", "How many connections are answered, 0 to 1000000; 0 stands for no limit");
+    word!(Connections "CONNECTIONS", "How many connections are answered, 1 to 1000000;\nleft out, there is no limit");
 
 pub(crate) const ORIGIN: Word =
     word!(Origin "origin", "The origin of pages that ask through a proxy, as https://count.example.org;\nleft out, no page of another machine is answered");

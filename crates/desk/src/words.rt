@@ -98,8 +98,8 @@ fn arg_of<'a>(alloc: Global, word: Word) -> Arg<'a>
             arg.value_parser(port).required(true)
         }
         Kind::Connections => {
-            let connections = value_parser!(u32).range(0..=MAX_CONNECTIONS);
-            arg.value_parser(connections).required(true)
+            let connections = value_parser!(u32).range(1..=MAX_CONNECTIONS);
+            arg.value_parser(connections)
         }
         Kind::Text | Kind::Verdict => arg.required(true),
         Kind::Id => arg.long(word.name).value_name("ID").required(true),

@@ -29,7 +29,7 @@ const INIT: &[&str] = &["DB", "init"];
 
 const MIGRATE: &[&str] = &["DB", "migrate"];
 
-const SERVE: &[&str] = &["DB", "serve", "8080", "0"];
+const SERVE: &[&str] = &["DB", "serve", "8080"];
 
 const COPY: &[&str] = &["DB", "copy", "NEW"];
 

@@ -46,6 +46,10 @@ pub record GivenEntry : Type 0 where
 abbrev pub given_entry : Given → GivenEntry
 given_entry given = record { origin = given_by given.origin; gate = option_map gate_entry given.gate }
 
+-- neither of them
+abbrev pub given_nothing : GivenEntry
+given_nothing = record { origin = None; gate = None }
+
 -- ---- whose a target is
 
 -- the number that stands before a slash, of so many bytes

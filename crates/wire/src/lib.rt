@@ -6,7 +6,7 @@
 //! `GET /clerks/{c}/batches/{b}/candidates`. [`read_asked`] reads what is asked, [`Asked`], or why it is denied before
 //! the office is asked, [`Denial`]. [`lacks`] says whether a client was heard to the end of what he asks.
 //!
-//! [`Given`] is what an office that serves goes by. A page from elsewhere in a browser of this machine asks nothing: each
+//! [`Given`] is what an office that serves goes by; [`plain`] serves a connection without any of it. A page from elsewhere in a browser of this machine asks nothing: each
 //! request with a header that shows one is denied. [`Origin`] is that of pages which may come through a proxy in front.
 //! At a [`Gate`] whatever stands under a clerk's number is asked for with his code. [`knock_of`] says whose number that is,
 //! and whether a wrong code came; who must wait for wrong codes is told so by [`tell_to_wait`].
@@ -37,6 +37,7 @@ mod lack;
 mod lacking;
 mod length;
 pub mod origin;
+pub mod plain;
 mod rest;
 pub mod target;
 mod unread;

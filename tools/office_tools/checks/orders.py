@@ -54,7 +54,7 @@ class Order:
         self.has_many = words.endswith("...")
         example = re.search(r"^count-office town\.db (.*)$", help_text, re.M)
         self.example = shlex.split(example.group(1)) if example else []
-        told = re.findall(r"^ +(?:--\w+ )?<(\w+)>  +(.*(?:\n {13,}\S.*)*)|^ +\[(ACTOR|MARKS)\](?:\.\.\.)?  +(.*(?:\n {13,}\S.*)*)", help_text, re.M)
+        told = re.findall(r"^ +(?:--\w+ )?<(\w+)>  +(.*(?:\n {13,}\S.*)*)|^ +\[(ACTOR|CONNECTIONS|MARKS)\](?:\.\.\.)?  +(.*(?:\n {13,}\S.*)*)", help_text, re.M)
         self.ranges = {(word or free): RANGE.findall(line or other) for word, line, free, other in told}
 
     def typed(self):
