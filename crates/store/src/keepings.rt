@@ -41,7 +41,10 @@ impl<S: Alter> Store<S> {
         ensures { Loads S.Store self.old self.new result (λ s found. found ≡ has_withdrawn s ward candidate) }
     {
         let receipts = self.list_receipts(OFFICE)?;
-        Ok(has_withdrawn(self.alloc, &receipts, ward, candidate)?)
+        match has_withdrawn(self.alloc, &receipts, ward, candidate) {
+            Ok(found) => Ok(found),
+            Err(_) => Err(Fault::Memory),
+        }
     }
 
     /// Returns whether a candidate of a ward has another name, and none of that number has withdrawn. The receipts are read only
