@@ -2,16 +2,16 @@
 use Rattle.std.specs.Prelude.{List, Option, Some, None, codes, ℕ}
 use Rattle.codes.specs.declared.fault.CodesFault.{CodesFault}
 use Rattle.codes.specs.declared.fault.CodesFault.TheVariants.{BadRandom, Line, NoClerks, NoRandom, OpenToOthers, Unmade, Unread}
-use Rattle.codes.specs.declared.fault.Flaw.{Flaw}
-use Rattle.codes.specs.declared.fault.Flaw.TheVariants.{BadCode, ClerkTwice, CodeTwice, NoEntry}
+use Rattle.codes.specs.declared.fault.CodeFlaw.{CodeFlaw}
+use Rattle.codes.specs.declared.fault.CodeFlaw.TheVariants.{BadCode, ClerkTwice, CodeTwice, NoEntry}
 
-abbrev pub flaw_number : Flaw → ℕ
+abbrev pub flaw_number : CodeFlaw → ℕ
 flaw_number NoEntry = 1
 flaw_number BadCode = 2
 flaw_number ClerkTwice = 3
 flaw_number CodeTwice = 4
 
-abbrev pub flaw_text : Flaw → List ℕ
+abbrev pub flaw_text : CodeFlaw → List ℕ
 flaw_text NoEntry = codes "no clerk and code"
 flaw_text BadCode = codes "bad code"
 flaw_text ClerkTwice = codes "clerk twice"

@@ -4,8 +4,8 @@ use Rattle.std.specs.Prelude.{bytes_eq, count_by, drop, if◌then◌else◌, len
 use Rattle.std.specs.Char.{is_ascii_digit}
 use Rattle.std.specs.List.{list_all, list_any, prefix_len}
 use Rattle.codes.specs.Codes.{Holder, credentials_of}
-use Rattle.codes.specs.declared.fault.Flaw.{Flaw}
-use Rattle.codes.specs.declared.fault.Flaw.TheVariants.{BadCode, ClerkTwice, CodeTwice, NoEntry}
+use Rattle.codes.specs.declared.fault.CodeFlaw.{CodeFlaw}
+use Rattle.codes.specs.declared.fault.CodeFlaw.TheVariants.{BadCode, ClerkTwice, CodeTwice, NoEntry}
 use Rattle.codes.specs.declared.fault.CodesFault.{CodesFault}
 use Rattle.codes.specs.declared.fault.CodesFault.TheVariants as fault
 use Rattle.codes.specs.declared.reading.CodeLine.{CodeLine}
@@ -79,16 +79,16 @@ abbrev pub is_no_blank : ℕ → Bool
 is_no_blank byte = not (byte == 32)
 
 -- a clerk and his code, by what stands before the first blank of a line and behind it
-abbrev pub entry_by : Option ℕ → List ℕ → Result CodeEntry Flaw
+abbrev pub entry_by : Option ℕ → List ℕ → Result CodeEntry CodeFlaw
 entry_by None code = Err NoEntry
 entry_by (Some clerk) code = if is_code code then Ok (record { clerk = clerk; code = code }) else Err BadCode
 
 -- what a line says
-abbrev pub entry_in : List ℕ → Result CodeEntry Flaw
+abbrev pub entry_in : List ℕ → Result CodeEntry CodeFlaw
 entry_in line = entry_by (clerk_in (take (prefix_len is_no_blank line) line)) (drop (prefix_len is_no_blank line + 1) line)
 
 -- an entry behind others: no clerk stands there twice, and no code
-abbrev pub entry_behind : List CodeEntry → Result CodeEntry Flaw → Result CodeEntry Flaw
+abbrev pub entry_behind : List CodeEntry → Result CodeEntry CodeFlaw → Result CodeEntry CodeFlaw
 entry_behind before (Err flaw) = Err flaw
 entry_behind before (Ok entry) =
     if list_any (λ other. other.clerk == entry.clerk) before then Err ClerkTwice else
@@ -97,7 +97,7 @@ entry_behind before (Ok entry) =
 -- ---- all lines
 
 -- it goes on behind an entry, or ends with what is wrong with the line of this number
-abbrev pub entries_by : (List CodeEntry → Result (List CodeEntry) CodesFault) → ℕ → List CodeEntry → Result CodeEntry Flaw → Result (List CodeEntry) CodesFault
+abbrev pub entries_by : (List CodeEntry → Result (List CodeEntry) CodesFault) → ℕ → List CodeEntry → Result CodeEntry CodeFlaw → Result (List CodeEntry) CodesFault
 entries_by others number before (Err flaw) = Err (fault.Line number flaw)
 entries_by others number before (Ok entry) = others (before ++ entry ∷ [])
 

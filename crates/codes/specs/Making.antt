@@ -4,7 +4,7 @@ use Rattle.std.specs.Prelude.{codes, decimal, drop, if◌then◌else◌, length,
 use Rattle.std.specs.List.{filter_map, list_all, list_any, prefix_len}
 use Rattle.codes.specs.Files.{CodeEntry, clerk_in, codes_in, is_no_hyphen}
 use Rattle.codes.specs.declared.fault.CodesFault.{CodesFault}
-use Rattle.codes.specs.declared.range.Clerks.{Clerks}
+use Rattle.codes.specs.declared.range.ClerkRange.{ClerkRange}
 
 -- ---- codes
 
@@ -47,7 +47,7 @@ numbers first zero = []
 numbers first (suc n) = first ∷ numbers (first + 1) n
 
 -- the clerks from one to another
-abbrev pub clerks_of : Clerks → List ℕ
+abbrev pub clerks_of : ClerkRange → List ℕ
 clerks_of clerks = numbers clerks.first (clerks.last + 1 - clerks.first)
 
 -- who is first and who is last, where the first isn't behind the last
@@ -55,7 +55,7 @@ pub record ClerksEntry : Type 0 where
   pub first : ℕ
   pub last : ℕ
 
-abbrev pub clerks_entry : Clerks → ClerksEntry
+abbrev pub clerks_entry : ClerkRange → ClerksEntry
 clerks_entry clerks = record { first = clerks.first; last = clerks.last }
 
 abbrev pub clerks_between : Option ℕ → Option ℕ → Option ClerksEntry
@@ -82,7 +82,7 @@ are_from next end [] = next == end
 are_from next end (entry ∷ entries) = (entry.clerk == next) && are_from (next + 1) end entries
 
 -- the same test of what was read of a text
-abbrev pub is_file_for : Clerks → Result (List CodeEntry) CodesFault → Bool
+abbrev pub is_file_for : ClerkRange → Result (List CodeEntry) CodesFault → Bool
 is_file_for clerks (Err fault) = false
 is_file_for clerks (Ok entries) = are_from clerks.first (clerks.last + 1) entries && list_all (λ (e : CodeEntry). is_made e.code) entries
 

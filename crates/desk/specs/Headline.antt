@@ -3,7 +3,7 @@
 use Rattle.std.specs.Prelude.{◌≡◌, ◌≢◌, ◌⊎◌, ◌+◌, ◌++◌, ℕ, Bool, true, false, List, [], ◌∷◌, codes, length, Option, None}
 use Rattle.sqlite.specs.{Effect.Database, State.State, Tree.Trees}
 use Rattle.register.specs.{Machine.after, Machine.after_one, Machine.is_accepted, Machine.step_of, Offices.OfficeState, Offices.empty_office, declared.command.Request.Request}
-use Rattle.tables.specs.{Contents.RestsAt, Contents.Stores, Presence.IsOurs, Presence.IsOlderSchema, Presence.has_some_table, Reading.FailsBy, Reading.FailsToList, Reading.OnlyReads}
+use Rattle.tables.specs.{Contents.RestsAt, Contents.Stores, Presence.IsOurs, Presence.IsOlderSchema, Presence.has_some_table, Resource.FailsBy, Resource.FailsToList, Resource.OnlyReads}
 use Rattle.tables.specs.declared.fault.Fault.{Fault, TheVariants.WrongDatabase}
 use Rattle.store.specs.{Offices.IsAt, Offices.LeavesState, Offices.tables_of, Openings.HoldsNoState, Openings.IsBlank, Openings.IsLeftAt, Openings.IsToldBy, declared.older.OlderForm.OlderForm}
 use Rattle.store.specs.Migrations.{HoldsNoOlder, IsToldInMigration, LeavesOldOrNew, RestsOlder}
@@ -11,7 +11,7 @@ use Rattle.store.specs.declared.migration.Migrated.TheVariants.{Already, Done}
 use Rattle.office.specs.{Answers.IsClosedIn, Answers.IsKeptOpen, Answers.IsMemoryOrStore, Answers.IsOpenAt, Answers.Told, Answers.told_of, Reads.IsClosedReading, Runs.Keeps}
 use Rattle.desk.specs.{Folders.File, Folders.Folder, Folders.IsFileAt, Requests.Sends, Requests.file_of, Scripts.HasTurns, Scripts.keeps_going, Told.IsNoScript, Told.IsTold, Told.page_answered}
 use Rattle.desk.specs.Pages.{Cut, Page, below, cut_below, empty_page, failed, fronted, goes_on, migrated_text, replied, uncut}
-use Rattle.desk.specs.declared.{lines.Failure.TheVariants.Office, orders.Job.Job, orders.Task.Task, scripts.Turn.Turn}
+use Rattle.desk.specs.declared.{lines.Failure.TheVariants.Office, orders.Job.Job, orders.Task.Task, scripts.ScriptStep.ScriptStep}
 use Rattle.desk.specs.declared.orders.Task.TheVariants as task
 
 -- What came of requests: which they are, how many of them were answered, the page that says so, and how much of that page was taken.
@@ -66,7 +66,7 @@ module _ (old : State) (closed : Bool) (st : State) where
 
   -- Turns are taken in turn, each with the file that lies at its path when it comes. All the requests
   -- of a turn are sent. Or none is, and the page has what the turn asks, or why its file isn't taken.
-  abbrev pub IsPlayed : Bool → Folder → OfficeState → List Turn → Course → Type 0
+  abbrev pub IsPlayed : Bool → Folder → OfficeState → List ScriptStep → Course → Type 0
   IsPlayed keep folder s [] course = (course ≡ ended None [] 0 empty_page uncut) × IsOpenAt s closed st
   IsPlayed keep folder s (turn ∷ turns) course =
       (file : File) × IsFileAt folder (file_of turn.errand) file
@@ -75,7 +75,8 @@ module _ (old : State) (closed : Bool) (st : State) where
 
   -- A job is done in the open office: its turns are taken, past refusals where it is to keep going. Or the page says why its text is no script. Or the page has a fault.
   abbrev pub IsDone : Folder → OfficeState → Job → Course → Type 0
-  IsDone folder s job course = ((turns : List Turn) × HasTurns folder job turns × IsPlayed (keeps_going job) folder s turns course) ⊎ IsUnsent false None (IsNoScript folder job) (λ rest. ⊥) s course
+  IsDone folder s job course = ((turns : List ScriptStep) × HasTurns folder job turns
+      × IsPlayed (keeps_going job) folder s turns course) ⊎ IsUnsent false None (IsNoScript folder job) (λ rest. ⊥) s course
 
 -- Nothing is sent, and a stop leaves the state as it was.
 abbrev pub IsUntouched : (Page → Type 0) → OfficeState → Course → State → Type 0

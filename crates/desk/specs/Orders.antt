@@ -13,10 +13,10 @@ use Rattle.office.specs.declared.sheets.Text.TheVariants as ward_text
 use Rattle.wire.specs.Origins.{origin_text}
 use Rattle.keyfile.specs.Digests.{asked_digest}
 use Rattle.desk.specs.Verdicts.{Judgement, judgement_given}
-use Rattle.desk.specs.declared.table.Kind.{Kind}
-use Rattle.desk.specs.declared.table.Kind.TheVariants as kind
-use Rattle.desk.specs.declared.table.Word.{Word}
-use Rattle.desk.specs.declared.table.Entry.{Entry}
+use Rattle.desk.specs.declared.order_entry.Kind.{Kind}
+use Rattle.desk.specs.declared.order_entry.Kind.TheVariants as kind
+use Rattle.desk.specs.declared.order_entry.Word.{Word}
+use Rattle.desk.specs.declared.order_entry.Entry.{Entry}
 use Rattle.desk.specs.declared.orders.Errand.{Errand}
 use Rattle.desk.specs.declared.orders.Errand.TheVariants as errand
 use Rattle.desk.specs.declared.orders.Question.{Question}

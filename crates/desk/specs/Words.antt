@@ -12,8 +12,8 @@ use Rattle.clap.specs.declared.error.kind.ErrorKind.{ErrorKind}
 use Rattle.clap.specs.declared.error.kind.ErrorKind.TheVariants.{DisplayHelp, DisplayVersion, OutOfMemory}
 use Rattle.desk.specs.declared.words.WordsFault.{WordsFault}
 use Rattle.desk.specs.declared.words.WordsFault.TheVariants as words_fault
-use Rattle.desk.specs.declared.table.Kind.{Kind}
-use Rattle.desk.specs.declared.table.Kind.TheVariants as kind
+use Rattle.desk.specs.declared.order_entry.Kind.{Kind}
+use Rattle.desk.specs.declared.order_entry.Kind.TheVariants as kind
 use Rattle.desk.specs.Numbers.{number_in}
 use Rattle.desk.specs.Orders.{Meant, OfWords, OrderWords, WordValue, WordEntry, asked_by, by_office, no_digest, no_origin, no_verdict, orders, send}
 use Rattle.desk.specs.Verdicts.{Judgement, judgement_in}

@@ -3,8 +3,8 @@ use Rattle.std.specs.Prelude.{◌==◌, ◌||◌, if◌then◌else◌, ℕ, ℤ,
 use Rattle.std.specs.IoError.{raw_os_error}
 use Rattle.std.specs.declared.io.Error.{Error}
 use Rattle.mio.specs.declared.net.listener.TcpListener.{TcpListener}
-use Rattle.gathering.specs.declared.doors.Admitted.{Admitted}
-use Rattle.gathering.specs.declared.doors.Admitted.TheVariants.{Nobody, NotNow, Full}
+use Rattle.connections.specs.declared.network.AcceptOutcome.{AcceptOutcome}
+use Rattle.connections.specs.declared.network.AcceptOutcome.TheVariants.{Nobody, NotNow, Full}
 use Rattle.sockets.specs.declared.socket.Socket.{Socket}
 use Rattle.sockets.specs.declared.loopback.Loopback.{Loopback}
 
@@ -22,8 +22,8 @@ abbrev pub is_out_of_room : Error → Bool
 is_out_of_room error = errno_of error == 12 || errno_of error == 23 || errno_of error == 24 || errno_of error == 28 || errno_of error == 105
 
 -- what a listener that gave no connection says by its error; EAGAIN is 11
-abbrev pub refusal_of : Error → Admitted Socket
-refusal_of error = if errno_of error == 11 then Nobody else (if is_out_of_room error then Full else NotNow)
+abbrev pub outcome_of : Error → AcceptOutcome Socket
+outcome_of error = if errno_of error == 11 then Nobody else (if is_out_of_room error then Full else NotNow)
 
 -- the machine has no [::1]: EAFNOSUPPORT, EADDRNOTAVAIL
 abbrev pub has_no_ipv6 : Error → Bool

@@ -3,9 +3,9 @@
 ghost use Rattle.std.specs.Prelude.{◌≡◌, Some, option_map};
 ghost use Rattle.sockets.specs.declared.loopback.Address.{Address};
 ghost use Rattle.sockets.specs.Errors.{has_no_ipv6, loopback_of};
-ghost use Rattle.sockets.specs.Watches.{other_address};
+ghost use Rattle.sockets.specs.Pollers.{other_address};
 
-use crate::refusal::{EADDRNOTAVAIL, EAFNOSUPPORT, errno};
+use crate::accept_error::{EADDRNOTAVAIL, EAFNOSUPPORT, errno};
 use mio::net::TcpListener;
 use std::io;
 use std::net::{Ipv4Addr, Ipv6Addr, Net, SocketAddr};

@@ -2,11 +2,11 @@
 //! them is known, also to clauses.
 
 ghost use Rattle.std.specs.Prelude.{◌≡◌, None, Some, length, nat_lt};
-ghost use Rattle.gathering.specs.Rooms.{with_leaver};
-ghost use Rattle.sockets.specs.Watches.{unknown};
+ghost use Rattle.connections.specs.Tables.{with_removed};
+ghost use Rattle.sockets.specs.Pollers.{unknown};
 
-use gathering::{Admitted, Came, Comer, Door, Doors, Leaver, Line};
-use sockets::Doorway;
+use connections::{AcceptOutcome, Accepted, Listener, Network, Received, Removed, Stream};
+use sockets::SocketNetwork;
 use std::alloc::Global;
 use std::cell::{Cell, RefCell};
 use std::io::{ErrorKind, Write};
@@ -19,7 +19,7 @@ use votes::Broken;
 /// more has come, and how many he takes of his answer before he takes no more now. At last after how many that came reading him
 /// fails, and after how many that he took writing to him fails.
 #[derive(Clone, Copy, Debug)]
-pub struct Client<'a> {
+pub struct TestClient<'a> {
     pub is_order: bool,
     pub sends: &'a [u8],
     pub ends: bool,
@@ -29,10 +29,10 @@ pub struct Client<'a> {
     pub takes: usize,
 }
 
-impl<'a> Client<'a> {
+impl<'a> TestClient<'a> {
     /// One who sends all of this at once, and takes his answer so. His line doesn't break.
-    pub fn whole(sends: &'a [u8]) -> Client<'a> {
-        Client {
+    pub fn whole(sends: &'a [u8]) -> TestClient<'a> {
+        TestClient {
             is_order: false,
             sends,
             ends: true,
@@ -44,41 +44,41 @@ impl<'a> Client<'a> {
     }
 
     /// An order whose message is this, and who stays.
-    pub fn order(message: &'a [u8]) -> Client<'a> {
-        Client {
+    pub fn order(message: &'a [u8]) -> TestClient<'a> {
+        TestClient {
             is_order: true,
             ends: false,
-            ..Client::whole(message)
+            ..TestClient::whole(message)
         }
     }
 
     /// One who sends so many bytes at once, and takes as many.
-    pub fn slow(sends: &'a [u8], at_once: usize) -> Client<'a> {
-        Client {
+    pub fn slow(sends: &'a [u8], at_once: usize) -> TestClient<'a> {
+        TestClient {
             at_once,
             sips: at_once,
-            ..Client::whole(sends)
+            ..TestClient::whole(sends)
         }
     }
 
     /// One who says nothing, and stays.
-    pub fn silent() -> Client<'a> {
-        Client {
+    pub fn silent() -> TestClient<'a> {
+        TestClient {
             ends: false,
-            ..Client::whole(&[])
+            ..TestClient::whole(&[])
         }
     }
 }
 
 /// Clients who come in turn; or one who can't be let in when his turn comes, and isn't there any more later.
-pub type Comers<'a> = &'a [Option<Client<'a>>];
+pub type TestClients<'a> = &'a [Option<TestClient<'a>>];
 
 /// An office that serves: who comes, and of whom the doors say behind each wait that they may go on, all who were let in or those
 /// of these numbers, in their order. Then after how many serving ends, how many seconds later the clock is at each look, and
 /// after how many waits the doors fail. Last the text of a file of clerks' codes, if they are asked for.
 #[derive(Clone, Copy, Debug)]
 pub struct Evening<'a> {
-    pub comers: Comers<'a>,
+    pub clients: TestClients<'a>,
     pub told: Option<&'a [usize]>,
     pub connections: Option<u64>,
     pub seconds: u64,
@@ -88,11 +88,11 @@ pub struct Evening<'a> {
 
 impl<'a> Evening<'a> {
     /// All who come are served, and no time passes.
-    pub fn of(comers: Comers<'a>) -> Evening<'a> {
+    pub fn of(clients: TestClients<'a>) -> Evening<'a> {
         Evening {
-            comers,
+            clients,
             told: None,
-            connections: Some(comers.len() as u64),
+            connections: Some(clients.len() as u64),
             seconds: 0,
             waits: 10_000,
             codes: None,
@@ -102,17 +102,17 @@ impl<'a> Evening<'a> {
 
 /// The line of a client, and the page on which he writes what he takes.
 #[derive(Drop)]
-pub struct Talk<'s, 'p> {
+pub struct TestStream<'s, 'p> {
     left: &'s [u8],
-    client: Client<'s>,
+    client: TestClient<'s>,
     page: &'p RefCell<Vec<u8>>,
     now: usize,
     sip: usize,
 }
 
-impl<'s, 'p> Talk<'s, 'p> {
-    fn new(client: Client<'s>, page: &'p RefCell<Vec<u8>>) -> Talk<'s, 'p> {
-        Talk {
+impl<'s, 'p> TestStream<'s, 'p> {
+    fn new(client: TestClient<'s>, page: &'p RefCell<Vec<u8>>) -> TestStream<'s, 'p> {
+        TestStream {
             left: client.sends,
             client,
             page,
@@ -122,7 +122,7 @@ impl<'s, 'p> Talk<'s, 'p> {
     }
 }
 
-impl Line for Talk<'_, '_> {
+impl Stream for TestStream<'_, '_> {
     ghost held = { λ t. Some t.left.now };
 
     ghost taken = { λ _. None };
@@ -131,29 +131,29 @@ impl Line for Talk<'_, '_> {
 
     ghost idle = { λ _. None };
 
-    fn fetch(&mut self, room: &mut [u8]) -> Result<Came, Broken> {
+    fn fetch(&mut self, room: &mut [u8]) -> Result<Received, Broken> {
         if self.client.heard == 0 {
             return Err(Broken);
         }
         if self.left.is_empty() {
             return Ok(if self.client.ends {
-                Came::End
+                Received::End
             } else {
-                Came::Nothing
+                Received::Nothing
             });
         }
         let most = self.now.min(self.client.heard);
         let count = room.len().min(self.left.len()).min(most);
         if count == 0 {
             self.now = self.client.at_once;
-            return Ok(Came::Nothing);
+            return Ok(Received::Nothing);
         }
         let (now, later) = self.left.split_at(count);
         room[..count].copy_from_slice(now);
         self.left = later;
         self.now -= count;
         self.client.heard -= count;
-        Ok(Came::Bytes(count))
+        Ok(Received::Bytes(count))
     }
 
     fn put(&mut self, bytes: &[u8]) -> Result<usize, Broken> {
@@ -181,7 +181,7 @@ impl Line for Talk<'_, '_> {
 
 /// The doors to which clients come, and how many they have named since the last wait.
 #[derive(Drop)]
-pub struct Coming<'c, 'p> {
+pub struct TestNetwork<'c, 'p> {
     evening: Evening<'c>,
     pages: &'p [RefCell<Vec<u8>>],
     clock: Jumping,
@@ -190,10 +190,10 @@ pub struct Coming<'c, 'p> {
     told: usize,
 }
 
-impl<'c, 'p> Coming<'c, 'p> {
+impl<'c, 'p> TestNetwork<'c, 'p> {
     /// Those of an evening, with a page for each.
-    pub fn new(evening: Evening<'c>, pages: &'p [RefCell<Vec<u8>>]) -> Coming<'c, 'p> {
-        Coming {
+    pub fn new(evening: Evening<'c>, pages: &'p [RefCell<Vec<u8>>]) -> TestNetwork<'c, 'p> {
+        TestNetwork {
             evening,
             pages,
             clock: Jumping::by(evening.seconds),
@@ -210,21 +210,21 @@ impl<'c, 'p> Coming<'c, 'p> {
     }
 }
 
-impl<'c, 'p> Doors for Coming<'c, 'p> {
-    type Line = Talk<'c, 'p>;
+impl<'c, 'p> Network for TestNetwork<'c, 'p> {
+    type Stream = TestStream<'c, 'p>;
 
     ghost known = { λ _. unknown };
 
-    ghost waited_at = { λ coming. nat_lt coming.next (length coming.evening.comers.now) };
+    ghost pending = { λ coming. nat_lt coming.next (length coming.evening.clients.now) };
 
     fn now(&mut self) -> Result<u64, Broken> {
         now_by(&self.clock)
     }
 
-    fn leave(&mut self, leaver: Leaver<Talk<'c, 'p>>)
-        ensures { unknown ≡ with_leaver unknown leaver.entry }
+    fn close(&mut self, removed: Removed<TestStream<'c, 'p>>)
+        ensures { unknown ≡ with_removed unknown removed.entry }
     {
-        drop(leaver);
+        drop(removed);
     }
 
     fn wait(&mut self, _most: Duration) -> Result<(), Broken> {
@@ -248,34 +248,34 @@ impl<'c, 'p> Doors for Coming<'c, 'p> {
         Some(number)
     }
 
-    fn admit(&mut self, number: u64, clients_too: bool) -> Admitted<Talk<'c, 'p>> {
-        let comers = self.evening.comers;
-        let (Some(next), Some(page)) = (comers.get(self.next), self.pages.get(self.next)) else {
-            return Admitted::Nobody;
+    fn accept(&mut self, number: u64, clients_too: bool) -> AcceptOutcome<TestStream<'c, 'p>> {
+        let clients = self.evening.clients;
+        let (Some(next), Some(page)) = (clients.get(self.next), self.pages.get(self.next)) else {
+            return AcceptOutcome::Nobody;
         };
         let Some(client) = next else {
             self.next = self.next.saturating_add(1);
-            return Admitted::NotNow;
+            return AcceptOutcome::NotNow;
         };
         if client.is_order {
             self.lets_in(number);
-            return Admitted::One(Comer {
-                door: Door::Orders,
-                line: Talk::new(*client, page),
+            return AcceptOutcome::One(Accepted {
+                listener: Listener::Orders,
+                stream: TestStream::new(*client, page),
             });
         }
         if clients_too {
             self.lets_in(number);
-            return Admitted::One(Comer {
-                door: Door::Clients,
-                line: Talk::new(*client, page),
+            return AcceptOutcome::One(Accepted {
+                listener: Listener::Clients,
+                stream: TestStream::new(*client, page),
             });
         }
-        Admitted::Nobody
+        AcceptOutcome::Nobody
     }
 
-    fn is_waited_at(&self) -> bool {
-        self.next < self.evening.comers.len()
+    fn has_pending(&self) -> bool {
+        self.next < self.evening.clients.len()
     }
 }
 
@@ -304,7 +304,7 @@ pub fn joined(alloc: Global, pages: Vec<RefCell<Vec<u8>>>) -> Result<String, Fai
 /// The doors at a port of this machine, and after how many clients serving ends.
 #[derive(Drop)]
 pub struct Port {
-    pub doors: RefCell<Doorway<Jumping>>,
+    pub network: RefCell<SocketNetwork<Jumping>>,
     pub connections: u64,
 }
 
@@ -352,15 +352,15 @@ impl Clock for Jumping {
 
 /// The bytes that were taken, up to a failure.
 #[derive(Drop)]
-pub struct Taking {
+pub struct LimitedWriter {
     taken: Vec<u8>,
     room: usize,
 }
 
-impl Taking {
+impl LimitedWriter {
     /// A writer that takes so many bytes, and then fails.
-    pub fn new(alloc: Global, room: usize) -> Taking {
-        Taking {
+    pub fn new(alloc: Global, room: usize) -> LimitedWriter {
+        LimitedWriter {
             taken: Vec::new(alloc),
             room,
         }
@@ -368,12 +368,12 @@ impl Taking {
 
     /// What was taken.
     pub fn text(self) -> Result<String, Fail> {
-        let Taking { taken, .. } = self;
+        let LimitedWriter { taken, .. } = self;
         Ok(String::from_utf8(taken)?)
     }
 }
 
-impl Write for Taking {
+impl Write for LimitedWriter {
     fn write(&mut self, bytes: &[u8]) -> io::Result<usize> {
         let count = bytes.len().min(self.room);
         if count < bytes.len() && count == 0 {

@@ -9,14 +9,14 @@ use Rattle.wire.specs.Heads.{BeginsWith, HasNoHead}
 use Rattle.wire.specs.Lengths.{NamedValue, values_of}
 use Rattle.wire.specs.Origins.{given_by, is_foreign}
 use Rattle.wire.specs.Targets.{number_in}
-use Rattle.wire.specs.declared.denial.Denial.{Denial}
-use Rattle.wire.specs.declared.denial.Denial.TheVariants.{Unauthorized, WrongCode}
-use Rattle.wire.specs.declared.given.Gate.{Gate}
-use Rattle.wire.specs.declared.given.Given.{Given}
-use Rattle.wire.specs.declared.given.Page.{Page}
-use Rattle.wire.specs.declared.knock.Knock.{Knock}
-use Rattle.wire.specs.declared.target.Reading.{Reading}
-use Rattle.wire.specs.declared.target.Reading.TheVariants as what
+use Rattle.wire.specs.declared.request_error.RequestError.{RequestError}
+use Rattle.wire.specs.declared.request_error.RequestError.TheVariants.{Unauthorized, WrongCode}
+use Rattle.wire.specs.declared.settings.Gate.{Gate}
+use Rattle.wire.specs.declared.settings.HttpSettings.{HttpSettings}
+use Rattle.wire.specs.declared.settings.Page.{Page}
+use Rattle.wire.specs.declared.authentication.Authentication.{Authentication}
+use Rattle.wire.specs.declared.target.Resource.{Resource}
+use Rattle.wire.specs.declared.target.Resource.TheVariants as what
 use Rattle.wire.specs.declared.target.Target.{Target}
 use Rattle.wire.specs.declared.target.Target.TheVariants as target
 
@@ -39,15 +39,15 @@ abbrev pub gate_entry : Gate → GateEntry
 gate_entry gate = record { holders = holders_of gate.codes.now; page = page_entry gate.page }
 
 -- the origin of a proxy in front, if there is one; and the gate, where codes are asked for
-pub record GivenEntry : Type 0 where
+pub record HttpSettingsEntry : Type 0 where
   pub origin : Option (List ℕ)
   pub gate : Option GateEntry
 
-abbrev pub given_entry : Given → GivenEntry
-given_entry given = record { origin = given_by given.origin; gate = option_map gate_entry given.gate }
+abbrev pub settings_entry : HttpSettings → HttpSettingsEntry
+settings_entry settings = record { origin = given_by settings.origin; gate = option_map gate_entry settings.gate }
 
 -- neither of them
-abbrev pub given_nothing : GivenEntry
+abbrev pub given_nothing : HttpSettingsEntry
 given_nothing = record { origin = None; gate = None }
 
 -- ---- whose a target is
@@ -62,14 +62,14 @@ clerk_under target =
     if starts_with nat_eq target (codes "/clerks/") then number_before (prefix_len is_ascii_digit (drop 8 target)) (drop 8 target) else None
 
 -- the clerk of what may be read, if it is a clerk's
-abbrev pub reader_of : Reading → Option ℕ
+abbrev pub reader_of : Resource → Option ℕ
 reader_of (what.Work clerk) = Some clerk
 reader_of (what.Candidates clerk batch) = Some clerk
 reader_of (what.Sheet ward) = None
 reader_of (what.Declaration ward) = None
 
 -- the candidates of a batch are served at a gate alone
-abbrev pub reading_needs_gate : Reading → Bool
+abbrev pub reading_needs_gate : Resource → Bool
 reading_needs_gate (what.Work clerk) = false
 reading_needs_gate (what.Candidates clerk batch) = true
 reading_needs_gate (what.Sheet ward) = false
@@ -80,7 +80,7 @@ abbrev pub needs_gate : Target → Bool
 needs_gate (target.Keying clerk batch) = false
 needs_gate (target.Page clerk) = true
 needs_gate (target.Leave clerk) = true
-needs_gate (target.Reading reading) = reading_needs_gate reading
+needs_gate (target.Resource reading) = reading_needs_gate reading
 
 -- what is served at a gate, or where there is none
 abbrev pub served_at : Option GateEntry → Option Target → Option Target
@@ -91,7 +91,7 @@ served_at (Some gate) (Some there) = Some there
 -- ---- who is let in
 
 -- who isn't let in under a clerk's number, by the values of `Authorization`: one is let in, who sends it once, and whose it is
-abbrev pub kept_out_by : List Holder → ℕ → List (List ℕ) → Option Denial
+abbrev pub kept_out_by : List Holder → ℕ → List (List ℕ) → Option RequestError
 kept_out_by holders clerk [] = Some (Unauthorized clerk)
 kept_out_by holders clerk (value ∷ []) = if is_of holders clerk value then None else Some (WrongCode clerk)
 kept_out_by holders clerk (value ∷ other ∷ more) = Some (WrongCode clerk)
@@ -101,7 +101,7 @@ abbrev pub sent_codes : List NamedValue → List (List ℕ)
 sent_codes fields = values_of (codes "authorization") fields
 
 -- who isn't let in, by the clerk under whose number a target stands, if under any
-abbrev pub kept_out : Option GateEntry → Option ℕ → List NamedValue → Option Denial
+abbrev pub kept_out : Option GateEntry → Option ℕ → List NamedValue → Option RequestError
 kept_out None clerk fields = None
 kept_out (Some gate) None fields = None
 kept_out (Some gate) (Some clerk) fields = kept_out_by gate.holders clerk (sent_codes fields)
@@ -109,30 +109,30 @@ kept_out (Some gate) (Some clerk) fields = kept_out_by gate.holders clerk (sent_
 -- ---- who knocks
 
 -- under which clerk's number, and whether with a wrong code
-pub record KnockEntry : Type 0 where
+pub record AuthenticationEntry : Type 0 where
   pub clerk : ℕ
   pub is_wrong : Bool
 
-abbrev pub knock_entry : Knock → KnockEntry
-knock_entry knock = record { clerk = knock.clerk; is_wrong = knock.is_wrong }
+abbrev pub authentication_entry : Authentication → AuthenticationEntry
+authentication_entry authentication = record { clerk = authentication.clerk; is_wrong = authentication.is_wrong }
 
 -- a code was sent, and it is wrong
-abbrev pub is_wrong_code : Option Denial → Bool
+abbrev pub is_wrong_code : Option RequestError → Bool
 is_wrong_code None = false
 is_wrong_code (Some (WrongCode clerk)) = true
 is_wrong_code (Some other) = false
 
 -- the knock of a request under a clerk's number, where codes are asked for
-abbrev pub knock_by : Option GateEntry → Option ℕ → List NamedValue → Option KnockEntry
-knock_by None clerk fields = None
-knock_by (Some gate) None fields = None
-knock_by (Some gate) (Some clerk) fields = Some (record { clerk = clerk; is_wrong = is_wrong_code (kept_out_by gate.holders clerk (sent_codes fields)) })
+abbrev pub authentication_by : Option GateEntry → Option ℕ → List NamedValue → Option AuthenticationEntry
+authentication_by None clerk fields = None
+authentication_by (Some gate) None fields = None
+authentication_by (Some gate) (Some clerk) fields = Some (record { clerk = clerk; is_wrong = is_wrong_code (kept_out_by gate.holders clerk (sent_codes fields)) })
 
 -- the same of a request with these header fields and this target; a foreign one doesn't knock
-abbrev pub knock_at : GivenEntry → List NamedValue → List ℕ → Option KnockEntry
-knock_at given fields target = if is_foreign given.origin fields then None else knock_by given.gate (clerk_under target) fields
+abbrev pub authentication_at : HttpSettingsEntry → List NamedValue → List ℕ → Option AuthenticationEntry
+authentication_at settings fields target = if is_foreign settings.origin fields then None else authentication_by settings.gate (clerk_under target) fields
 
 -- how the bytes knock that a client sends: as their head does; without a head they don't
-pub record IsKnock (given : GivenEntry) (bytes : List ℕ) (found : Option KnockEntry) : Type 0 where
-  pub headed : (head : RequestHead) (behind : List ℕ) → BeginsWith bytes head behind → found ≡ knock_at given (map name_and_value head.fields) head.target
+pub record IsAuthentication (settings : HttpSettingsEntry) (bytes : List ℕ) (found : Option AuthenticationEntry) : Type 0 where
+  pub headed : (head : RequestHead) (behind : List ℕ) → BeginsWith bytes head behind → found ≡ authentication_at settings (map name_and_value head.fields) head.target
   pub headless : HasNoHead bytes → found ≡ None

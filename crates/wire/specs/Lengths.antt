@@ -5,8 +5,8 @@ use Rattle.std.specs.Char.{is_ascii_digit}
 use Rattle.std.specs.List.{list_all}
 use Rattle.std.specs.Str.{str_eq_ignore_ascii_case}
 use Rattle.std.specs.Str.Parse.{digits_value}
-use Rattle.wire.specs.declared.denial.Denial.{Denial}
-use Rattle.wire.specs.declared.denial.Denial.TheVariants.{BadRequest, TooLarge}
+use Rattle.wire.specs.declared.request_error.RequestError.{RequestError}
+use Rattle.wire.specs.declared.request_error.RequestError.TheVariants.{BadRequest, TooLarge}
 
 -- the most bytes of a body
 abbrev pub most_body_bytes : ℕ
@@ -30,18 +30,18 @@ abbrev pub are_digits : List ℕ → Bool
 are_digits text = nat_lt 0 (length text) && list_all is_ascii_digit text
 
 -- the length that a text writes, up to the greatest
-abbrev pub length_in : List ℕ → Result ℕ Denial
+abbrev pub length_in : List ℕ → Result ℕ RequestError
 length_in text =
     if not (are_digits text) then Err BadRequest else (
     if nat_le (digits_value 10 text) most_body_bytes then Ok (digits_value 10 text) else Err TooLarge)
 
 -- the length that the values of Content-Length give: without a value it is 0, and two values give none
-abbrev pub told_length : List (List ℕ) → Result ℕ Denial
+abbrev pub told_length : List (List ℕ) → Result ℕ RequestError
 told_length [] = Ok 0
 told_length (text ∷ []) = length_in text
 told_length (text ∷ other ∷ others) = Err BadRequest
 
 -- the length of the body, which no transfer coding may wrap
-abbrev pub body_length : List NamedValue → Result ℕ Denial
+abbrev pub body_length : List NamedValue → Result ℕ RequestError
 body_length fields =
     if nat_lt 0 (length (values_of (codes "transfer-encoding") fields)) then Err BadRequest else told_length (values_of (codes "content-length") fields)

@@ -1,11 +1,11 @@
 -- The bytes of an answer over HTTP.
 use Rattle.std.specs.Prelude.{◌∷◌, List, [], ◌++◌, Option, Some, None, codes, decimal, length, unwrap_or, ℕ}
 use Rattle.http.specs.StatusCode.{reason_phrase}
-use Rattle.wire.specs.Asking.{ShowEntry, has_left, page, verb_text}
+use Rattle.wire.specs.Requests.{ShowEntry, has_left, page, verb_text}
 use Rattle.wire.specs.Replies.{fault_body, refusal_body, reply_body}
-use Rattle.wire.specs.declared.denial.Denial.{Denial}
-use Rattle.wire.specs.declared.denial.Denial.TheVariants.{BadRequest, Forbidden, MethodNotAllowed, NotFound, TooLarge, Unauthorized, WrongCode}
-use Rattle.wire.specs.declared.denial.Verb.{Verb}
+use Rattle.wire.specs.declared.request_error.RequestError.{RequestError}
+use Rattle.wire.specs.declared.request_error.RequestError.TheVariants.{BadRequest, Forbidden, MethodNotAllowed, NotFound, TooLarge, Unauthorized, WrongCode}
+use Rattle.wire.specs.declared.request_error.Verb.{Verb}
 use Rattle.wire.specs.declared.response.Content.{Content}
 use Rattle.wire.specs.declared.response.Content.TheVariants.{Html, Json, Text}
 
@@ -96,7 +96,7 @@ abbrev pub unauthorized_response : ℕ → ResponseEntry
 unauthorized_response clerk = record { status = 401; more = asks_code clerk; content = Json; body = codes "{\"error\":\"unauthorized\"}" }
 
 -- the clerk whose code is asked for by a denial, if one's is
-abbrev pub clerk_kept_out : Denial → Option ℕ
+abbrev pub clerk_kept_out : RequestError → Option ℕ
 clerk_kept_out (Unauthorized clerk) = Some clerk
 clerk_kept_out (WrongCode clerk) = Some clerk
 clerk_kept_out other = None
@@ -111,7 +111,7 @@ shown_response (page its) = record { status = 200; more = guards its.policy; con
 shown_response has_left = record { status = 200; more = forgets; content = Json; body = codes "{\"left\":true}" }
 
 -- why a request is denied
-abbrev pub denied_response : Denial → ResponseEntry
+abbrev pub denied_response : RequestError → ResponseEntry
 denied_response BadRequest = json_response 400 (codes "{\"error\":\"bad request\"}")
 denied_response Forbidden = json_response 403 (codes "{\"error\":\"forbidden\"}")
 denied_response NotFound = json_response 404 (codes "{\"error\":\"not found\"}")

@@ -8,16 +8,16 @@ ghost use Rattle.register.specs.Offices.{OfficeState};
 ghost use Rattle.store.specs.Offices.{IsAt};
 ghost use Rattle.tables.specs.Faults.{fault_number};
 ghost use Rattle.office.specs.Answers.{told};
-ghost use Rattle.wire.specs.Asking.{asked_entry, reading};
+ghost use Rattle.wire.specs.Requests.{http_request_entry, reading};
 ghost use Rattle.wire.specs.Responses.{fault_response, reply_response, text_response};
 ghost use Rattle.wire.specs.Serving.{IsReadTold, Readies, closed_response, paper_response, refused_for, told_response, work_response};
 ghost use Rattle.wire.specs.Told.{IsTold};
 
-use crate::asked::{Asked, Keying};
 use crate::bodies::{fault_body, refusal_body, reply_body};
 use crate::candidates::paper_body;
+use crate::request::{HttpRequest, Keying};
 use crate::response::{Content, Response};
-use crate::target::Reading;
+use crate::target::Resource;
 use crate::work::work_body;
 use http::StatusCode;
 use office::{Answer, Office, Stop};
@@ -68,7 +68,7 @@ fn answered(alloc: Global, answer: &Answer) -> Response
 /// Hands a clerk's keying on to the office, and answers it.
 fn answer_keying<S: Alter>(alloc: Global, office: &mut Office<S>, keying: Keying) -> Response
     ensures answers { HasCleanDisk (state S.Store office.new.held) → office.old.closed ≡ false → (s : OfficeState) → IsAt s (state S.Store office.old.held)
-        → Readies s (asked_entry (Asked.Keying keying)) result office.new.closed (state S.Store office.new.held) }
+        → Readies s (http_request_entry (HttpRequest.Keying keying)) result office.new.closed (state S.Store office.new.held) }
     ensures closed { office.old.closed ≡ true → office.new ≡ office.old }
     ensures closed_told { office.old.closed ≡ true → IsTold (fault_response (fault_number Fault.Closed)) result }
     ensures clean { HasCleanDisk (state S.Store office.new.held) → HasCleanDisk (state S.Store office.old.held) }
@@ -131,7 +131,7 @@ fn answer_paper(alloc: Global, batch: u32, told: Result<BallotPaper, Stop>) -> R
 }
 
 /// Reads from the office, and answers that.
-fn answer_reading<S: Alter>(alloc: Global, office: &mut Office<S>, what: Reading) -> Response
+fn answer_reading<S: Alter>(alloc: Global, office: &mut Office<S>, what: Resource) -> Response
     ensures answers { HasCleanDisk (state S.Store office.new.held) → office.old.closed ≡ false → (s : OfficeState) → IsAt s (state S.Store office.old.held)
         → Readies s (reading what) result office.new.closed (state S.Store office.new.held) }
     ensures closed { office.old.closed ≡ true → office.new ≡ office.old }
@@ -139,27 +139,31 @@ fn answer_reading<S: Alter>(alloc: Global, office: &mut Office<S>, what: Reading
     ensures clean { HasCleanDisk (state S.Store office.new.held) → HasCleanDisk (state S.Store office.old.held) }
 {
     match what {
-        Reading::Work { clerk } => answer_work(alloc, clerk, office.work(clerk)),
-        Reading::Candidates { clerk, batch } => {
+        Resource::Work { clerk } => answer_work(alloc, clerk, office.work(clerk)),
+        Resource::Candidates { clerk, batch } => {
             answer_paper(alloc, batch, office.paper(clerk, batch))
         }
-        Reading::Sheet { ward } => answer_text(alloc, office.sheet(ward)),
-        Reading::Declaration { ward } => answer_text(alloc, office.result(ward)),
+        Resource::Sheet { ward } => answer_text(alloc, office.sheet(ward)),
+        Resource::Declaration { ward } => answer_text(alloc, office.result(ward)),
     }
 }
 
 /// Asks the office what a request asks, and answers that.
-pub(crate) fn answer<S: Alter>(alloc: Global, office: &mut Office<S>, asked: Asked<'_>) -> Response
+pub(crate) fn answer<S: Alter>(
+    alloc: Global,
+    office: &mut Office<S>,
+    asked: HttpRequest<'_>,
+) -> Response
     ensures answers { HasCleanDisk (state S.Store office.new.held) → office.old.closed ≡ false → (s : OfficeState) → IsAt s (state S.Store office.old.held)
-        → Readies s (asked_entry asked.entry) result office.new.closed (state S.Store office.new.held) }
+        → Readies s (http_request_entry asked.entry) result office.new.closed (state S.Store office.new.held) }
     ensures closed { office.old.closed ≡ true → office.new ≡ office.old }
-    ensures closed_told { office.old.closed ≡ true → IsTold (closed_response (asked_entry asked.entry)) result }
+    ensures closed_told { office.old.closed ≡ true → IsTold (closed_response (http_request_entry asked.entry)) result }
     ensures clean { HasCleanDisk (state S.Store office.new.held) → HasCleanDisk (state S.Store office.old.held) }
 {
     match asked {
-        Asked::Denied(why) => Response::denied(alloc, why),
-        Asked::Shown(_, show) => Response::shown(alloc, show),
-        Asked::Keying(keying) => answer_keying(alloc, office, keying),
-        Asked::Reading(what) => answer_reading(alloc, office, what),
+        HttpRequest::Denied(why) => Response::denied(alloc, why),
+        HttpRequest::Shown(_, show) => Response::shown(alloc, show),
+        HttpRequest::Keying(keying) => answer_keying(alloc, office, keying),
+        HttpRequest::Resource(what) => answer_reading(alloc, office, what),
     }
 }

@@ -1,13 +1,14 @@
 //! The body of a request.
 
-ghost use Rattle.std.specs.Prelude.{◌≡◌, ◌+◌, ◌-◌, ◌^◌, ◌<◌, ◌≤◌, ◌++◌, ◌⊎◌, ◌&&◌, true, false, Some, None, IfErr, IfNone, IfOk, IfSome, OnErr, OnOk, List, ℕ, length, map, take, option_map, string_bytes, vec_len};
+ghost use Rattle.std.specs.Prelude.{◌≡◌, ◌+◌, ◌-◌, ◌^◌, ◌<◌, ◌≤◌, ◌++◌, ◌⊎◌, ◌&&◌, true, false, Some, None};
+ghost use Rattle.std.specs.Prelude.{IfErr, IfNone, IfOk, IfSome, OnErr, OnOk, List, ℕ, length, map, take, option_map, string_bytes, vec_len};
 ghost use Rattle.std.specs.Io.KnownBytes.{Consumes};
 ghost use Rattle.serde_json.specs.View.{view, items_view, members_view};
 ghost use Rattle.serde_json.specs.Find.{as_object, as_str};
-ghost use Rattle.wire.specs.Asking.{FailsAfter, HasRead, IsUnread};
+ghost use Rattle.wire.specs.Requests.{FailsAfter, HasRead, IsUnread};
 ghost use Rattle.wire.specs.Bodies.{body_entry, body_in, json_in, key_members, keying_of, papers_in, round_in, said_by, texts_in};
 
-use crate::unread::Unread;
+use crate::read_failure::ReadFailure;
 use serde_json::{Category, Map, Value};
 use std::alloc::{AllocError, Global};
 use votes::{Broken, Source};
@@ -61,7 +62,7 @@ pub(crate) fn read_body<R: Source>(
     reader: &mut R,
     behind: &[u8],
     size: usize,
-) -> Result<Option<Vec<u8>>, Unread>
+) -> Result<Option<Vec<u8>>, ReadFailure>
     requires { R.failed reader.old < 2 ^ 64 - 1 }
     ensures body { IfSome (R.held reader.old) (λ left. IfOk result (λ found. option_map (λ body. body.items) found ≡ body_in size (behind.now ++ left))) }
     ensures ok { OnOk result (R.failed reader.new ≡ R.failed reader.old) }

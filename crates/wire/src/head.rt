@@ -3,7 +3,7 @@
 ghost use Rattle.std.specs.Prelude.{◌≡◌, ◌+◌, ◌-◌, ◌^◌, ◌<◌, ◌≤◌, IfErr, IfNone, IfOk, IfSome, OnErr, OnOk, length, take};
 ghost use Rattle.std.specs.Io.KnownBytes.{Consumes};
 ghost use Rattle.httparse.specs.Spans.{IsRequestOf, IsRequestWithin};
-ghost use Rattle.wire.specs.Asking.{HasRead};
+ghost use Rattle.wire.specs.Requests.{HasRead};
 ghost use Rattle.wire.specs.Heads.{HasNoHead, IsHeadWanting};
 
 use httparse::Status;

@@ -5,12 +5,12 @@ ghost use Rattle.sqlite.specs.State.{HasCleanDisk};
 ghost use Rattle.sqlite.specs.Held.{state};
 ghost use Rattle.register.specs.Offices.{OfficeState};
 ghost use Rattle.store.specs.Offices.{IsAt};
-ghost use Rattle.wire.specs.Asking.{HasRead, IsWanting};
+ghost use Rattle.wire.specs.Requests.{HasRead, IsWanting};
 ghost use Rattle.wire.specs.Gates.{given_nothing};
 ghost use Rattle.wire.specs.Serving.{OnAnswered, OnReadFailed, OnWriteFailed, Serves, ServesClosed};
 
-use crate::given::Given;
 use crate::serving::Served;
+use crate::settings::HttpSettings;
 use office::Office;
 use sqlite::Alter;
 use std::alloc::Global;
@@ -36,9 +36,9 @@ pub fn serve_one<R: Source, W: Sink, S: Alter>(
     ensures closed_served { office.old.closed ≡ true → ServesClosed given_nothing (R.held reader.old) (W.taken writer.old) (W.taken writer.new) result }
     ensures clean { HasCleanDisk (state S.Store office.new.held) → HasCleanDisk (state S.Store office.old.held) }
 {
-    let given = Given {
+    let settings = HttpSettings {
         origin: None,
         gate: None,
     };
-    crate::serving::serve_one(alloc, given, reader, writer, office)
+    crate::serving::serve_one(alloc, settings, reader, writer, office)
 }

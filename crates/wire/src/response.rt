@@ -2,12 +2,13 @@
 
 ghost use Rattle.std.specs.Prelude.{◌≡◌, IfOk, None, OnErr, length, string_bytes};
 ghost use Rattle.wire.specs.Told.{IsTold, IsWritten, told_bytes};
-ghost use Rattle.wire.specs.Asking.{has_left, show_entry};
+ghost use Rattle.wire.specs.Requests.{has_left, show_entry};
 ghost use Rattle.wire.specs.Gates.{page_entry};
-ghost use Rattle.wire.specs.Responses.{clerk_kept_out, code_line, denied_response, fault_response, guard_lines, lines_and_body, media_type, nothing, phrase, response_bytes, shown_response, unauthorized_response, waits_response};
+ghost use Rattle.wire.specs.Responses.{clerk_kept_out, code_line, denied_response, fault_response, guard_lines, lines_and_body};
+ghost use Rattle.wire.specs.Responses.{media_type, nothing, phrase, response_bytes, shown_response, unauthorized_response, waits_response};
 
-use crate::denial::{Denial, Verb};
-use crate::given::{Page, Show};
+use crate::request_error::{RequestError, Verb};
+use crate::settings::{Page, Show};
 use http::StatusCode;
 use std::alloc::{AllocError, Global};
 
@@ -85,7 +86,7 @@ const NO_MEMORY: &str =
 
 /// The answer to a request by another method than the one that is served.
 fn only_text(allowed: Verb) -> &'static str
-    ensures { result.now ≡ response_bytes (denied_response (Denial.MethodNotAllowed allowed)) }
+    ensures { result.now ≡ response_bytes (denied_response (RequestError.MethodNotAllowed allowed)) }
 {
     match allowed {
         Verb::Get => ONLY_GET,
@@ -94,43 +95,43 @@ fn only_text(allowed: Verb) -> &'static str
 }
 
 /// The clerk whose code is asked for by a denial, if one's is.
-fn clerk_kept_out(why: Denial) -> Option<u32>
+fn clerk_kept_out(why: RequestError) -> Option<u32>
     ensures { result ≡ clerk_kept_out why }
 {
     match why {
-        Denial::Unauthorized { clerk } => Some(clerk),
-        Denial::WrongCode { clerk } => Some(clerk),
+        RequestError::Unauthorized { clerk } => Some(clerk),
+        RequestError::WrongCode { clerk } => Some(clerk),
         _ => None,
     }
 }
 
 /// The answer to a request that is denied, which stands fixed where no clerk's code is asked for.
-pub(crate) fn denied_text(why: Denial) -> &'static str
+pub(crate) fn denied_text(why: RequestError) -> &'static str
     requires { clerk_kept_out why ≡ None }
     ensures { result.now ≡ response_bytes (denied_response why) }
 {
     match why {
-        Denial::BadRequest => BAD_REQUEST,
-        Denial::Forbidden => FORBIDDEN,
-        Denial::NotFound => NOT_FOUND,
-        Denial::MethodNotAllowed { allowed } => only_text(allowed),
-        Denial::TooLarge => TOO_LARGE,
-        Denial::Unauthorized { .. } => "",
-        Denial::WrongCode { .. } => "",
+        RequestError::BadRequest => BAD_REQUEST,
+        RequestError::Forbidden => FORBIDDEN,
+        RequestError::NotFound => NOT_FOUND,
+        RequestError::MethodNotAllowed { allowed } => only_text(allowed),
+        RequestError::TooLarge => TOO_LARGE,
+        RequestError::Unauthorized { .. } => "",
+        RequestError::WrongCode { .. } => "",
     }
 }
 
 /// The status of an answer to a request that is denied.
-fn denied_status(why: Denial) -> u16
+fn denied_status(why: RequestError) -> u16
     ensures { result ≡ (denied_response why).status }
 {
     match why {
-        Denial::BadRequest => 400,
-        Denial::Unauthorized { .. } | Denial::WrongCode { .. } => 401,
-        Denial::Forbidden => 403,
-        Denial::NotFound => 404,
-        Denial::MethodNotAllowed { .. } => 405,
-        Denial::TooLarge => 413,
+        RequestError::BadRequest => 400,
+        RequestError::Unauthorized { .. } | RequestError::WrongCode { .. } => 401,
+        RequestError::Forbidden => 403,
+        RequestError::NotFound => 404,
+        RequestError::MethodNotAllowed { .. } => 405,
+        RequestError::TooLarge => 413,
     }
 }
 
@@ -272,7 +273,7 @@ impl Response {
     }
 
     /// The answer to a request that is denied; or the one that says that memory is wanting, where a clerk's code is asked for.
-    pub(crate) fn denied(alloc: Global, why: Denial) -> Response
+    pub(crate) fn denied(alloc: Global, why: RequestError) -> Response
         ensures { IsTold (denied_response why) result }
     {
         match clerk_kept_out(why) {

@@ -5,17 +5,17 @@ ghost use Rattle.sqlite.specs.State.{HasCleanDisk};
 ghost use Rattle.sqlite.specs.Held.{state};
 ghost use Rattle.register.specs.Offices.{OfficeState};
 ghost use Rattle.store.specs.Offices.{IsAt};
-ghost use Rattle.wire.specs.Asking.{HasRead, IsWanting};
-ghost use Rattle.wire.specs.Gates.{given_entry};
+ghost use Rattle.wire.specs.Requests.{HasRead, IsWanting};
+ghost use Rattle.wire.specs.Gates.{settings_entry};
 ghost use Rattle.wire.specs.Responses.{fault_response, waits_response};
 ghost use Rattle.wire.specs.Told.{IsWritten};
 ghost use Rattle.wire.specs.Serving.{IsPut, IsServed, OnAnswered, OnReadFailed, OnWriteFailed, ReadiesClosed, ReadiesFor, Serves, ServesClosed};
 
 use crate::answering::answer;
-use crate::asked::read_asked;
-use crate::given::Given;
+use crate::read_failure::ReadFailure;
+use crate::request::read_request;
 use crate::response::Response;
-use crate::unread::Unread;
+use crate::settings::HttpSettings;
 use office::Office;
 use sqlite::Alter;
 use std::alloc::Global;
@@ -35,25 +35,25 @@ pub enum Served {
 /// The answer to what a client asks, which the office is asked.
 fn response_to<R: Source, S: Alter>(
     alloc: Global,
-    given: Given<'_>,
+    settings: HttpSettings<'_>,
     reader: &mut R,
     office: &mut Office<S>,
 ) -> Result<Response, Broken>
     requires { R.failed reader.old < 2 ^ 64 - 1 }
     ensures answers { HasCleanDisk (state S.Store office.new.held) → office.old.closed ≡ false → (s : OfficeState) → IsAt s (state S.Store office.old.held)
-        → IfOk result (λ response. ReadiesFor (given_entry given.entry) (R.held reader.old) s response office.new.closed (state S.Store office.new.held)) }
+        → IfOk result (λ response. ReadiesFor (settings_entry settings.entry) (R.held reader.old) s response office.new.closed (state S.Store office.new.held)) }
     ensures read { OnOk result (R.failed reader.new ≡ R.failed reader.old) }
     ensures failed { OnErr result (R.failed reader.new ≡ R.failed reader.old + 1) }
-    ensures wanting { OnErr result (HasRead (R.held reader.old) (R.held reader.new) (IsWanting (given_entry given.entry))) }
+    ensures wanting { OnErr result (HasRead (R.held reader.old) (R.held reader.new) (IsWanting (settings_entry settings.entry))) }
     ensures unasked { OnErr result (office.new ≡ office.old) }
     ensures closed { office.old.closed ≡ true → office.new ≡ office.old }
-    ensures closed_told { office.old.closed ≡ true → IfOk result (λ response. ReadiesClosed (given_entry given.entry) (R.held reader.old) response) }
+    ensures closed_told { office.old.closed ≡ true → IfOk result (λ response. ReadiesClosed (settings_entry settings.entry) (R.held reader.old) response) }
     ensures clean { HasCleanDisk (state S.Store office.new.held) → HasCleanDisk (state S.Store office.old.held) }
 {
-    match read_asked(alloc, given, reader) {
+    match read_request(alloc, settings, reader) {
         Ok(asked) => Ok(answer(alloc, office, asked)),
-        Err(Unread::Memory) => Ok(Response::no_memory()),
-        Err(Unread::Broken) => Err(Broken),
+        Err(ReadFailure::Memory) => Ok(Response::no_memory()),
+        Err(ReadFailure::Broken) => Err(Broken),
     }
 }
 
@@ -73,7 +73,7 @@ fn put<W: Sink>(writer: &mut W, response: &Response) -> Served
 /// Answers who must wait that he must: wrong codes came under the number for which he asks.
 ///
 /// `WriteFailed` comes only from the writer, which counts one failure more: a beginning of the answer was written.
-pub fn tell_to_wait<W: Sink>(writer: &mut W) -> Served
+pub fn write_wait_response<W: Sink>(writer: &mut W) -> Served
     requires { W.failed writer.old < 2 ^ 64 - 1 }
     ensures told { IsServed (IsWritten waits_response) (W.taken writer.old) (W.taken writer.new) result }
     ensures answered { OnAnswered result (W.failed writer.new ≡ W.failed writer.old) }
@@ -85,7 +85,7 @@ pub fn tell_to_wait<W: Sink>(writer: &mut W) -> Served
 /// Writes that the file of the office is gone or replaced (113).
 ///
 /// `WriteFailed` comes only from the writer, which counts one failure more: a beginning of the response was written.
-pub fn tell_gone<W: Sink>(writer: &mut W) -> Served
+pub fn write_gone_response<W: Sink>(writer: &mut W) -> Served
     requires { W.failed writer.old < 2 ^ 64 - 1 }
     ensures told { IsServed (IsWritten (fault_response 113)) (W.taken writer.old) (W.taken writer.new) result }
     ensures answered { OnAnswered result (W.failed writer.new ≡ W.failed writer.old) }
@@ -110,7 +110,7 @@ pub fn tell_gone<W: Sink>(writer: &mut W) -> Served
 /// page that is shown.
 pub fn serve_one<R: Source, W: Sink, S: Alter>(
     alloc: Global,
-    given: Given<'_>,
+    settings: HttpSettings<'_>,
     reader: &mut R,
     writer: &mut W,
     office: &mut Office<S>,
@@ -118,16 +118,16 @@ pub fn serve_one<R: Source, W: Sink, S: Alter>(
     requires reads { R.failed reader.old < 2 ^ 64 - 1 }
     requires writes { W.failed writer.old < 2 ^ 64 - 1 }
     ensures served { HasCleanDisk (state S.Store office.new.held) → office.old.closed ≡ false → (s : OfficeState) → IsAt s (state S.Store office.old.held)
-        → Serves (given_entry given.entry) (R.held reader.old) (W.taken writer.old) (W.taken writer.new) s result office.new.closed (state S.Store office.new.held) }
+        → Serves (settings_entry settings.entry) (R.held reader.old) (W.taken writer.old) (W.taken writer.new) s result office.new.closed (state S.Store office.new.held) }
     ensures read_failed { OnReadFailed result ((R.failed reader.new ≡ R.failed reader.old + 1) × (writer.new ≡ writer.old) × (office.new ≡ office.old)) }
-    ensures wanting { OnReadFailed result (HasRead (R.held reader.old) (R.held reader.new) (IsWanting (given_entry given.entry))) }
+    ensures wanting { OnReadFailed result (HasRead (R.held reader.old) (R.held reader.new) (IsWanting (settings_entry settings.entry))) }
     ensures answered { OnAnswered result ((R.failed reader.new ≡ R.failed reader.old) × (W.failed writer.new ≡ W.failed writer.old)) }
     ensures write_failed { OnWriteFailed result ((R.failed reader.new ≡ R.failed reader.old) × (W.failed writer.new ≡ W.failed writer.old + 1)) }
     ensures closed { office.old.closed ≡ true → office.new ≡ office.old }
-    ensures closed_served { office.old.closed ≡ true → ServesClosed (given_entry given.entry) (R.held reader.old) (W.taken writer.old) (W.taken writer.new) result }
+    ensures closed_served { office.old.closed ≡ true → ServesClosed (settings_entry settings.entry) (R.held reader.old) (W.taken writer.old) (W.taken writer.new) result }
     ensures clean { HasCleanDisk (state S.Store office.new.held) → HasCleanDisk (state S.Store office.old.held) }
 {
-    match response_to(alloc, given, reader, office) {
+    match response_to(alloc, settings, reader, office) {
         Ok(response) => put(writer, &response),
         Err(Broken) => Served::ReadFailed,
     }

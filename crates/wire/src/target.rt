@@ -11,7 +11,7 @@ use std::str;
 
 /// What may be read.
 #[derive(Clone, Copy, Debug, PartialEq, Eq)]
-pub enum Reading {
+pub enum Resource {
     /// The batches that a clerk is to key.
     Work { clerk: u32 },
     /// The candidates on the papers of a batch that a clerk keys.
@@ -32,12 +32,12 @@ pub(crate) enum Target {
     /// That a clerk leaves his place.
     Leave { clerk: u32 },
     /// What may be read.
-    Reading(Reading),
+    Resource(Resource),
 }
 
 /// Where a route leads.
 #[derive(Clone, Copy)]
-enum Place {
+enum RouteTarget {
     Keying,
     Candidates,
     Page,
@@ -48,17 +48,20 @@ enum Place {
 }
 
 /// The seven routes.
-fn office_router(alloc: Global) -> Result<Router<Place>, InsertError>
+fn office_router(alloc: Global) -> Result<Router<RouteTarget>, InsertError>
     ensures { IfOk result (λ router. router ≡ office_routes) }
 {
     let mut router = Router::new(alloc);
-    router.insert("/clerks/{c}/batches/{b}/keying", Place::Keying)?;
-    router.insert("/clerks/{c}/work", Place::Work)?;
-    router.insert("/clerks/{c}/batches/{b}/candidates", Place::Candidates)?;
-    router.insert("/clerks/{c}/", Place::Page)?;
-    router.insert("/clerks/{c}/leave", Place::Leave)?;
-    router.insert("/wards/{w}/sheet", Place::Sheet)?;
-    router.insert("/wards/{w}/result", Place::Declaration)?;
+    router.insert("/clerks/{c}/batches/{b}/keying", RouteTarget::Keying)?;
+    router.insert("/clerks/{c}/work", RouteTarget::Work)?;
+    router.insert(
+        "/clerks/{c}/batches/{b}/candidates",
+        RouteTarget::Candidates,
+    )?;
+    router.insert("/clerks/{c}/", RouteTarget::Page)?;
+    router.insert("/clerks/{c}/leave", RouteTarget::Leave)?;
+    router.insert("/wards/{w}/sheet", RouteTarget::Sheet)?;
+    router.insert("/wards/{w}/result", RouteTarget::Declaration)?;
     Ok(router)
 }
 
@@ -71,40 +74,40 @@ fn parameter(params: &Params<'_, '_>, name: &str) -> Option<u32>
 }
 
 /// What a target names, by where its route leads and by what the parameters took.
-fn named_at(place: Place, params: &Params<'_, '_>) -> Option<Target>
+fn named_at(place: RouteTarget, params: &Params<'_, '_>) -> Option<Target>
     requires { AllText (taken_by params.now) }
     ensures { result ≡ named_at place (taken_by params.now) }
 {
     match place {
-        Place::Keying => {
+        RouteTarget::Keying => {
             let clerk = parameter(params, "c")?;
             let batch = parameter(params, "b")?;
             Some(Target::Keying { clerk, batch })
         }
-        Place::Candidates => {
+        RouteTarget::Candidates => {
             let clerk = parameter(params, "c")?;
             let batch = parameter(params, "b")?;
-            Some(Target::Reading(Reading::Candidates { clerk, batch }))
+            Some(Target::Resource(Resource::Candidates { clerk, batch }))
         }
-        Place::Page => {
+        RouteTarget::Page => {
             let clerk = parameter(params, "c")?;
             Some(Target::Page { clerk })
         }
-        Place::Leave => {
+        RouteTarget::Leave => {
             let clerk = parameter(params, "c")?;
             Some(Target::Leave { clerk })
         }
-        Place::Work => {
+        RouteTarget::Work => {
             let clerk = parameter(params, "c")?;
-            Some(Target::Reading(Reading::Work { clerk }))
+            Some(Target::Resource(Resource::Work { clerk }))
         }
-        Place::Sheet => {
+        RouteTarget::Sheet => {
             let ward = parameter(params, "w")?;
-            Some(Target::Reading(Reading::Sheet { ward }))
+            Some(Target::Resource(Resource::Sheet { ward }))
         }
-        Place::Declaration => {
+        RouteTarget::Declaration => {
             let ward = parameter(params, "w")?;
-            Some(Target::Reading(Reading::Declaration { ward }))
+            Some(Target::Resource(Resource::Declaration { ward }))
         }
     }
 }

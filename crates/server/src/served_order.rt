@@ -1,0 +1,84 @@
+//! What an order asks that is handed over.
+
+ghost use Rattle.std.specs.Prelude.{◌≡◌, ◌⊎◌, ◌↔◌, IfErr, IfOk, map, true};
+ghost use Rattle.std.specs.List.{list_all};
+ghost use Rattle.std.specs.Str.{is_utf8};
+ghost use Rattle.order_protocol.specs.Messages.{OrderMessageEntry, Fits, order_message_entry, encoding_of};
+ghost use Rattle.server.specs.ServedOrders.{AsksSo, IsForFile};
+
+use crate::server_settings::FileNumbers;
+use desk::version::VERSION;
+use desk::{Failure, Job, Order, Task, WordsFault, order};
+use order_protocol::{DecodeError, MessagePart, OrderMessage, decode_message};
+use std::alloc::Global;
+use store::Fault;
+
+/// What an order asks that is handed over.
+#[derive(Drop)]
+pub enum ServedOrder<'a> {
+    /// That the office does this.
+    Do(Job<'a>),
+    /// A copy of the office at a path, where nothing is yet.
+    Copy(&'a str),
+    /// The journal of the office.
+    Journal,
+    /// What isn't followed, for this reason.
+    Refused(Failure),
+    /// Nothing: its words are no order.
+    Misread(WordsFault),
+}
+
+/// The order that a message spells; or why there is none: memory was wanting, or the bytes spell none.
+pub fn read_message<'b>(alloc: Global, message: &'b [u8]) -> Result<OrderMessage<'b>, Fault>
+    ensures ok { IfOk result (λ h. Fits (order_message_entry h) × (message.now ≡ encoding_of (order_message_entry h))) }
+    ensures err { IfErr result (λ fault. (fault ≡ Fault.Memory) ⊎ ((fault ≡ Fault.Store) × ((h : OrderMessageEntry) → Fits h → message.now ≡ encoding_of h → ⊥))) }
+{
+    match decode_message(alloc, message) {
+        Ok(handed) => Ok(handed),
+        Err(DecodeError::Memory) => Err(Fault::Memory),
+        Err(DecodeError::Fault(_)) => Err(Fault::Store),
+    }
+}
+
+/// The words of an order that is handed over; or why there are none: memory was wanting, or one isn't UTF-8.
+pub fn words_of<'b>(alloc: Global, words: &[MessagePart<'b>]) -> Result<Vec<&'b str>, Fault>
+    ensures ok { IfOk result (λ texts. map (λ text. text.now) texts.items ≡ map (λ p. p.name.now) words.now) }
+    ensures err { IfErr result (λ fault. (fault ≡ Fault.Memory) ⊎ ((fault ≡ Fault.Store) × (list_all is_utf8 (map (λ p. p.name.now) words.now) ≡ true → ⊥))) }
+{
+    let mut texts = Vec::new(alloc);
+    for word in words {
+        match str::from_utf8(word.name) {
+            Ok(text) => {
+                if texts.push(text).is_err() {
+                    return Err(Fault::Memory);
+                }
+            }
+            Err(_) => return Err(Fault::Store),
+        }
+    }
+    Ok(texts)
+}
+
+/// Whether an order was handed over by this version of the program, and over the file that is served.
+pub fn is_for_file(handed: &OrderMessage<'_>, file: FileNumbers) -> bool
+    ensures { (result ≡ true) ↔ IsForFile file (order_message_entry handed.now) }
+{
+    handed.version == VERSION.as_bytes()
+        && handed.device == file.device
+        && handed.inode == file.inode
+}
+
+/// What an order asks that was handed over for the file that is served. `init`, `migrate` and `serve` get the answer that the office is being served.
+pub fn served_order_by<'w>(alloc: Global, words: &'w [&'w str]) -> ServedOrder<'w>
+    ensures { (h : OrderMessageEntry) → map (λ p. p.name) h.words ≡ map (λ word. word.now) words.entry.now → AsksSo h result }
+{
+    match order(alloc, words) {
+        Ok(Order::Perform(Task::InOffice(job))) => ServedOrder::Do(job),
+        Ok(Order::Copy { path }) => ServedOrder::Copy(path),
+        Ok(Order::Journal) => ServedOrder::Journal,
+        Ok(
+            Order::Perform(Task::Init | Task::Migrate) | Order::Serve { .. } | Order::Codes { .. },
+        ) => { ServedOrder::Refused(Failure::BeingServed) }
+        Err(fault) => ServedOrder::Misread(fault),
+    }
+}

@@ -1,0 +1,10 @@
+//! What a request lacks that isn't whole yet.
+
+/// What a request lacks of which some bytes came.
+#[derive(Clone, Copy, PartialEq, Eq)]
+pub enum Completeness {
+    /// Nothing: what they ask, they ask whatever follows.
+    Nothing,
+    /// Bytes: fewer than so many in all are never enough.
+    Bytes(usize),
+}
