@@ -16,7 +16,7 @@ letters = codes "abcdefghjkmnprstuwxy2347"
 abbrev pub is_letter : ℕ → Bool
 is_letter byte = list_any (λ letter. letter == byte) letters
 
--- how many bytes draw a letter, each letter as many; any other byte draws none
+-- how many bytes draw a letter, equally many for each letter; any other byte draws none
 abbrev pub drawing_bytes : ℕ
 drawing_bytes = 240
 
@@ -32,7 +32,7 @@ letters_drawn bytes = filter_map letter_of bytes
 abbrev pub code_letters : ℕ
 code_letters = 12
 
--- a code of twelve letters: in fours, with a hyphen between
+-- a code of twelve letters: in groups of four, with hyphens between them
 abbrev pub is_made : List ℕ → Bool
 is_made code =
     (length code == 14)
@@ -50,7 +50,7 @@ numbers first (suc n) = first ∷ numbers (first + 1) n
 abbrev pub clerks_of : ClerkRange → List ℕ
 clerks_of clerks = numbers clerks.first (clerks.last + 1 - clerks.first)
 
--- who is first and who is last, where the first isn't behind the last
+-- the first and the last clerk, if the first isn't greater than the last
 pub record ClerksEntry : Type 0 where
   pub first : ℕ
   pub last : ℕ
@@ -88,7 +88,7 @@ is_file_for clerks (Ok entries) = are_from clerks.first (clerks.last + 1) entrie
 
 -- ---- its text
 
--- the line of a clerk: his number, a blank, and his code of these letters
+-- the line of a clerk: the clerk's number, a blank, and the code of these letters
 abbrev pub line_of : ℕ → List ℕ → List ℕ
 line_of clerk own =
     ((((((decimal clerk ++ codes " ") ++ take 4 own) ++ codes "-") ++ slice_range own 4 8) ++ codes "-") ++ drop 8 own) ++ codes "\n"

@@ -12,10 +12,10 @@ use std::alloc::{AllocError, Global};
 /// The letters of codes, none of which looks like another.
 pub(crate) const LETTERS: &[u8; 24] = b"abcdefghjkmnprstuwxy2347";
 
-/// How many bytes draw a letter, each letter as many. Any other byte draws none.
+/// How many bytes draw a letter, equally many for each letter. Any other byte draws none.
 const DRAWING_BYTES: u8 = 240;
 
-/// How many bytes are drawn at most, for each letter.
+/// The most bytes that are drawn for each letter.
 const MOST_BYTES: usize = 100;
 
 /// How many letters a code has.
@@ -94,7 +94,7 @@ fn push_letters(text: &mut String, letters: &[u8]) -> Result<(), AllocError>
     Ok(())
 }
 
-/// Appends the line of a clerk: his number, a blank, and his code of these letters.
+/// Appends the line of a clerk: the clerk's number, a blank, and the code of these letters.
 #[tactic(auto, using(crate::proofs::NumberLemmas::joined))]
 fn push_line(alloc: Global, text: &mut String, clerk: u32, letters: &[u8]) -> Result<(), AllocError>
     requires enough { length letters.now ≡ 12 }
@@ -129,8 +129,8 @@ fn lines_by(alloc: Global, clerks: ClerkRange, letters: &[u8]) -> Result<String,
     Ok(text)
 }
 
-/// Draws the codes of some clerks, and returns their lines. `NoRandom` comes from the source, and `BadRandom` where 100 bytes for
-/// each letter draw too few.
+/// Draws the codes of some clerks, and returns their lines. The error is `NoRandom` if the source fails, and `BadRandom` if 100
+/// bytes for each letter draw too few.
 pub(crate) fn draw_lines<D: Draws>(
     alloc: Global,
     draws: &mut D,

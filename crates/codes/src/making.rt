@@ -14,7 +14,7 @@ use crate::range::ClerkRange;
 use crate::reading::{CodeLine, entries_of, lines_of};
 use std::alloc::Global;
 
-/// How many files are drawn at most.
+/// The most files that are drawn.
 const MOST_FILES: u32 = 100;
 
 /// How many bytes a code has.
@@ -27,14 +27,14 @@ fn is_letter(byte: u8) -> bool
     LETTERS.iter().any(|letter| *letter == byte)
 }
 
-/// Returns whether bytes are such letters alone.
+/// Returns whether all bytes are such letters.
 fn are_letters(text: &[u8]) -> bool
     ensures { result ≡ list_all is_letter text.now }
 {
     text.iter().all(|byte| is_letter(*byte))
 }
 
-/// Returns whether a code has twelve letters, in fours with a hyphen between.
+/// Returns whether a code has twelve letters, in groups of four with hyphens between them.
 fn is_made(code: &[u8]) -> bool
     ensures { result ≡ is_made code.now }
 {
@@ -46,7 +46,7 @@ fn is_made(code: &[u8]) -> bool
         && are_letters(&code[10..])
 }
 
-/// Returns whether the codes of some lines are such codes alone.
+/// Returns whether the codes of some lines are all such codes.
 fn all_made(all: &[CodeLine<'_>]) -> bool
     ensures { result ≡ list_all (λ (e : CodeEntry). is_made e.code) (map code_entry all.now) }
 {
@@ -58,7 +58,7 @@ fn all_made(all: &[CodeLine<'_>]) -> bool
     true
 }
 
-/// Returns whether some lines are of just these clerks, in order.
+/// Returns whether some lines are of exactly these clerks, in order.
 fn are_of(all: &[CodeLine<'_>], clerks: ClerkRange) -> bool
     ensures { result ≡ are_from clerks.first (clerks.last + 1) (map code_entry all.now) }
 {
@@ -72,7 +72,7 @@ fn are_of(all: &[CodeLine<'_>], clerks: ClerkRange) -> bool
     next == u64::from(clerks.last) + 1
 }
 
-/// Returns whether a text is a file of new codes for just these clerks. The only error is that an allocation failed.
+/// Returns whether a text is a file of new codes for exactly these clerks. The only error is a failed allocation.
 fn is_made_for(alloc: Global, text: &[u8], clerks: ClerkRange) -> Result<bool, CodesError>
     ensures ok { IfOk result (λ is. is ≡ is_file_for clerks (codes_in text.now)) }
     ensures err { IfErr result (λ why. why ≡ Memory) }
@@ -85,11 +85,11 @@ fn is_made_for(alloc: Global, text: &[u8], clerks: ClerkRange) -> Result<bool, C
     }
 }
 
-/// Returns the text of a file of new codes for some clerks, a line each. Its letters are those that the last bytes draw. The text
-/// is read again: if a code stands in it twice, all are drawn anew.
+/// Returns the text of a file of new codes for some clerks, one line each. Its letters are those that the last bytes draw. The text
+/// is read back: if a code appears in it twice, all are drawn again.
 ///
-/// `NoRandom` comes only from the source, whose failures rose by one. `BadRandom` comes if 100 bytes for each letter draw too few
-/// letters, or if 100 texts are no files of codes. The only other error is that an allocation failed.
+/// The error is `NoRandom` if the source fails, which then counts one failure more. It is `BadRandom` if 100 bytes for each letter
+/// draw too few letters, or if 100 texts are no files of codes. The only other error is a failed allocation.
 pub fn make<D: Draws>(
     alloc: Global,
     draws: &mut D,

@@ -7,7 +7,7 @@ ghost use Rattle.codes.specs.Making.{clerks_entry, clerks_in, clerks_of};
 
 use crate::reading::clerk_in;
 
-/// Clerks in a row: the first and the last.
+/// A range of clerks: the first and the last.
 #[derive(Clone, Copy)]
 pub struct ClerkRange {
     pub first: u32,

@@ -1,4 +1,4 @@
--- A client from the moment when he was let in: what was gathered of him, and what went to him.
+-- An open connection since it was accepted: what was received of it, and what was sent to it.
 use Rattle.std.specs.Prelude.{◌≡◌, ◌≤◌, ℕ, Bool, true, false, List, [], IsSomeAnd, Option, Some, None, Result, Ok, Err, length, slice_get, take}
 use Rattle.std.specs.Io.KnownBytes.{Consumes}
 use Rattle.std.specs.List.{All}
@@ -20,13 +20,13 @@ use Rattle.connections.specs.declared.vec_sink.VecSink.{VecSink}
 abbrev pub chunk : ℕ
 chunk = 16384
 
--- A call that lost a client has a cause: a call of its line failed, or there was no room for more bytes of it, and none to be had. Else no call failed.
+-- If receiving fails, there is a cause: a call of the stream failed, or the buffer was full and could not grow. Otherwise no call failed.
 abbrev pub IsCaused : {A : Type 0} → Result A ReceiveError → Option ℕ → Option ℕ → Type 0 → Type 0
 IsCaused (Ok value) old new full = new ≡ old
 IsCaused (Err lost.Stream) old new full = new ≡ one_more old
 IsCaused (Err lost.Memory) old new full = (new ≡ old) × full
 
--- the number of calls in vain after one read, after some, and after some writes: just one more where nothing more has arrived, or is accepted
+-- the number of idle calls after one read, after several, and after several writes: one more if nothing more has arrived, or is accepted
 abbrev pub idle_after_once : Result Received ReceiveError → Option ℕ → Option ℕ
 idle_after_once (Ok Nothing) idle = one_more idle
 idle_after_once (Ok (Bytes n)) idle = idle
@@ -44,7 +44,7 @@ idle_after_put (Ok false) idle = one_more idle
 idle_after_put (Ok true) idle = idle
 idle_after_put (Err broken) idle = idle
 
--- the bytes that are given again from here on
+-- the bytes that are still to be read
 abbrev pub left_of : SliceSource → List ℕ
 left_of g = g.bytes.now
 
@@ -56,22 +56,22 @@ written_in w = w.bytes.items
 abbrev pub failed_writes : VecSink → ℕ
 failed_writes w = w.failed
 
--- The bytes that were gathered are those that his line gave since he came, and it took nothing yet.
+-- The bytes that were received are those that the stream gave since the connection was accepted, and nothing was sent yet.
 pub record IsReceived {L : Type 0} (stream : LineEntry L) (start now : L) (got : List ℕ) : Type 0 where
   pub gave : Consumes (stream.held start) (stream.held now) got
   pub untold : HasTaken (stream.taken now) []
 
--- Of his answer his line took the first bytes, so many, and nothing else.
+-- Of the response, the first so many bytes were sent, and nothing else.
 pub record IsSent {L : Type 0} (stream : LineEntry L) (now : L) (answer : List ℕ) (sent : ℕ) : Type 0 where
   pub within : sent ≤ length answer
   pub took : HasTaken (stream.taken now) (take sent answer)
 
--- how it stands with the answer of a client, of whom these bytes were gathered: he has none yet, or is getting it
+-- the response of a connection of which these bytes were received: there is none yet, or it is being sent
 abbrev pub IsServedSo : {L : Type 0} → LineEntry L → L → L → List ℕ → Option PendingResponse → Type 0
 IsServedSo stream start now got None = IsReceived stream start now got
 IsServedSo stream start now got (Some answer) = IsSent stream now answer.bytes.items answer.sent
 
--- A client comes in at this door and over this line, under this number and at this moment: nothing was heard of him, and he has no answer.
+-- A connection was just accepted at this listener, with this stream, number and moment: nothing was read of it, and it has no response.
 pub record IsNew {L : Type 0} (accepted : Accepted L) (number now : ℕ) (client : Client L) : Type 0 where
   pub at : client.listener ≡ accepted.listener
   pub over : client.stream ≡ accepted.stream
@@ -81,14 +81,14 @@ pub record IsNew {L : Type 0} (accepted : Accepted L) (number now : ℕ) (client
   pub unanswered : client.answer ≡ None
   pub all_read : client.unread ≡ 0
 
--- a client is who it was, whatever was read of its line
+-- it is the same connection, whatever was read of its stream
 abbrev pub IsSameButReceived : {L : Type 0} → Client L → Client L → Type 0
 IsSameButReceived old new = (new.listener ≡ old.listener) × (new.number ≡ old.number) × (new.since ≡ old.since)
 
--- a client whose line was this one as he came in
+-- a connection whose stream was this one when it was accepted
 abbrev pub IsOf : {L : Type 0} → LineEntry L → L → Client L → Type 0
 IsOf stream start client = IsServedSo stream start client.stream client.got.items client.answer
 
--- each of these clients is of the line that came in under his number
+-- each of these connections belongs to the stream that was accepted under its number
 abbrev pub AllOf : {L : Type 0} → LineEntry L → List L → List (Client L) → Type 0
 AllOf stream came clients = All (λ client. IsSomeAnd (slice_get came client.number) (λ start. IsOf stream start client)) clients

@@ -1,4 +1,4 @@
-//! A client who was let in.
+//! An open connection, of a client or of an order.
 
 ghost use Rattle.std.specs.Prelude.{◌≡◌, ℕ, ◌<◌, ◌≤◌, ◌+◌, ◌⊎◌, [], IsSome, None, Ok, true, false, length, max, vec_capacity, vec_len};
 ghost use Rattle.std.specs.Io.KnownBytes.{IsAtEnd};
@@ -14,32 +14,32 @@ use votes::Broken;
 /// How many bytes are read at once.
 const CHUNK: usize = 16384;
 
-/// At which door a client came in, which says what he sends.
+/// The listener at which a connection came in. It says what the connection sends.
 #[derive(Clone, Copy)]
 pub enum Listener {
-    /// Where clients come, who send a request over HTTP.
+    /// Clients, which send a request over HTTP.
     Clients,
-    /// Where orders are handed over.
+    /// Orders, which the program sends to the server.
     Orders,
 }
 
-/// Who comes in: at which door, and over which line.
+/// An accepted connection: its listener and its stream.
 #[derive(Drop)]
 pub struct Accepted<L> {
     pub listener: Listener,
     pub stream: L,
 }
 
-/// An answer, and how many of its bytes were taken.
+/// A response, and how many of its bytes were sent.
 #[derive(Drop)]
 pub struct PendingResponse {
     pub bytes: Vec<u8>,
     pub sent: usize,
 }
 
-/// A client, or an order that is handed over: where it came in, its line, its number in the order of coming, and when its present
-/// half minute began, in milliseconds. Then what was gathered of it, its response once it has one, and how many bytes of its
-/// request are still to come, which are read and dropped behind that.
+/// An open connection: its listener, its stream, its number in the order of acceptance, and when its present time limit began, in
+/// milliseconds. Then the bytes that were received, the response once there is one, and how many bytes of the request are still to
+/// come after the response: those are read and dropped.
 #[derive(Drop)]
 pub struct Client<L> {
     pub listener: Listener,
@@ -51,18 +51,18 @@ pub struct Client<L> {
     pub unread: usize,
 }
 
-/// How far a client was heard.
+/// How far a request was read.
 #[derive(Clone, Copy)]
 pub enum ReadProgress {
-    /// So many bytes were wanted, and are there.
+    /// As many bytes as were wanted are there.
     Enough,
-    /// Fewer came, and more may come.
+    /// There are fewer, and more may come.
     Waits,
-    /// He sends no more.
+    /// The connection sends no more.
     Ended,
 }
 
-/// Why a client is let go: his line broke, or memory was wanting for what he sends.
+/// Why nothing more can be received: the stream failed, or an allocation did.
 #[derive(Clone, Copy)]
 pub enum ReceiveError {
     Stream,
@@ -89,7 +89,7 @@ impl From<AllocError> for ReceiveError {
     }
 }
 
-/// Appends what has arrived to what was gathered, in one read. Nothing is read if there is no memory for it.
+/// Appends what has arrived, in one read. Nothing is read if the allocation fails.
 fn receive_once<L: Stream>(stream: &mut L, got: &mut Vec<u8>) -> Result<Received, ReceiveError>
     ensures receives { Receives (stream_of L.held L.taken L.failed) stream.old stream.new got.old.items got.new.items }
     ensures more { result ≡ Ok Received.Nothing → got.new.items ≡ got.old.items }
@@ -114,8 +114,8 @@ fn receive_once<L: Stream>(stream: &mut L, got: &mut Vec<u8>) -> Result<Received
     }
 }
 
-/// Gathers what has arrived, until there are so many bytes in all, or no more has arrived. There may be fewer than `CHUNK`
-/// bytes more than that, so that a client who sends on and on holds up nobody.
+/// Reads until there are so many bytes in all, or no more has arrived. It reads fewer than `CHUNK` bytes past that, so a connection
+/// that sends without end holds up no other.
 fn receive_up_to<L: Stream>(
     stream: &mut L,
     got: &mut Vec<u8>,
@@ -139,7 +139,7 @@ fn receive_up_to<L: Stream>(
     Ok(ReadProgress::Enough)
 }
 
-/// Writes what is left of a response, until all is written or the line accepts no more now; returns whether all is written.
+/// Sends the rest of a response, until all is sent or the stream accepts no more now. Returns whether all is sent.
 pub fn deliver<L: Stream>(stream: &mut L, answer: &mut PendingResponse) -> Result<bool, Broken>
     ensures delivers { Delivers (stream_of L.held L.taken L.failed) stream.old stream.new answer.old.bytes.items answer.old.sent answer.new.sent }
     ensures same { answer.new.bytes.items ≡ answer.old.bytes.items }
@@ -157,8 +157,8 @@ pub fn deliver<L: Stream>(stream: &mut L, answer: &mut PendingResponse) -> Resul
     Ok(true)
 }
 
-/// Reads and drops so many bytes of a line, as far as they have arrived, and counts them down; returns whether nothing more is
-/// to come of them.
+/// Reads and drops so many bytes of a stream, as far as they have arrived, and counts them down. Returns whether no more of them
+/// will come.
 fn drop_bytes<L: Stream>(stream: &mut L, unread: &mut usize) -> Result<bool, Broken>
     ensures untold { L.taken stream.new ≡ L.taken stream.old }
     ensures less { unread.new ≤ unread.old }
@@ -178,7 +178,7 @@ fn drop_bytes<L: Stream>(stream: &mut L, unread: &mut usize) -> Result<bool, Bro
 }
 
 impl<L: Stream> Client<L> {
-    /// One who comes in now, of whom nothing was heard yet.
+    /// Returns a connection that is accepted now, and of which nothing was read yet.
     pub fn new(alloc: Global, accepted: Accepted<L>, number: u64, since: u64) -> Client<L>
         requires { HasTaken (L.taken accepted.stream) [] }
         ensures new { IsNew accepted number since result }
@@ -196,7 +196,7 @@ impl<L: Stream> Client<L> {
         }
     }
 
-    /// Returns it as one that leaves, for a reason.
+    /// Returns the connection as removed, with the reason.
     pub fn into_removed(self, why: CloseReason) -> Removed<L>
     where
         L: Drop,
@@ -210,8 +210,8 @@ impl<L: Stream> Client<L> {
         }
     }
 
-    /// Gathers more of a client that has no response yet, until there are so many bytes in all, or no more has arrived. There may
-    /// be fewer than 16,384 bytes more than that.
+    /// Receives more of a connection that has no response yet, until there are so many bytes in all, or no more has arrived. It
+    /// receives fewer than 16,384 bytes past that.
     pub fn receive(&mut self, wanted: usize) -> Result<ReadProgress, ReceiveError>
         requires { self.old.answer ≡ None }
         ensures receives { Receives (stream_of L.held L.taken L.failed) self.old.stream self.new.stream self.old.got.items self.new.got.items }
@@ -227,8 +227,8 @@ impl<L: Stream> Client<L> {
         receive_up_to(&mut self.stream, &mut self.got, wanted)
     }
 
-    /// Reads and drops what is still to come of the request of a client that has its response, as far as it has arrived; returns
-    /// whether nothing more is to come.
+    /// Reads and drops what is still to come of the request of a connection that has its response, as far as it has arrived.
+    /// Returns whether no more will come.
     pub fn drop_unread(&mut self) -> Result<bool, Broken>
         requires { IsSome self.old.answer }
         ensures is { (start : L) → IsOf (stream_of L.held L.taken L.failed) start self.old → IsOf (stream_of L.held L.taken L.failed) start self.new }

@@ -1,4 +1,5 @@
-//! Which connections are closed before they have their response: late ones, those for which room is made, and all at the end.
+//! Which connections are closed before they have their response: those that are timed out, those that make room for another, and
+//! all of them at the end.
 
 ghost use Rattle.std.specs.Prelude.{◌≡◌, ◌⊎◌, ◌≤◌, ◌<◌, ◌-◌, [], false, length, true};
 ghost use Rattle.std.specs.List.{All};
@@ -10,14 +11,14 @@ use crate::network::Network;
 use crate::removed::CloseReason;
 use crate::table::{ConnectionTable, MAX_BYTES, MAX_CLIENTS, bytes_held, longest_waiting};
 
-/// How long a client may take to send what it asks, and as long to take its response, in milliseconds.
+/// How long a connection may take to send its request, and as long again to accept its response, in milliseconds.
 pub const TIMEOUT: u64 = 30_000;
 
-/// For how long nobody is closed to make room, in milliseconds.
+/// How long a new connection is safe from being closed to make room, in milliseconds.
 const GRACE: u64 = 1_000;
 
-/// By which rule those are closed that have waited longest: whether orders are closed too, how long they waited at least by a
-/// moment, both in milliseconds, and for what reason.
+/// A rule by which those connections are closed that have waited longest: whether orders are closed too, how long a connection must
+/// have waited at a moment, both in milliseconds, and the reason.
 #[derive(Clone, Copy)]
 pub struct Rule {
     pub orders_too: bool,
@@ -26,7 +27,7 @@ pub struct Rule {
     pub why: CloseReason,
 }
 
-/// Returns the rule for late ones, clients and orders.
+/// Returns the rule for connections that are timed out, of clients and of orders.
 fn timeout_rule(now: u64) -> Rule
     ensures { result ≡ timeout_rule now }
 {
@@ -38,7 +39,7 @@ fn timeout_rule(now: u64) -> Rule
     }
 }
 
-/// Returns the rule by which room is made: clients alone, that have waited for a second at least.
+/// Returns the rule by which room is made: it closes clients only, and only those that have waited for a second.
 fn eviction_rule(now: u64) -> Rule
     ensures { result ≡ eviction_rule now }
 {
@@ -50,7 +51,7 @@ fn eviction_rule(now: u64) -> Rule
     }
 }
 
-/// Returns the rule where too many bytes are held: clients alone, or orders too.
+/// Returns the rule for too many bytes: it closes clients only, or orders too.
 fn byte_limit_rule(orders_too: bool) -> Rule
     ensures { result ≡ byte_limit_rule orders_too }
 {
@@ -62,7 +63,7 @@ fn byte_limit_rule(orders_too: bool) -> Rule
     }
 }
 
-/// Closes the one at a place, for a reason.
+/// Closes the connection at a place, for a reason.
 fn close_at<D: Network>(
     network: &mut D,
     table: &mut ConnectionTable<D::Stream>,
@@ -77,8 +78,8 @@ fn close_at<D: Network>(
     network.close(table.remove_at(place).into_removed(why));
 }
 
-/// Closes the one that has waited longest of those that a rule looks at, if that is long enough; returns whether there was such a
-/// one.
+/// Closes the connection that has waited longest, of those that a rule applies to, if it has waited long enough. Returns whether
+/// one was closed.
 fn close_one<D: Network>(
     network: &mut D,
     table: &mut ConnectionTable<D::Stream>,
@@ -97,7 +98,7 @@ fn close_one<D: Network>(
     true
 }
 
-/// Closes those whose half minute is over.
+/// Closes all connections whose time limit is over.
 pub fn close_timed_out<D: Network>(
     network: &mut D,
     table: &mut ConnectionTable<D::Stream>,
@@ -113,7 +114,7 @@ pub fn close_timed_out<D: Network>(
     }
 }
 
-/// Closes the client that has waited longest, or an order where no client is in; returns whether there was such a one.
+/// Closes the client that has waited longest, or an order if there is no client. Returns whether one was closed.
 fn close_one_for_bytes<D: Network>(network: &mut D, table: &mut ConnectionTable<D::Stream>) -> bool
     requires { most_bytes < bytes_held table.old.clients.items }
     ensures go { ClosesOne IsClosedForBytes result (D.known network.old) (D.known network.new) table.old table.new }
@@ -123,7 +124,7 @@ fn close_one_for_bytes<D: Network>(network: &mut D, table: &mut ConnectionTable<
         || close_one(network, table, byte_limit_rule(true))
 }
 
-/// Closes those that have waited longest, until no more bytes are held than may be: clients first.
+/// Closes the connections that have waited longest, clients first, until the bytes in memory are within the limit.
 pub fn keep_within<D: Network>(network: &mut D, table: &mut ConnectionTable<D::Stream>)
     ensures go { AreClosedByRule IsClosedForBytes (D.known network.old) (D.known network.new) table.old table.new }
     ensures within { length table.old.clients.items ≤ most_clients → bytes_held table.new.clients.items ≤ most_bytes }
@@ -136,7 +137,7 @@ pub fn keep_within<D: Network>(network: &mut D, table: &mut ConnectionTable<D::S
     }
 }
 
-/// Returns whether nobody more may be in.
+/// Returns whether the table is full.
 fn is_full<L>(table: &ConnectionTable<L>) -> bool
     ensures full { result ≡ true → IsFull table.now }
     ensures spare { result ≡ false → length table.now.clients.items < most_clients }
@@ -144,7 +145,7 @@ fn is_full<L>(table: &ConnectionTable<L>) -> bool
     table.clients.len() >= MAX_CLIENTS || bytes_held(table.clients.as_slice()) >= MAX_BYTES
 }
 
-/// Makes room for one that the system can't let in before another is closed; returns whether one was closed.
+/// Closes one connection for the next, because the system has no room for both. Returns whether one was closed.
 pub fn evict_one<D: Network>(
     network: &mut D,
     table: &mut ConnectionTable<D::Stream>,
@@ -156,8 +157,9 @@ pub fn evict_one<D: Network>(
     close_one(network, table, eviction_rule(now))
 }
 
-/// Sees that one more may come in, and returns whether one may. If nobody more may be in, and clients may be closed for it, the
-/// client is closed that has waited longest, if that is a second at least. An order is never closed for another.
+/// Makes sure that one more connection can be accepted, and returns whether it can. If the table is full, and clients may be closed
+/// for it, this closes the client that has waited longest, provided that it has waited for a second. An order is never closed for
+/// another connection.
 pub fn evict_if_full<D: Network>(
     network: &mut D,
     table: &mut ConnectionTable<D::Stream>,
@@ -182,7 +184,7 @@ pub fn evict_if_full<D: Network>(
     table.clients.len() < MAX_CLIENTS
 }
 
-/// Closes all that are in.
+/// Closes all connections.
 pub fn close_all<D: Network>(network: &mut D, table: &mut ConnectionTable<D::Stream>)
     ensures go { AreClosedByRule IsClosed (D.known network.old) (D.known network.new) table.old table.new }
     ensures none { table.new.clients.items ≡ [] }

@@ -1,9 +1,11 @@
-//! Clients whose lines are read and written side by side, while no call waits.
+//! Connections whose streams are read and written side by side, without blocking.
 //!
-//! A [`Stream`](stream) gives what has come of a client, and takes what it has room for. A [`Client`](client) keeps what was gathered of him,
-//! and then his answer; a [`ConnectionTable`](table) has the clients of one moment, and says who has waited longest. [`Network`](network) let clients and
-//! orders in, and say who may go on. Nothing here knows a socket, a clock or an office: whose request is whole, and what he is answered,
-//! the crates above say. They read what was gathered by [`SliceSource`](slice_source), and write an answer into [`VecSink`](vec_sink).
+//! A [`Stream`](stream) is one connection's bytes, in and out. A [`Client`](client) is an open connection: what was received of its
+//! request, and how much of its response was sent. The [`ConnectionTable`](table) has the open connections, and says which has
+//! waited longest; [`closing`](closing) has the rules by which they are closed early. A [`Network`](network) accepts connections,
+//! and reports which are ready. Nothing here knows a socket, a clock or an office: the crates above decide when a request is
+//! complete, and what the response is. They read the request by a [`SliceSource`](slice_source), and write the response into a
+//! [`VecSink`](vec_sink).
 #![tactic(auto)]
 
 pub mod client;

@@ -1,26 +1,26 @@
-//! One that leaves.
+//! A connection that was removed from the table, to be closed.
 
 use crate::client::ReceiveError;
 use std::alloc::AllocError;
 
-/// Why one leaves.
+/// Why a connection is closed.
 #[derive(Clone, Copy)]
 pub enum CloseReason {
-    /// It has its whole response.
+    /// Its whole response was sent.
     Done,
-    /// Its line failed.
+    /// Its stream failed.
     Broken,
-    /// It sent what can't be read to its end, or there is no memory for it.
+    /// Its request can't be read to its end, or an allocation failed.
     Unreadable,
-    /// Its time is over.
+    /// Its time limit is over.
     TimedOut,
-    /// Room was made for another.
+    /// It makes room for another.
     Evicted,
     /// Serving ends.
     Closing,
 }
 
-/// One that leaves: its number in the order of coming, its line, and why it leaves.
+/// A connection that was removed from the table: its number in the order of acceptance, its stream, and why it is closed.
 #[derive(Drop)]
 pub struct Removed<L> {
     pub number: u64,

@@ -1,10 +1,10 @@
-//! What was gathered of a client, given again.
+//! A source over bytes in memory.
 
 ghost use Rattle.std.specs.Prelude.{Some};
 
 use votes::{Broken, Source};
 
-/// The bytes that were gathered of a client, from one on. It doesn't break.
+/// The rest of a slice of bytes, as a source. It never fails.
 #[derive(Drop)]
 pub struct SliceSource<'a> {
     bytes: &'a [u8],
@@ -14,7 +14,7 @@ impl<'a> SliceSource<'a> {
     ghost use Rattle.std.specs.Prelude.{◌≡◌};
     ghost use Rattle.connections.specs.Clients.{left_of};
 
-    /// All of these bytes.
+    /// Returns a source of all of these bytes.
     pub fn new(bytes: &'a [u8]) -> SliceSource<'a>
         ensures { left_of result ≡ bytes.now }
     {

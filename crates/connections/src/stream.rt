@@ -1,4 +1,4 @@
-//! A client's line, of which no call waits.
+//! A connection's stream, on which no call blocks.
 
 ghost use Rattle.std.specs.Prelude.{◌≡◌, ℕ, ◌<◌, List, Option, length};
 ghost use Rattle.std.specs.Io.KnownBytes.{Keeps};
@@ -6,34 +6,34 @@ ghost use Rattle.connections.specs.Streams.{Gives, Takes, failed_after, idle_aft
 
 use votes::Broken;
 
-/// What came of a client now.
+/// What a read returned.
 #[derive(Clone, Copy)]
 pub enum Received {
-    /// So many bytes, one at least.
+    /// So many bytes, at least one.
     Bytes(usize),
-    /// Nothing yet.
+    /// No bytes yet.
     Nothing,
-    /// He sends no more.
+    /// The end: no more will come.
     End,
 }
 
-/// Both ways of a client's line: what he sends, and what he gets. No call waits.
+/// Both directions of a connection, as bytes. No call blocks.
 pub trait Stream {
-    /// The bytes that are still to come of him, as far as they are known.
+    /// The bytes that are still to come, as far as they are known.
     ghost held: { Self → Option (List ℕ) };
 
-    /// The bytes that the client has accepted so far, as far as they are known.
+    /// The bytes that were accepted so far, as far as they are known.
     ghost taken: { Self → Option (List ℕ) };
 
     /// How many calls failed so far, as far as that is known.
     ghost failed: { Self → Option ℕ };
 
-    /// How many calls found nothing to read, or could write nothing, as far as that is known.
+    /// How many calls had nothing to read, or could write nothing, as far as that is known.
     ghost idle: { Self → Option ℕ };
 
-    /// Reads what has arrived into the front of the room, as far as that goes.
+    /// Reads what has arrived into the front of the buffer, as far as it fits.
     ///
-    /// After `Broken` nothing was read; what the room then holds is left open.
+    /// After `Broken` nothing was read, and the content of the buffer is unspecified.
     fn fetch(&mut self, room: &mut [u8]) -> Result<Received, Broken>
         requires { 0 < length room.old }
         ensures gives { Gives (held self.old) (held self.new) room.new result }
@@ -41,7 +41,7 @@ pub trait Stream {
         ensures failed { failed self.new ≡ failed_after result (failed self.old) }
         ensures idle { idle self.new ≡ idle_after_read result (idle self.old) };
 
-    /// Writes some of the bytes, from the front on, and returns how many: none if the client accepts nothing now.
+    /// Writes some of the bytes, from the first on, and returns how many; 0 if the stream accepts nothing now.
     fn put(&mut self, bytes: &[u8]) -> Result<usize, Broken>
         ensures takes { Takes (taken self.old) (taken self.new) bytes.now result }
         ensures unheard { Keeps (held self.old) (held self.new) }

@@ -1,4 +1,4 @@
-//! The clients of one moment.
+//! The table of open connections.
 
 ghost use Rattle.std.specs.Prelude.{◌≡◌, ◌<◌, ◌≤◌, ◌+◌, ◌-◌, ◌^◌, [], ◌∷◌, ◌++◌, IfNone, IfOk, IfSome, OnErr, insert, length, min, remove, slice_index_or, vec_capacity};
 ghost use Rattle.connections.specs.Streams.{HasTaken, stream_of};
@@ -10,13 +10,13 @@ use crate::client::{Accepted, Client, Listener, PendingResponse};
 use crate::stream::Stream;
 use std::alloc::{AllocError, Global};
 
-/// The most clients that are in a room at once.
+/// The most connections that are open at once.
 pub const MAX_CLIENTS: usize = 512;
 
-/// The most bytes that are held of them all.
+/// The most bytes that they hold in memory, all together.
 pub const MAX_BYTES: usize = 64 << 20;
 
-/// How many bytes an answer has, if there is one.
+/// Returns the length of a response; 0 if there is none.
 fn answer_len(answer: &Option<PendingResponse>) -> usize
     ensures { result ≡ answer_bytes answer.now }
 {
@@ -26,7 +26,7 @@ fn answer_len(answer: &Option<PendingResponse>) -> usize
     }
 }
 
-/// How many bytes are held of all clients; the greatest number there is, where they are more.
+/// Returns how many bytes these connections hold in memory; the greatest number of the type if there are more.
 pub fn bytes_held<L>(clients: &[Client<L>]) -> usize
     ensures { result ≡ min (bytes_held clients.now) (2 ^ 64 - 1) }
 {
@@ -38,7 +38,7 @@ pub fn bytes_held<L>(clients: &[Client<L>]) -> usize
     held
 }
 
-/// Returns whether one that came in at a door is looked at: a client always, an order only where orders are looked at too.
+/// Returns whether a connection of this listener counts for a rule: a client always does, an order only if orders are included.
 fn is_among(orders_too: bool, listener: Listener) -> bool
     ensures { result ≡ is_among orders_too listener }
 {
@@ -48,8 +48,7 @@ fn is_among(orders_too: bool, listener: Listener) -> bool
     }
 }
 
-/// Returns the earlier of two, each with its place and the moment when its half minute began; the first if the second isn't
-/// looked at.
+/// Returns the earlier of two, each with its place and the moment when its time limit began; the first if the second doesn't count.
 fn earlier(
     found: Option<(usize, u64)>,
     is_among: bool,
@@ -65,8 +64,8 @@ fn earlier(
     }
 }
 
-/// Returns the place of the one that has waited longest since its half minute began, among the clients, and the orders if they are
-/// looked at too; none where there is no such one.
+/// Returns the place of the connection that has waited longest since its time limit began, among the clients, and the orders if
+/// they are included; `None` if there is no such connection.
 pub fn longest_waiting<L>(clients: &[Client<L>], orders_too: bool) -> Option<usize>
     ensures some { IfSome result (λ place. (place < length clients.now) × ((client : Client L) → HasWaitedLongest orders_too clients.now (slice_index_or clients.now place client))) }
     ensures none { IfNone result (AreUnseen orders_too clients.now) }
@@ -86,7 +85,7 @@ pub fn longest_waiting<L>(clients: &[Client<L>], orders_too: bool) -> Option<usi
     }
 }
 
-/// The place of the client with a number; none where he isn't there.
+/// Returns the place of the connection with a number; `None` if it isn't there.
 pub fn place_of_number<L>(clients: &[Client<L>], number: u64) -> Option<usize>
     ensures place { result ≡ place_in clients.now number }
     ensures within { IfSome result (λ place. place < length clients.now) }
@@ -95,7 +94,7 @@ pub fn place_of_number<L>(clients: &[Client<L>], number: u64) -> Option<usize>
     clients.iter().position(|client| client.number == number)
 }
 
-/// How many who come in at a door count as clients.
+/// Returns how many clients a connection of this listener counts as.
 fn count_at(listener: Listener) -> u64
     ensures { result ≡ count_at listener }
 {
@@ -105,8 +104,8 @@ fn count_at(listener: Listener) -> u64
     }
 }
 
-/// Those that are in, in the order of coming; how many came, and how many of them at the door of clients. There are places for
-/// as many as may be in.
+/// The open connections in the order of acceptance, the number of connections that were ever accepted, and how many of those were
+/// clients. It has capacity for as many as may be open.
 #[derive(Drop)]
 pub struct ConnectionTable<L> {
     pub clients: Vec<Client<L>>,
@@ -116,7 +115,7 @@ pub struct ConnectionTable<L> {
 }
 
 impl<L: Stream> ConnectionTable<L> {
-    /// Returns a room with nobody in it. The only error is that there is no memory for its places.
+    /// Returns an empty table. The only error is a failed allocation.
     pub fn new(alloc: Global) -> Result<ConnectionTable<L>, AllocError>
         ensures { IfOk result (λ table. (table.clients.items ≡ []) × (table.came ≡ 0) × (table.counted ≡ 0)) }
     {
@@ -128,7 +127,7 @@ impl<L: Stream> ConnectionTable<L> {
         })
     }
 
-    /// Somebody comes in, and has the next number.
+    /// Adds an accepted connection, with the next number.
     pub fn add(&mut self, alloc: Global, accepted: Accepted<L>, now: u64)
         requires came { self.old.came < 2 ^ 64 - 1 }
         requires counted { self.old.counted + count_at accepted.listener < 2 ^ 64 }
@@ -149,7 +148,7 @@ impl<L: Stream> ConnectionTable<L> {
         }
     }
 
-    /// Takes the one at a place out.
+    /// Removes the connection at a place, and returns it.
     pub fn remove_at(&mut self, place: usize) -> Client<L>
         requires { place < length self.old.clients.items }
         ensures client { result ≡ slice_index_or self.old.clients.items place result }
@@ -160,7 +159,7 @@ impl<L: Stream> ConnectionTable<L> {
         self.clients.remove(place)
     }
 
-    /// Puts one in at a place, which was taken out of the room.
+    /// Puts a connection at a place, from which it was removed.
     pub fn put_back_at(&mut self, place: usize, client: Client<L>)
         requires within { place ≤ length self.old.clients.items }
         requires place { length self.old.clients.items < most_clients }

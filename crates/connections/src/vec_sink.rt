@@ -1,4 +1,4 @@
-//! An answer, as it is written.
+//! A sink into memory.
 
 ghost use Rattle.std.specs.Prelude.{◌≡◌, [], Some};
 ghost use Rattle.connections.specs.Clients.{failed_writes, written_in};
@@ -6,7 +6,7 @@ ghost use Rattle.connections.specs.Clients.{failed_writes, written_in};
 use std::alloc::{AllocError, Global};
 use votes::{Broken, Sink};
 
-/// The bytes of an answer that were written so far. It breaks only where memory is wanting.
+/// The bytes that were written so far. It fails only if an allocation does.
 #[derive(Drop)]
 pub struct VecSink {
     bytes: Vec<u8>,
@@ -14,7 +14,7 @@ pub struct VecSink {
 }
 
 impl VecSink {
-    /// Nothing was written yet. Takes no memory.
+    /// Returns an empty sink. Allocates nothing.
     pub fn new(alloc: Global) -> VecSink
         ensures bytes { written_in result ≡ [] }
         ensures failed { failed_writes result ≡ 0 }
@@ -25,7 +25,7 @@ impl VecSink {
         }
     }
 
-    /// What was written.
+    /// Returns the bytes that were written.
     pub fn into_bytes(self) -> Vec<u8>
         ensures { result.items ≡ written_in self }
     {

@@ -1,4 +1,4 @@
--- Reading from left to right, with the first fault that is met.
+-- Decoding from left to right, up to the first error.
 use Rattle.std.specs.Prelude.{◌≡◌, ℕ, zero, suc, get_or, nat_le, option_map, List, [], ◌∷◌, length, take, drop, Option, Some, None, Result, Ok, Err, nat_lt, ◌==◌, if◌then◌else◌}
 use Rattle.std.specs.Int.{Width, w32, w64, byte_len, from_be_bytes}
 use Rattle.order_protocol.specs.Frames.{max_message}
@@ -16,7 +16,7 @@ abbrev pub ◌>>=◌ : {A B : Type 0} → Result A FormatError → (A → Result
 (Ok x) >>= f = f x
 (Err e) >>= f = Err e
 
--- What a function returned, seen by view, is what reading gives, unless memory ran out.
+-- What a function returned is what decoding gives, seen through a view, unless an allocation failed.
 abbrev pub Fails : {Y : Type 0} → DecodeError → Result Y FormatError → Type 0
 Fails errors.Memory read = Unit {0}
 Fails (errors.FormatError f) read = read ≡ Err f
@@ -55,7 +55,7 @@ pieces_at (suc n) bytes = do
   others ← pieces_at n first.1
   Ok (first.0 ∷ others.0, others.1)
 
--- how many, and each of them
+-- the count, and each of them
 unfoldable pub list_at : List ℕ → Result (List MessagePartEntry × List ℕ) FormatError
 list_at bytes = do
   n ← number_at w32 bytes
@@ -72,7 +72,7 @@ order_message_in bytes = do
   files ← list_at words.1
   if length files.1 == 0 then Ok (record { version = version.0; device = device.0; inode = inode.0; folder = folder.0; words = words.0; files = files.0 }) else Err Trailing
 
--- the kind of frame that a byte stands for: 1, 2 or 3
+-- the kind of frame for a byte: 1, 2 or 3
 abbrev pub kind_in : ℕ → Option FrameKind
 kind_in zero = None
 kind_in (suc zero) = Some kinds.Output

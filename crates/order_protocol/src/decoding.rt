@@ -1,4 +1,4 @@
-//! Reading what was handed over.
+//! Decoding of a message.
 
 ghost use Rattle.std.specs.Prelude.{◌≡◌, length, IfOk, Ok, option_map};
 ghost use Rattle.std.specs.Int.{w32, w64};
@@ -117,13 +117,13 @@ fn all(alloc: Global, bytes: &[u8]) -> Result<OrderMessage<'_>, DecodeError>
     })
 }
 
-/// The order that the bytes spell, all of the bytes.
+/// Decodes an order from all of these bytes.
 pub fn decode_message(alloc: Global, bytes: &[u8]) -> Result<OrderMessage<'_>, DecodeError>
-    // What is read is spelled so.
+    // What is decoded has this encoding.
     ensures found { IfOk result (λ h. Fits (order_message_entry h) × (bytes.now ≡ encoding_of (order_message_entry h))) }
-    // What is spelled so is read, unless memory runs out.
+    // What is so encoded is decoded, unless an allocation fails.
     ensures only { (h : OrderMessageEntry) → Fits h → bytes.now ≡ encoding_of h → Gives order_message_entry result (Ok h) }
-    // Which fault it is.
+    // Which error it is.
     ensures exact { Gives order_message_entry result (order_message_in bytes.now) }
 {
     all(alloc, bytes)

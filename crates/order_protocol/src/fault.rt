@@ -1,22 +1,22 @@
-//! Why an order that is handed over can't be read.
+//! Why a message can't be decoded.
 
 ghost use Rattle.std.specs.Prelude.{◌≡◌};
 ghost use Rattle.order_protocol.specs.declared.fault.DecodeError.TheVariants.{Memory};
 
 use std::alloc::{AllocError, AllocFailed};
 
-/// What is wrong with the bytes: the first fault from left to right.
+/// What is wrong with the bytes: the first error from left to right.
 #[derive(Clone, Copy, Debug, PartialEq, Eq)]
 pub enum FormatError {
-    /// A field passes the end.
+    /// A field extends past the end.
     Short,
     /// A flag is neither 0 nor 1.
     Flag,
-    /// Bytes stand behind the last field.
+    /// Bytes follow the last field.
     Trailing,
 }
 
-/// Why nothing is read.
+/// Why nothing is decoded.
 #[derive(Debug, Drop)]
 pub enum DecodeError {
     Memory,

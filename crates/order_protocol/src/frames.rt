@@ -1,27 +1,27 @@
-//! The frames in which the outcome of an order comes back: what they say, and what goes before it.
+//! The frames in which the output of an order comes back.
 
 ghost use Rattle.std.specs.Prelude.{◌≡◌, ◌<◌, ◌^◌, ℕ, IfSome, Some, length, take};
 ghost use Rattle.order_protocol.specs.Frames.{Frame, frame_bytes, frame_kind, head_bytes, kind_byte, max_frame, own_bytes};
 ghost use Rattle.order_protocol.specs.Reading.{head_in, kind_in};
 
-/// The most bytes of the output, or of the error output, that go into one frame.
+/// The most bytes of the output, or of the error output, in one frame.
 pub const MAX_FRAME: usize = 65536;
 
-/// The bytes before those that a frame says: its kind and their number.
+/// The length of a frame's head: its kind, and the number of bytes that follow.
 pub const HEAD: usize = 5;
 
-/// What a frame is.
+/// The kind of a frame.
 #[derive(Clone, Copy, Debug, PartialEq, Eq)]
 pub enum FrameKind {
-    /// Bytes for the output.
+    /// Bytes of the output.
     Output,
-    /// The end: the status, and then bytes for the error output.
+    /// The end: the status, and then bytes of the error output.
     End,
-    /// Bytes for the error output.
+    /// Bytes of the error output.
     ErrorOutput,
 }
 
-/// What goes before the bytes of a frame: its kind, and how many they are.
+/// The head of a frame: its kind, and how many bytes follow.
 #[derive(Clone, Copy, Debug, PartialEq, Eq)]
 pub struct FrameHead {
     pub kind: FrameKind,
@@ -29,7 +29,7 @@ pub struct FrameHead {
 }
 
 impl FrameKind {
-    /// Returns the byte that stands for a kind.
+    /// Returns the byte for a kind.
     pub fn byte(self) -> u8
         ensures { result ≡ kind_byte self }
     {
@@ -41,7 +41,7 @@ impl FrameKind {
     }
 }
 
-/// Returns the kind that a byte stands for, if any.
+/// Returns the kind for a byte, if any.
 fn kind_of(byte: u8) -> Option<FrameKind>
     ensures { result ≡ kind_in byte }
 {
@@ -53,7 +53,7 @@ fn kind_of(byte: u8) -> Option<FrameKind>
     }
 }
 
-/// Reads the head of a frame.
+/// Decodes the head of a frame.
 fn head_of(bytes: &[u8]) -> Option<FrameHead>
     requires { length bytes.now ≡ 5 }
     ensures found { IfSome result (λ head. bytes.now ≡ head_bytes head.kind head.len) }
@@ -68,11 +68,11 @@ fn head_of(bytes: &[u8]) -> Option<FrameHead>
     }
 }
 
-/// Reads the head of a frame; None if the first byte stands for no kind.
+/// Decodes the head of a frame; `None` if the first byte is no kind.
 pub fn read_frame_head(bytes: [u8; 5]) -> Option<FrameHead>
-    // What is read is written so.
+    // What is decoded has this encoding.
     ensures found { IfSome result (λ head. bytes ≡ head_bytes head.kind head.len) }
-    // What is written so is read.
+    // What is so encoded is decoded.
     ensures only { (kind : FrameKind) (len : ℕ) → len < 2 ^ 32 → bytes ≡ head_bytes kind len → result ≡ Some (record { kind = kind; len = len }) }
     // The first bytes of a frame give its kind and the number of those that follow.
     ensures front { (frame : Frame) → length (own_bytes frame) < 2 ^ 32 → bytes ≡ take 5 (frame_bytes frame)
@@ -82,7 +82,7 @@ pub fn read_frame_head(bytes: [u8; 5]) -> Option<FrameHead>
     head_of(&bytes)
 }
 
-/// Returns the first of these bytes, as many as go into one frame.
+/// Returns the first of these bytes, as many as fit into one frame.
 pub fn frame_part(bytes: &[u8]) -> &[u8]
     ensures { result.now ≡ take max_frame bytes.now }
 {

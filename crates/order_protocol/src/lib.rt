@@ -1,6 +1,6 @@
-//! An order that is handed over to the office that serves, as bytes; and what comes of it, as frames.
+//! The protocol by which an order is handed over to the server: its message, and the frames in which its output comes back.
 //!
-//! [`OrderMessage`] has one spelling, and what is read is spelled so.
+//! An [`OrderMessage`] has one encoding, and what is decoded has that encoding.
 #![tactic(auto)]
 
 pub mod decoding;

@@ -1,4 +1,4 @@
-//! The message in which an order is handed over: its length, and then the bytes of the order.
+//! The length in front of a message.
 
 ghost use Rattle.std.specs.Prelude.{◌≡◌, ◌≤◌, ◌↔◌, ℕ, IfSome, IsTrue, Some};
 ghost use Rattle.std.specs.Int.{from_be_bytes, to_be_bytes, w64};
@@ -15,17 +15,17 @@ pub fn is_message_len(len: usize) -> bool
     len <= MAX_MESSAGE
 }
 
-/// Returns the bytes that go before a message: its length.
+/// Returns the bytes in front of a message: its length.
 pub fn message_head(len: usize) -> [u8; 8]
     ensures { result ≡ to_be_bytes w64 len }
 {
     (len as u64).to_be_bytes()
 }
 
-/// Reads the length of a message; None if it is too long.
+/// Decodes the length of a message; `None` if it is too long.
 pub fn read_message_head(bytes: [u8; 8]) -> Option<usize>
     ensures found { IfSome result (λ len. (len ≡ from_be_bytes w64 bytes) × (len ≤ max_message)) }
-    // The length that was written is read.
+    // A length that was encoded is decoded.
     ensures only { (len : ℕ) → len ≤ max_message → bytes ≡ to_be_bytes w64 len → result ≡ Some len }
     ensures exact { result ≡ message_len_in bytes }
 {

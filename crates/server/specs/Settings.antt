@@ -1,9 +1,9 @@
--- What an office that serves goes by.
+-- The settings of a server.
 use Rattle.wire.specs.Gates.{HttpSettingsEntry, settings_entry}
 use Rattle.server.specs.declared.server_settings.FileNumbers.{FileNumbers}
 use Rattle.server.specs.declared.server_settings.ServerSettings.{ServerSettings}
 
--- what the office was given: for its clients the origin of a proxy, and the gate, if any; and its file
+-- the settings: for clients the origin of a proxy, and the gate, if any; and the file of the office
 pub record ServerSettingsEntry : Type 0 where
   pub clients : HttpSettingsEntry
   pub file : FileNumbers

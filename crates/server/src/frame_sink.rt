@@ -1,4 +1,4 @@
-//! Where what an order prints goes while it is processed: into frames, and on to its line.
+//! The sink for the output of an order while it is processed: frames, on a stream.
 
 ghost use Rattle.std.specs.Prelude.{◌≡◌, ◌++◌, ◌≤◌, [], List, OnErr, OnOk, Some, length, take, ℕ};
 ghost use Rattle.connections.specs.Streams.{HasTaken, stream_of};
@@ -10,21 +10,21 @@ use order_protocol::{MAX_FRAME, put_end_frame, put_error_frames, put_output};
 use std::alloc::{AllocError, Global};
 use votes::{Broken, Sink};
 
-/// The most bytes of one order's answer. Whoever wants more ends `serve` first.
+/// The most bytes of the response to one order. For more, end `serve` first.
 const MAX_ANSWER: usize = 32 << 20;
 
-/// Where an order's replies go: behind what it has printed already, and on to its line, as far as that takes them now. It breaks
-/// where the line breaks, where memory is wanting, and where the answer gets too long.
+/// The sink for an order's replies: appends them to what it has printed already, in frames, and sends as much as the stream accepts
+/// now. It fails if the stream does, if an allocation does, or if the response gets too long.
 ///
-/// It has the line itself, not a reference to it. An order is followed by code that knows of a `Sink` alone; so nothing would be
-/// known, behind it, of a line that stood elsewhere.
+/// It owns the stream. An order is processed by code that knows only of a `Sink`, so nothing would be known afterwards of a stream
+/// that it borrows.
 pub struct FrameSink<L> {
     pub stream: L,
     pub answer: PendingResponse,
     pub failed: u64,
 }
 
-/// Appends frames with these bytes for the error output, and the last frame, with the status. If an allocation fails, the bytes are
+/// Appends frames with these bytes of the error output, and the last frame, with the status. If an allocation fails, the bytes are
 /// those from before, or all but the last frame.
 fn put_end(out: &mut Vec<u8>, status: u8, err: &[u8]) -> Result<(), AllocError>
     ensures says { AreWhole out.old.items → (rest : List ℕ) × SaysMore out.old.items out.new.items [] rest × OnOk result ((rest ≡ err.now) × IsOver out.new.items status []) }
@@ -35,7 +35,7 @@ fn put_end(out: &mut Vec<u8>, status: u8, err: &[u8]) -> Result<(), AllocError>
 }
 
 impl<L: Stream> FrameSink<L> {
-    /// Nothing is printed yet. Takes no memory.
+    /// Returns a sink to which nothing is printed yet. Allocates nothing.
     pub fn new(alloc: Global, stream: L) -> FrameSink<L>
         requires { HasTaken (L.taken stream) [] }
         ensures taken { said_through (stream_of L.held L.taken L.failed) result ≡ Some [] }
@@ -51,8 +51,8 @@ impl<L: Stream> FrameSink<L> {
         }
     }
 
-    /// Appends what goes to the error output, in as many frames as it takes, and the frame of the end. Returns the line and the
-    /// response. If an allocation fails, the response ends before a frame, without the last one.
+    /// Appends the error output, in as many frames as it takes, and the last frame. Returns the stream and the response. If an
+    /// allocation fails, the response ends before a frame, without the last one.
     pub fn end(self, status: u8, err: &[u8]) -> (L, PendingResponse)
         ensures { (said : List ℕ) → said_through (stream_of L.held L.taken L.failed) self ≡ Some said → IsEnded (stream_of L.held L.taken L.failed) said status err.now result.0 result.1 }
     {
@@ -68,8 +68,8 @@ impl<L: Stream> FrameSink<L> {
     }
 }
 
-/// Says bytes in one frame behind an answer, whose line takes of it what it takes now. `Broken` where nothing was said: the
-/// line broke, memory was wanting, or the answer got too long.
+/// Appends bytes to a response, in one frame, and sends as much of the response as the stream accepts now. After `Broken` nothing
+/// was appended: the stream or an allocation failed, or the response got too long.
 fn say<L: Stream>(stream: &mut L, answer: &mut PendingResponse, bytes: &[u8]) -> Result<(), Broken>
     requires { length bytes.now ≤ MAX_FRAME }
     ensures goes_out { IsGoingOut (stream_of L.held L.taken L.failed) stream.old answer.old → IsGoingOut (stream_of L.held L.taken L.failed) stream.new answer.new }
@@ -82,7 +82,7 @@ fn say<L: Stream>(stream: &mut L, answer: &mut PendingResponse, bytes: &[u8]) ->
     }
     match put_output(&mut answer.bytes, bytes) {
         Ok(()) => {
-            // Where the line breaks now, the next call meets that.
+            // If the stream fails now, the next call reports it.
             let _ = deliver(stream, answer);
             Ok(())
         }

@@ -1,23 +1,23 @@
-//! An office that serves: clients over HTTP and orders that are handed over are heard side by side, and each has his turn, one
-//! after the other.
+//! The server: it services the connections of clients, over HTTP, and of orders that are handed over, side by side, and processes
+//! their requests one after the other.
 //!
-//! [`serve_connections`] lets in who comes to the [`Network`](connections::Network), at most 512 at once. [`service`] hears who goes on as far
-//! as his line lets him now. Once what he asks has come to its end, this is his turn: a client is served from what was
-//! gathered, and an order is followed in the open office. So nobody waits for another's line, and the office does one thing at
-//! a time. A read that is asked for again, while nothing has changed, is answered from memory. If clerks' codes are asked for, a
-//! request is let in by its clerk's code, and of wrong codes only so many are looked at within a minute.
+//! [`serve_connections`] accepts connections from a [`Network`](connections::Network), at most 512 at once. [`service`] receives as
+//! much of a request as has arrived. Once the request is complete, it is processed: a client's from the bytes that were received,
+//! an order's in the open office. So no connection waits for another's stream, and the office does one thing at a time. A read that
+//! is repeated while nothing has changed is answered from the cache. If the office has a gate, a request is let in by its clerk's
+//! code, and only so many wrong codes are checked within a minute.
 //!
-//! `specs/Exchanges.antt` says what is kept of those who had their turns, and `specs/ServedOrders.antt` what an order asks and what
-//! it prints. `specs/Reads.antt` says which answers and wrong codes are kept, and `specs/Servicing.antt` what a turn is.
-//! `specs/ServedConnections.antt` says how it went with each who came, and `specs/Servers.antt` what is promised of them all.
-//! `specs/Blind.antt` says that what a clerk is sent depends on what that clerk sees alone.
+//! `specs/Exchanges.antt` defines what is kept of the requests, and `specs/ServedOrders.antt` what an order asks and what it
+//! prints. `specs/Reads.antt` defines the cache and the rate limit, and `specs/Servicing.antt` what servicing a connection does.
+//! `specs/ServedConnections.antt` defines what happened to each connection, and `specs/Servers.antt` what is promised of all of
+//! them. `specs/Blind.antt` says that what a clerk is sent depends only on what that clerk sees.
 //!
 //! ```text
-//! serve_connections(alloc, &mut doors, terms, &aside, connections, &mut office)?    // or why it ended before (`ServeError`)
+//! serve_connections(alloc, &mut network, settings, &side_jobs, connections, &mut office)?    // or why it ended early (`ServeError`)
 //! ```
 #![tactic(auto)]
 
-// what an order asks, and what comes of it
+// what an order asks, and its output
 mod frame_sink;
 mod order_arrival;
 mod order_response;
@@ -26,9 +26,9 @@ mod served_order;
 mod server_memory;
 pub mod server_settings;
 pub mod side_jobs;
-// one who goes on
+// one connection
 pub mod servicing;
-// all that are in
+// all connections
 pub mod serve_error;
 mod serving;
 // what a clerk is sent

@@ -1,4 +1,4 @@
-//! An order that was handed over has its turn: it is followed in the open office, and its page goes out in frames.
+//! The response to an order: it is processed in the open office, and its output is sent in frames.
 
 ghost use Rattle.std.specs.Prelude.{◌≡◌, ◌-◌, ◌^◌, ◌<◌, ℕ, List, [], true};
 ghost use Rattle.sqlite.specs.State.{HasCleanDisk};
@@ -24,7 +24,7 @@ use std::alloc::Global;
 use store::Fault;
 use votes::Sink;
 
-/// The files that came with an order, and the folder in which it was given. At another path there is no file.
+/// The files that came with an order, and the folder in which it was typed. At any other path there is no file.
 #[derive(Clone, Copy)]
 struct AttachedFiles<'b> {
     folder: &'b [u8],
@@ -46,7 +46,8 @@ impl<'b> Folder for AttachedFiles<'b> {
     }
 }
 
-/// Prints what a closed office says of an order: that it is closed, of what is followed; and why anything else isn't.
+/// Prints what a closed office says of an order: that it is closed, of anything it would do; and otherwise why the order isn't
+/// followed.
 fn print_closed<O: Sink, E: Sink>(asked: &ServedOrder<'_>, out: &mut O, err: &mut E) -> u8
     requires out { O.failed out.old < 2 ^ 64 - 1 }
     requires err { E.failed err.old < 2 ^ 64 - 1 }
@@ -61,7 +62,7 @@ fn print_closed<O: Sink, E: Sink>(asked: &ServedOrder<'_>, out: &mut O, err: &mu
     }
 }
 
-/// Copies the office for an order, to a path as it is seen from the order's folder. A folder whose name isn't UTF-8 is none.
+/// Copies the office for an order, to a path as seen from the order's folder. There is no folder if its name isn't UTF-8.
 fn copy_for_order<A: SideJobs, S: Alter, O: Sink, E: Sink>(
     side_jobs: &A,
     attached: AttachedFiles<'_>,
@@ -82,7 +83,7 @@ fn copy_for_order<A: SideJobs, S: Alter, O: Sink, E: Sink>(
     }
 }
 
-/// Does what an order asks in an office that is open, and gives the status.
+/// Does what an order asks in an office that is open, and returns the status.
 fn do_open<A: SideJobs, S: Alter, O: Sink, E: Sink>(
     alloc: Global,
     side_jobs: &A,
@@ -108,8 +109,8 @@ fn do_open<A: SideJobs, S: Alter, O: Sink, E: Sink>(
     }
 }
 
-/// Does what an order asks in the office, which is open or closed, and gives the status. A closed office reports that it is
-/// closed, for whatever it would do otherwise.
+/// Does what an order asks in the office, which is open or closed, and returns the status. A closed office reports that it is
+/// closed, for anything it would do otherwise.
 fn do_asked<A: SideJobs, S: Alter, O: Sink, E: Sink>(
     alloc: Global,
     side_jobs: &A,
@@ -134,9 +135,9 @@ fn do_asked<A: SideJobs, S: Alter, O: Sink, E: Sink>(
     do_open(alloc, side_jobs, asked, attached, office, out, err)
 }
 
-/// Gives an order its turn, which asks this, and puts its page out in frames, over its line, which it
-/// gives back. What the line doesn't take now stays in the answer, which goes out side by side with
-/// those of others. Where memory is wanting for the frame of the end, the answer ends without it.
+/// Does what an order asks, and sends its output in frames on its stream, which is returned. What the stream doesn't accept now
+/// stays in the response, which is sent side by side with those of others. If the allocation for the last frame fails, the response
+/// ends without it.
 fn respond_to_asked<L: Stream, A: SideJobs, S: Alter>(
     alloc: Global,
     side_jobs: &A,
@@ -173,7 +174,7 @@ fn unless_gone<'w, A: SideJobs>(asked: ServedOrder<'w>, side_jobs: &A) -> Served
     }
 }
 
-/// Gives an order its turn that was read: it prints what the order asks, or why it isn't followed.
+/// Responds to an order that was decoded: with the output of what it asks, or with why it isn't followed.
 fn respond_to_message<L: Stream, A: SideJobs, S: Alter>(
     alloc: Global,
     file: FileNumbers,
@@ -209,11 +210,12 @@ fn respond_to_message<L: Stream, A: SideJobs, S: Alter>(
     respond_to_asked(alloc, side_jobs, &asked, attached, stream, office)
 }
 
-/// Gives an order its turn whose message was gathered: it is followed in the
-/// office, and its page goes out in frames, over its line, which is given back.
+/// Responds to an order whose message was received: it is processed in the office, and its output is sent in frames on its stream,
+/// which is returned.
 ///
-/// Bytes that spell no order, an order of another version of the program, and one over another file get what a file gets that
-/// another program holds (102). `init`, `migrate` and `serve` get the answer that the office is being served (111).
+/// The response is fault 102, as for a file that another program holds, if the bytes are no message, or if the order is from
+/// another version of the program or for another file. For `init`, `migrate` and `serve` it is that the office is being served
+/// (111).
 pub fn answer_order<L: Stream, A: SideJobs, S: Alter>(
     alloc: Global,
     file: FileNumbers,

@@ -1,6 +1,6 @@
-//! Answers to reads that are kept, to be given again while nothing changes.
+//! The cache of reads, whose responses are sent again while nothing changes.
 //!
-//! Whoever asks the same, byte for byte, gets the same. Before any turn that isn't a read, nothing is kept any more.
+//! The same request, byte for byte, gets the same response. Any request that isn't a read empties the cache before it is processed.
 
 ghost use Rattle.std.specs.Prelude.{◌≡◌, ◌⊎◌, ◌≤◌, ◌<◌, ◌++◌, ◌∷◌, [], IfSome, List, Option, ℕ, length, true};
 ghost use Rattle.std.specs.List.{Contains};
@@ -13,31 +13,31 @@ use connections::SliceSource;
 use std::alloc::Global;
 use wire::{HttpRequest, HttpSettings, read_request};
 
-/// The most bytes that are kept, of requests and answers together.
+/// The most bytes in the cache, of requests and responses together.
 const MAX_KEPT: usize = 16 << 20;
 
-/// The most answers that are kept.
+/// The most responses in the cache.
 const MAX_ANSWERS: usize = 512;
 
-/// How a request for a read begins. What begins otherwise isn't read twice.
+/// How a request for a read begins. Others aren't parsed twice.
 const GET: &[u8] = b"GET ";
 
-/// A request, and the answer to it.
+/// A request, and the response to it.
 #[derive(Drop)]
 pub struct CachedRead {
     pub got: Vec<u8>,
     pub answer: Vec<u8>,
 }
 
-/// The answers to reads that were given since anything may have changed, the oldest first.
+/// The responses to reads since anything may have changed, the oldest first.
 #[derive(Drop)]
 pub struct ReadCache {
     pub answers: Vec<CachedRead>,
     pub bytes: usize,
 }
 
-/// Whether bytes ask for a read: a clerk's work, the candidates of his batch, a stage sheet or a declaration. Where memory is
-/// wanting, they don't.
+/// Returns whether bytes ask for a read: a clerk's work, the candidates of the clerk's batch, a stage sheet or a declaration.
+/// Returns false if an allocation fails.
 pub fn asks_reading(alloc: Global, settings: HttpSettings<'_>, got: &[u8]) -> bool
     ensures { result ≡ true → (what : Resource) × Asks (settings_entry settings.entry) got.now (reading what) }
 {
@@ -52,7 +52,7 @@ pub fn asks_reading(alloc: Global, settings: HttpSettings<'_>, got: &[u8]) -> bo
 }
 
 impl ReadCache {
-    /// Nothing is kept yet. Takes no memory.
+    /// Returns an empty cache. Allocates nothing.
     pub fn new(alloc: Global) -> ReadCache
         ensures { reads_in result ≡ [] }
     {
@@ -62,7 +62,7 @@ impl ReadCache {
         }
     }
 
-    /// Nothing is kept any more.
+    /// Empties the cache.
     pub fn empty(&mut self)
         ensures { reads_in self.new ≡ [] }
     {
@@ -70,7 +70,7 @@ impl ReadCache {
         self.bytes = 0;
     }
 
-    /// The answer that these bytes got, if one is kept, and memory isn't wanting for it.
+    /// Returns the response to these bytes, if it is in the cache, and can be allocated.
     pub fn get(&self, alloc: Global, got: &[u8]) -> Option<Vec<u8>>
         ensures { IfSome result (λ answer. (entry : ReadEntry) × Contains (reads_in self.now) entry × (entry.got ≡ got.now) × (entry.answer ≡ answer.items)) }
     {
@@ -85,7 +85,7 @@ impl ReadCache {
         None
     }
 
-    /// Lets the oldest go, until so many bytes more may be kept.
+    /// Removes the oldest responses, until the cache has room for so many bytes more.
     fn make_room(&mut self, more: usize)
         ensures { (gone : List ReadEntry) × (reads_in self.old ≡ gone ++ reads_in self.new) }
     {
@@ -103,7 +103,7 @@ impl ReadCache {
         }
     }
 
-    /// Keeps an answer, if there is room for it: the oldest are let go. Where memory is wanting, it isn't kept.
+    /// Keeps a response, and removes the oldest ones to make room. It isn't kept if an allocation fails.
     pub fn keep(&mut self, alloc: Global, got: &[u8], answer: &[u8])
         ensures { (gone kept : List ReadEntry) × (reads_in self.old ≡ gone ++ kept)
             × ((reads_in self.new ≡ kept) ⊎ (reads_in self.new ≡ kept ++ record { got = got.now; answer = answer.now } ∷ [])) }

@@ -1,11 +1,11 @@
-//! Why serving ended before all came that were to come.
+//! Why serving ended early.
 
-/// Why serving ended before all came that were to come.
+/// Why serving ended early.
 #[derive(Clone, Copy, Debug, PartialEq, Eq, Drop)]
 pub enum ServeError {
-    /// The doors failed, or their clock.
+    /// The network failed, or its clock.
     Network,
-    /// There was no memory for those that may be in at once.
+    /// The table of connections couldn't be allocated.
     Memory,
     /// There were as many rounds as there are numbers of 64 bits.
     Rounds,

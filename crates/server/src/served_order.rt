@@ -1,4 +1,4 @@
-//! What an order asks that is handed over.
+//! What an order asks of the server.
 
 ghost use Rattle.std.specs.Prelude.{◌≡◌, ◌⊎◌, ◌↔◌, IfErr, IfOk, map, true};
 ghost use Rattle.std.specs.List.{list_all};
@@ -13,22 +13,22 @@ use order_protocol::{DecodeError, MessagePart, OrderMessage, decode_message};
 use std::alloc::Global;
 use store::Fault;
 
-/// What an order asks that is handed over.
+/// What an order asks of the server.
 #[derive(Drop)]
 pub enum ServedOrder<'a> {
-    /// That the office does this.
+    /// To do this in the office.
     Do(Job<'a>),
-    /// A copy of the office at a path, where nothing is yet.
+    /// A copy of the office at a path, at which there is nothing yet.
     Copy(&'a str),
     /// The journal of the office.
     Journal,
-    /// What isn't followed, for this reason.
+    /// Nothing that is followed, for this reason.
     Refused(Failure),
     /// Nothing: its words are no order.
     Misread(WordsFault),
 }
 
-/// The order that a message spells; or why there is none: memory was wanting, or the bytes spell none.
+/// Decodes the order of a message. The errors are that an allocation failed, and that the bytes are no message.
 pub fn read_message<'b>(alloc: Global, message: &'b [u8]) -> Result<OrderMessage<'b>, Fault>
     ensures ok { IfOk result (λ h. Fits (order_message_entry h) × (message.now ≡ encoding_of (order_message_entry h))) }
     ensures err { IfErr result (λ fault. (fault ≡ Fault.Memory) ⊎ ((fault ≡ Fault.Store) × ((h : OrderMessageEntry) → Fits h → message.now ≡ encoding_of h → ⊥))) }
@@ -40,7 +40,7 @@ pub fn read_message<'b>(alloc: Global, message: &'b [u8]) -> Result<OrderMessage
     }
 }
 
-/// The words of an order that is handed over; or why there are none: memory was wanting, or one isn't UTF-8.
+/// Returns the words of an order. The errors are that an allocation failed, and that a word isn't UTF-8.
 pub fn words_of<'b>(alloc: Global, words: &[MessagePart<'b>]) -> Result<Vec<&'b str>, Fault>
     ensures ok { IfOk result (λ texts. map (λ text. text.now) texts.items ≡ map (λ p. p.name.now) words.now) }
     ensures err { IfErr result (λ fault. (fault ≡ Fault.Memory) ⊎ ((fault ≡ Fault.Store) × (list_all is_utf8 (map (λ p. p.name.now) words.now) ≡ true → ⊥))) }
@@ -59,7 +59,7 @@ pub fn words_of<'b>(alloc: Global, words: &[MessagePart<'b>]) -> Result<Vec<&'b 
     Ok(texts)
 }
 
-/// Whether an order was handed over by this version of the program, and over the file that is served.
+/// Returns whether an order comes from this version of the program, and is for the file that is served.
 pub fn is_for_file(handed: &OrderMessage<'_>, file: FileNumbers) -> bool
     ensures { (result ≡ true) ↔ IsForFile file (order_message_entry handed.now) }
 {
@@ -68,7 +68,8 @@ pub fn is_for_file(handed: &OrderMessage<'_>, file: FileNumbers) -> bool
         && handed.inode == file.inode
 }
 
-/// What an order asks that was handed over for the file that is served. `init`, `migrate` and `serve` get the answer that the office is being served.
+/// Returns what an order asks that is for the file that is served. For `init`, `migrate` and `serve` that is refused: the office is
+/// being served.
 pub fn served_order_by<'w>(alloc: Global, words: &'w [&'w str]) -> ServedOrder<'w>
     ensures { (h : OrderMessageEntry) → map (λ p. p.name) h.words ≡ map (λ word. word.now) words.entry.now → AsksSo h result }
 {

@@ -1,4 +1,4 @@
-//! What an office that serves keeps in memory.
+//! What a server keeps in memory.
 
 ghost use Rattle.std.specs.Prelude.{◌≡◌, [], option_map};
 ghost use Rattle.codes.specs.RateLimits.{limit_entry, none_wrong};
@@ -10,7 +10,7 @@ use codes::RateLimit;
 use std::alloc::Global;
 use wire::Authentication;
 
-/// The responses to reads since anything may have changed; and the wrong codes that came.
+/// The cache of reads; and the wrong codes that came.
 #[derive(Drop)]
 pub struct ServerMemory {
     pub reads: ReadCache,
@@ -18,7 +18,7 @@ pub struct ServerMemory {
 }
 
 impl ServerMemory {
-    /// No response is kept yet, and no wrong code came. Takes no memory.
+    /// Returns a memory without responses, and without wrong codes. Allocates nothing.
     pub fn new(alloc: Global) -> ServerMemory
         ensures { memory_entry result ≡ record { reads = []; limit = none_wrong } }
     {
@@ -28,7 +28,7 @@ impl ServerMemory {
         }
     }
 
-    /// Returns whether a client is told to wait at a moment: its code is wrong, and as many wrong codes came as may.
+    /// Returns whether a client must wait at a moment: its code is wrong, and the rate limit is reached.
     pub fn must_wait(&self, authentication: Option<Authentication>, now: u64) -> bool
         ensures { result ≡ must_wait (option_map authentication_entry authentication) now (limit_entry self.now.limit) }
     {
@@ -38,7 +38,7 @@ impl ServerMemory {
         }
     }
 
-    /// Counts a wrong code, if one came with this client.
+    /// Counts a wrong code, if this client sent one.
     pub fn note(&mut self, authentication: Option<Authentication>, now: u64)
         ensures reads { reads_in self.new.reads ≡ reads_in self.old.reads }
         ensures limit { limit_entry self.new.limit ≡ limit_after (option_map authentication_entry authentication) now (limit_entry self.old.limit) }

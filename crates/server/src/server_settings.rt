@@ -1,4 +1,4 @@
-//! What an office that serves goes by.
+//! The settings of a server.
 
 use wire::HttpSettings;
 
@@ -9,8 +9,7 @@ pub struct FileNumbers {
     pub inode: u64,
 }
 
-/// What the office was given for its clients, the origin of a proxy and the gate, if any; and the file that is served, for
-/// which orders are handed over.
+/// The settings of HTTP: the origin of a proxy and the gate, if any; and the file that is served, for which orders are handed over.
 #[derive(Clone, Copy)]
 pub struct ServerSettings<'a> {
     pub http: HttpSettings<'a>,

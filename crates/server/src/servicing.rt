@@ -1,4 +1,4 @@
-//! Who goes on, a client or an order: he is heard, has his turn once what he asks has come to its end, and gets his answer.
+//! How a connection is serviced: its request is received, processed once it is complete, and its response is sent.
 
 ghost use Rattle.std.specs.Prelude.{◌≡◌, ◌≢◌, ◌⊎◌, ℕ, [], Err, None, Ok, Some, false, true};
 ghost use Rattle.sqlite.specs.Held.{state};
@@ -36,24 +36,24 @@ use wire::{
     serve_one, write_gone_response, write_wait_response,
 };
 
-/// How many bytes of a client are heard before it is looked what they lack: as many as the head of a request may have.
+/// How many bytes of a request are received before it is checked what is missing: as many as a head may have.
 const FRONT: usize = 8192;
 
-/// The status of an answer with a fault, which isn't kept.
+/// The status of a response with a fault, which isn't cached.
 const FAULT: u16 = 503;
 
-/// What became of one that went on.
+/// The outcome of servicing a connection.
 #[derive(Clone, Copy)]
 pub enum Serviced {
-    /// More is to come of it, or it has more to take.
+    /// More of its request is to come, or more of its response is to be sent.
     Waits,
-    /// It had its turn just now, and has more to take.
+    /// Its request was processed just now, and more of its response is to be sent.
     Served,
-    /// It leaves, for this reason.
+    /// It is to be closed, for this reason.
     Leaves(CloseReason),
 }
 
-/// Hears the body of what a client asks, for which so many bytes in all are wanted; whether it has come to its end.
+/// Receives the body of a request, for which so many bytes in all are wanted. Returns whether the request is complete.
 fn receive_body<L: Stream>(
     alloc: Global,
     settings: HttpSettings<'_>,
@@ -77,7 +77,7 @@ fn receive_body<L: Stream>(
     }
 }
 
-/// Hears what a client asks; whether it has come to its end.
+/// Receives a client's request. Returns whether it is complete.
 fn receive_request<L: Stream>(
     alloc: Global,
     settings: HttpSettings<'_>,
@@ -101,7 +101,7 @@ fn receive_request<L: Stream>(
     }
 }
 
-/// Hears who has no answer yet; whether what he asks has come to its end.
+/// Receives more of a connection that has no response yet. Returns whether its request is complete.
 fn receive<L: Stream>(
     alloc: Global,
     settings: HttpSettings<'_>,
@@ -120,7 +120,7 @@ fn receive<L: Stream>(
     }
 }
 
-/// Whether an answer was given whole, and is no fault.
+/// Returns whether a response was written whole, and is no fault.
 fn tells_no_fault(served: Served) -> bool
     ensures { result ≡ true → TellsNoFault served }
 {
@@ -131,8 +131,8 @@ fn tells_no_fault(served: Served) -> bool
     }
 }
 
-/// Serves a client of whom these bytes were gathered, and gives his answer, of which nothing went out yet; and whether it is
-/// whole, and without a fault. Where memory is wanting for it, it is a beginning.
+/// Serves a client from the bytes that were received. Returns the response, of which nothing was sent yet, and whether it is whole
+/// and no fault. If an allocation fails, it is a beginning.
 fn served<S: Alter>(
     alloc: Global,
     settings: HttpSettings<'_>,
@@ -153,7 +153,7 @@ fn served<S: Alter>(
     (writer.into_bytes(), is_told)
 }
 
-/// Whether a client asks for a read, and the office is open for it. Where memory is wanting, he doesn't.
+/// Returns whether a client asks for a read, and the office is open for it. Returns false if an allocation fails.
 fn is_reading<S: Alter>(
     alloc: Global,
     settings: HttpSettings<'_>,
@@ -169,8 +169,8 @@ fn is_reading<S: Alter>(
     asks_reading(alloc, settings, got)
 }
 
-/// The answer to a client who asks for a read. What is read anew is kept for who
-/// asks the same; and where an answer to the same is kept, it is given again.
+/// Returns the response to a client that asks for a read: from the cache, if it is there. Otherwise the office is read, and the
+/// response is kept.
 fn read_answer<S: Alter>(
     alloc: Global,
     settings: HttpSettings<'_>,
@@ -196,8 +196,8 @@ fn read_answer<S: Alter>(
     PendingResponse { bytes, sent: 0 }
 }
 
-/// The answer to a client who is let in, of whom these bytes were gathered; nothing of it went out yet. Before anything but a
-/// read no answer is kept any more.
+/// Returns the response to a client that is let in, from the bytes that were received; nothing of it was sent yet. Anything but a
+/// read empties the cache first.
 fn answered<S: Alter>(
     alloc: Global,
     settings: HttpSettings<'_>,
@@ -218,7 +218,7 @@ fn answered<S: Alter>(
     PendingResponse { bytes, sent: 0 }
 }
 
-/// The answer to a client who must wait; nothing of it went out yet.
+/// Returns the response that a client must wait; nothing of it was sent yet.
 fn wait_response(alloc: Global) -> PendingResponse
     ensures told { (exchange : Exchange) → exchange.answer ≡ result.bytes.items → IsWaitResponse exchange }
     ensures untold { result.sent ≡ 0 }
@@ -231,7 +231,7 @@ fn wait_response(alloc: Global) -> PendingResponse
     }
 }
 
-/// The moment of a turn: the time of the clock, and whether the file of the office is whole then.
+/// The moment at which a request is processed: the time of the clock, and whether the file of the office is whole then.
 #[derive(Clone, Copy)]
 struct Moment {
     now: u64,
@@ -239,7 +239,7 @@ struct Moment {
 }
 
 impl Moment {
-    /// Looks at the file of the office at a time.
+    /// Returns the moment at a time of the clock, and looks at the file of the office.
     fn of<A: SideJobs>(now: u64, side_jobs: &A) -> Moment
         ensures { result.now ≡ now }
     {
@@ -250,7 +250,7 @@ impl Moment {
     }
 }
 
-/// Returns the response while the file of the office is gone or replaced; nothing of it went out yet.
+/// Returns the response while the file of the office is gone or replaced; nothing of it was sent yet.
 fn gone_response(alloc: Global) -> PendingResponse
     ensures told { (exchange : Exchange) → exchange.answer ≡ result.bytes.items → IsGoneResponse exchange }
     ensures untold { result.sent ≡ 0 }
@@ -263,9 +263,9 @@ fn gone_response(alloc: Global) -> PendingResponse
     }
 }
 
-/// Returns the response to a client of which these bytes were gathered; nothing of it went out yet. If its code is wrong, and as
-/// many wrong codes came as may, it is told to wait. If the file of the office isn't whole, it is told so, unless it asks for a
-/// read. Nothing else comes of either. Else it is counted if its code was wrong.
+/// Returns the response to a client, from the bytes that were received; nothing of it was sent yet. If its code is wrong, and the
+/// rate limit is reached, it must wait. If the file of the office isn't whole, the response says so, unless the client asks for a
+/// read. Nothing else is done in either case. Otherwise the code is counted if it was wrong.
 fn answer_client<S: Alter>(
     alloc: Global,
     settings: HttpSettings<'_>,
@@ -290,8 +290,8 @@ fn answer_client<S: Alter>(
     answer
 }
 
-/// The answer to who came in at a door, of whom all was heard, and his line
-/// again. To a client nothing went out yet, and to an order what its line took.
+/// Returns the stream of a connection, and the response to its complete request. Nothing of a client's response was sent yet, and
+/// of an order's as much as its stream accepted.
 fn answer_to<L: Stream, A: SideJobs, S: Alter>(
     alloc: Global,
     server_settings: ServerSettings<'_>,
@@ -328,7 +328,7 @@ fn answer_to<L: Stream, A: SideJobs, S: Alter>(
     }
 }
 
-/// Drops what is still to come of the request of a client that has its whole response.
+/// Drops what is still to come of the request of a client to which its whole response was sent.
 fn drop_rest<L: Stream>(client: &mut Client<L>) -> Serviced
     requires { IsSentWhole client.old }
     ensures is { (start : L) → IsOf (stream_of L.held L.taken L.failed) start client.old → IsOf (stream_of L.held L.taken L.failed) start client.new }
@@ -337,12 +337,12 @@ fn drop_rest<L: Stream>(client: &mut Client<L>) -> Serviced
 {
     match client.drop_unread() {
         Ok(false) => Serviced::Waits,
-        // It has its whole response, even if its line fails now.
+        // Its whole response was sent, even if its stream fails now.
         Ok(true) | Err(Broken) => Serviced::Leaves(CloseReason::Done),
     }
 }
 
-/// Writes more of its response to a client, if it has one.
+/// Sends more of the response, if there is one.
 fn send_more<L: Stream>(client: &mut Client<L>) -> Serviced
     ensures is { (start : L) → IsOf (stream_of L.held L.taken L.failed) start client.old → IsOf (stream_of L.held L.taken L.failed) start client.new }
     ensures same { IsSameClient client.old client.new }
@@ -360,7 +360,7 @@ fn send_more<L: Stream>(client: &mut Client<L>) -> Serviced
     }
 }
 
-/// Returns how many bytes are still to come of what came in at a door, and has its turn now.
+/// Returns how many bytes are still to come of a request that is processed now.
 fn unread_at(listener: Listener, got: &[u8]) -> usize {
     match listener {
         Listener::Clients => body_to_come(got),
@@ -368,7 +368,8 @@ fn unread_at(listener: Listener, got: &[u8]) -> usize {
     }
 }
 
-/// Who was heard to the end has his turn: he is served, or followed, from that alone, and gets of his answer what he takes now.
+/// Processes a complete request, from the bytes that were received alone, and sends as much of the response as the stream accepts
+/// now.
 fn respond<L: Stream, A: SideJobs, S: Alter>(
     alloc: Global,
     server_settings: ServerSettings<'_>,
@@ -424,11 +425,12 @@ fn respond<L: Stream, A: SideJobs, S: Alter>(
     }
 }
 
-/// A client, or an order that is handed over, goes on at a moment, in milliseconds of a clock, as far as his line lets him now.
-/// He is heard. Once what he asks has come to its end, this is his turn: he is served, or answered that he must wait for wrong
-/// codes. Then he gets his answer. He is given back, with what became of him.
+/// Services a connection at a moment, in milliseconds of a clock, as far as its stream allows now. It receives more of the request.
+/// Once that is complete, it processes the request, or responds that the client must wait because of wrong codes. Then it sends the
+/// response. Returns the connection, and the outcome.
 ///
-/// What is gathered of him are his own bytes, from his first one on, and what he gets is the answer to just these. Nobody else is touched.
+/// What is received of a connection are its own bytes, from the first one on, and its response is the one to exactly these. No
+/// other connection is touched.
 pub fn service<L: Stream, A: SideJobs, S: Alter>(
     alloc: Global,
     server_settings: ServerSettings<'_>,

@@ -1,4 +1,4 @@
-//! An office that serves: clients and orders come in, go on side by side, and have their turns one after the other.
+//! The server: connections are accepted, serviced side by side, and their requests are processed one after the other.
 
 ghost use Rattle.std.specs.Prelude.{◌≡◌, ◌≤◌, ◌*◌, ◌<◌, ℕ, Bool, List, [], IfSome, Ok, OnOk, Result, Some, is_some, length, map, true};
 ghost use Rattle.std.specs.Duration.{as_nanos};
@@ -35,10 +35,10 @@ use std::alloc::Global;
 use std::time::Duration;
 use votes::Broken;
 
-/// How long the next look at the doors may be put off, in milliseconds, while somebody waits there of whom no event may tell.
+/// How long the next look at the network may be put off, in milliseconds, while a connection may be pending that no event reports.
 const LOOK: u64 = 1_000;
 
-/// The most that come in before those that are in go on.
+/// The most connections that are accepted before the open ones are serviced.
 const ACCEPTS_PER_ROUND: usize = 64;
 
 /// The most rounds of serving.
@@ -57,8 +57,8 @@ fn moment_at_gate<D: Network>(
     }
 }
 
-/// One of those that are in goes on at a moment, and is given back; and for what reason it leaves, if it does. Its half minute
-/// begins anew once it has its response: however long its turn took, it has all of it.
+/// Services an open connection at a moment. Returns it, and why it is to be closed, if it is. Its time limit begins again once it
+/// has its response: however long processing took, it has all of its time.
 fn service_now<D: Network, A: SideJobs, S: Alter>(
     alloc: Global,
     network: &mut D,
@@ -98,8 +98,8 @@ fn service_now<D: Network, A: SideJobs, S: Alter>(
     }
 }
 
-/// One of those that are in goes on, and is given back; and for what reason it leaves, if it does. If the clock fails at the gate,
-/// it doesn't go on.
+/// Services an open connection. Returns it, and why it is to be closed, if it is. If the clock fails at the gate, the connection
+/// isn't serviced.
 fn service_one<D: Network, A: SideJobs, S: Alter>(
     alloc: Global,
     network: &mut D,
@@ -131,7 +131,7 @@ fn service_one<D: Network, A: SideJobs, S: Alter>(
     }
 }
 
-/// The one at a place goes on. If it is done or lost, it leaves. If the clock fails, it stays where it was.
+/// Services the connection at a place. It is closed if it is done or lost. If the clock fails, it stays where it was.
 fn service_at<D: Network, A: SideJobs, S: Alter>(
     alloc: Global,
     network: &mut D,
@@ -183,7 +183,7 @@ fn service_at<D: Network, A: SideJobs, S: Alter>(
     }
 }
 
-/// The one with a number goes on, if it is in.
+/// Services the connection with a number, if it is open.
 fn service_numbered<D: Network, A: SideJobs, S: Alter>(
     alloc: Global,
     network: &mut D,
@@ -219,7 +219,7 @@ fn service_numbered<D: Network, A: SideJobs, S: Alter>(
     }
 }
 
-/// Each that may go on goes on, in the order in which the doors name them.
+/// Services each connection that is ready, in the order in which the network reports them.
 fn service_ready<D: Network, A: SideJobs, S: Alter>(
     alloc: Global,
     network: &mut D,
@@ -257,8 +257,8 @@ fn service_ready<D: Network, A: SideJobs, S: Alter>(
     Ok(())
 }
 
-/// Lets in the next that waits at the doors, as far as there is room, or room is made: an order, or a client, as long as fewer
-/// clients came than are to come. If nobody came in, it returns how long the next look at the doors may be put off, in milliseconds.
+/// Accepts the next pending connection, if there is room, or room can be made: an order, or a client unless all clients were
+/// accepted. If none was accepted, it returns how long the next look at the network may be put off, in milliseconds.
 fn accept_one<D: Network>(
     alloc: Global,
     network: &mut D,
@@ -299,8 +299,7 @@ fn accept_one<D: Network>(
     }
 }
 
-/// Lets in those that wait at the doors, as far as may be, and returns how long the next look at the doors may be put off, in
-/// milliseconds.
+/// Accepts pending connections, and returns how long the next look at the network may be put off, in milliseconds.
 fn accept_pending<D: Network>(
     alloc: Global,
     network: &mut D,
@@ -325,7 +324,7 @@ fn accept_pending<D: Network>(
     0
 }
 
-/// Returns how long the next look may be put off: so long at most, and no longer than until the first half minute is over.
+/// Returns how long the next look may be put off: at most for this long, and no longer than until the first time limit is over.
 fn pause<L>(table: &ConnectionTable<L>, look: u64, now: u64) -> Duration
     ensures { as_nanos result ≤ look * 1_000_000 }
 {
@@ -338,8 +337,8 @@ fn pause<L>(table: &ConnectionTable<L>, look: u64, now: u64) -> Duration
     }
 }
 
-/// One round: those that are in go on, late ones are closed, more come in, and it waits until somebody may go on. Returns whether
-/// all have come that were to come, and all of them left.
+/// One round: the open connections are serviced, those that are timed out are closed, more are accepted, and it waits until a
+/// connection is ready. Returns whether all clients were accepted, and all connections are closed.
 fn serve_round<D: Network, A: SideJobs, S: Alter>(
     alloc: Global,
     network: &mut D,
@@ -379,7 +378,7 @@ fn serve_round<D: Network, A: SideJobs, S: Alter>(
     Ok(false)
 }
 
-/// Serves in a room until all have come that were to come, and all of them left.
+/// Serves until all clients were accepted, and all connections are closed.
 fn serve_rounds<D: Network, A: SideJobs, S: Alter>(
     alloc: Global,
     network: &mut D,
@@ -419,33 +418,33 @@ fn serve_rounds<D: Network, A: SideJobs, S: Alter>(
     Err(ServeError::Rounds)
 }
 
-/// Serves those who come to the doors of an office, by what it was given: the origin of a proxy and the gate, if any. It goes on
-/// until so many clients came in and all who are in left, or without end, where no number is given. Orders that are handed over
-/// come in too, before clients, and don't count.
+/// Serves the connections of a network, by the settings: the origin of a proxy and the gate, if any. It serves until so many
+/// clients were accepted and all connections are closed, or without end if no number is given. Orders are accepted too, before
+/// clients, and don't count.
 ///
-/// All are heard side by side, and side by side they get their answers. Each has his turn once what he asks has come to its
-/// end: a client is served whole in it, and an order is followed whole, in the very office. At most 512 are in at once, with
-/// 64 MiB of what they sent and are to take. Past that the next waits at the doors, and who has waited longest is let go for
-/// him, if that is a second at least. One has half a minute for what he asks, and half a minute more to take his answer. Who is
-/// let go gets no answer. Who can't be let in now is let in later.
+/// Requests are received side by side, and responses are sent side by side. A request is processed once it is complete: a client's
+/// as a whole, and an order's as a whole, in the same office. At most 512 connections are open at once, with 64 MiB of their
+/// requests and responses. If there are more, the next one stays pending, and the client that has waited longest is closed for it,
+/// provided that it has waited for a second. A connection has half a minute to send its request, and half a minute more to accept
+/// its response. One that is closed early gets no response. One that can't be accepted now is accepted later.
 ///
 /// At the gate a request is let in by its clerk's code, whatever wrong codes came. Once 6,000 wrong codes came within a minute, a
-/// request with a wrong code is told to wait, for the rest of that minute. The moments are those that the clock shows.
+/// request with a wrong code must wait for the rest of that minute. The moments are those that the clock shows.
 ///
-/// What is gathered of a client, or of an order, are his own bytes, from the first one on, and what he gets is the answer to just
-/// these. Nothing changes an open office but clerks' keyings, at most one a client, and the requests of orders. Whatever a stop
-/// leaves is the state after those that were answered, and at most one more. Each is answered as the office's machine says where
-/// his turn comes. A closed office stays as it is.
+/// What is received of a connection are its own bytes, from the first one on, and what it is sent is the response to exactly these.
+/// Nothing changes an open office but clerks' keyings, at most one for each client, and the requests of orders. Whatever a stop
+/// leaves is the state after the requests that were answered, and at most one more. Each is answered as the office's machine says
+/// at the state at which it is processed. A closed office stays as it is.
 ///
-/// By the doors' clock a connection is closed as late only once its half minute is over, counted from when it came in or had its
-/// turn. It is closed for room only while the room is full, or if the doors have nothing left for one more. Those that are in as
-/// serving ends are closed last, and nobody is after an end without a failure.
+/// By the network's clock a connection is closed as timed out only once its half minute is over, counted from when it was accepted
+/// or its request was processed. It is closed to make room only while the table is full, or if the system has no room for one more.
+/// The connections that are open as serving ends are closed last, and none is open after an end without a failure.
 ///
-/// What each clerk sees of the office determines what is sent under that clerk's number, up to a fault, and but for the responses
-/// to wait and that the file is gone.
+/// What each clerk sees of the office determines what is sent under that clerk's number, up to a fault, and except for the
+/// responses to wait and that the file is gone.
 ///
-/// The error says why it ended before: the doors or their clock failed, there was no memory for a room, or there were as many
-/// rounds as there are numbers. What was answered before stands. Whoever is in then is closed.
+/// The error says why serving ended early: the network or its clock failed, the table couldn't be allocated, or there were as many
+/// rounds as there are numbers. What was answered before stands. The connections that are open then are closed.
 pub fn serve_connections<D: Network, A: SideJobs, S: Alter>(
     alloc: Global,
     network: &mut D,

@@ -1,4 +1,4 @@
-//! What an order needs beside the office that is open: a new file for a copy, and an empty database for the trial of a journal.
+//! What an order needs next to the office that is open: a new file for a copy, and an empty database for the trial of a journal.
 
 ghost use Rattle.std.specs.Prelude.{◌≡◌, ◌-◌, ◌^◌, ◌<◌, true};
 ghost use Rattle.sqlite.specs.Held.{state};
@@ -12,13 +12,13 @@ use office::Office;
 use sqlite::Alter;
 use votes::Sink;
 
-/// Copies an open office to a new file, and prints its journal. The office goes on, and is only read; which files these are,
-/// the program says.
+/// Copies an open office to a new file, and prints its journal. The office continues, and is only read; the program decides which
+/// files these are.
 pub trait SideJobs {
     /// Returns whether the file of the office is still there, whole, and no other in its place. Nothing can be promised of a file.
     fn is_whole(&self) -> bool;
 
-    /// Copies the office to the file at a path, as it is seen from a folder, and prints how much the copy has.
+    /// Copies the office to the file at a path, as seen from a folder, and prints how much the copy has.
     fn copy<S: Alter, O: Sink, E: Sink>(
         &self,
         office: &mut Office<S>,

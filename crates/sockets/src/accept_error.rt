@@ -7,7 +7,7 @@ use crate::socket::Socket;
 use connections::AcceptOutcome;
 use std::io;
 
-/// The numbers of errors by Linux that this crate tells apart.
+/// The error numbers of Linux that this crate distinguishes.
 const ENOMEM: u32 = 12;
 
 const ENFILE: u32 = 23;
@@ -24,7 +24,7 @@ pub(crate) const EAFNOSUPPORT: u32 = 97;
 
 pub(crate) const EADDRNOTAVAIL: u32 = 99;
 
-/// Returns the error's number by Linux; 0 for an error that isn't the system's.
+/// Returns the error's number on Linux; 0 for an error that isn't the system's.
 pub(crate) fn errno(error: &io::Error) -> u32
     ensures { result ≡ errno_of error.now }
 {
@@ -36,8 +36,8 @@ pub(crate) fn errno(error: &io::Error) -> u32
 
 /// Returns whether the system has no descriptor or memory left for one more connection.
 ///
-/// The machine is out of files (ENFILE), this process is (EMFILE), memory is out (ENOMEM, ENOBUFS), or no more sockets may be watched
-/// (ENOSPC).
+/// The machine is out of files (ENFILE), this process is (EMFILE), memory is out (ENOMEM, ENOBUFS), or no more sockets may be
+/// polled (ENOSPC).
 fn is_out_of_room(error: &io::Error) -> bool
     ensures { result ≡ is_out_of_room error.now }
 {
@@ -46,8 +46,8 @@ fn is_out_of_room(error: &io::Error) -> bool
 
 /// Returns what an error of a listener means.
 ///
-/// Nobody waits (EAGAIN); the system has no room for one more connection, and closing one makes some; or, for any other error, such as
-/// ECONNABORTED, the one connection that was next failed.
+/// No connection is pending (EAGAIN); the system has no room for one more connection, and closing one makes some; or, for any other
+/// error, such as ECONNABORTED, the next connection failed.
 pub(crate) fn outcome_of_error(error: &io::Error) -> AcceptOutcome<Socket>
     ensures { result ≡ outcome_of error.now }
 {

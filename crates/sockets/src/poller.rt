@@ -1,4 +1,4 @@
-//! What says which connections may continue, and whether another waits at a door.
+//! What reports which connections are ready, and whether another is pending.
 
 ghost use Rattle.std.specs.Prelude.{◌≡◌, ◌+◌, ◌<◌, ◌⊎◌, IfNone, IfOk, IfSome, None};
 ghost use Rattle.connections.specs.declared.client.Listener.{Listener};
@@ -21,7 +21,7 @@ use std::net::Net;
 use std::time::Duration;
 use votes::Broken;
 
-/// How many events the system may name at once.
+/// How many events the system may report at once.
 const EVENTS: usize = 1024;
 
 /// The tokens of the listeners: at 127.0.0.1, at [::1], and of orders. Those of connections follow.
@@ -31,14 +31,14 @@ const IPV6: usize = 1;
 
 const ORDERS: usize = 2;
 
-/// Returns the token of the connection with a number; none if there are no more tokens.
+/// Returns the token of the connection with a number; `None` if there are no more tokens.
 fn token_of(number: u64) -> Option<Token>
     ensures { IfSome result (λ token. token.0 ≡ number + 3) }
 {
     Some(Token(usize::try_from(number.checked_add(3)?).ok()?))
 }
 
-/// Returns the number of the connection that has a token; none for a listener's.
+/// Returns the number of the connection that has a token; `None` for a listener's.
 fn number_of(token: Token) -> Option<u64>
     ensures some { IfSome result (λ number. token.0 ≡ number + 3) }
     ensures none { IfNone result (token.0 < 3) }
@@ -46,7 +46,7 @@ fn number_of(token: Token) -> Option<u64>
     (token.0 as u64).checked_sub(3)
 }
 
-/// What is known of those who wait at the doors.
+/// What is known of pending connections.
 #[derive(Clone, Copy)]
 pub enum Waiting {
     Nobody,
@@ -54,7 +54,7 @@ pub enum Waiting {
     Somebody,
 }
 
-/// The listeners, and the sockets of the connections that were let in.
+/// The listeners, and the registry of the accepted connections' sockets.
 #[derive(Drop)]
 pub struct Poller {
     poll: Poll,
@@ -66,7 +66,7 @@ pub struct Poller {
     waiting: Waiting,
 }
 
-/// Watches a listener, if there is one.
+/// Registers a listener, if there is one.
 fn watch_listener<S: Source + Drop>(
     poll: &Poll,
     listener: Option<S>,
@@ -84,7 +84,7 @@ fn watch_listener<S: Source + Drop>(
     }
 }
 
-/// Watches the listeners at both loopback addresses.
+/// Registers the listeners at both loopback addresses.
 fn watch_clients(poll: &Poll, clients: Loopback) -> io::Result<Loopback>
     ensures { IfOk result (λ watched. watched ≡ clients) }
 {
@@ -96,7 +96,7 @@ fn watch_clients(poll: &Poll, clients: Loopback) -> io::Result<Loopback>
 }
 
 impl Poller {
-    /// Watches the listeners of clients and, if there is one, that of orders. Nobody came in yet.
+    /// Registers the listeners of clients and, if there is one, that of orders. No connection was accepted yet.
     pub fn new(
         net: &impl Net,
         alloc: Global,
@@ -120,7 +120,7 @@ impl Poller {
         })
     }
 
-    /// Watches the socket of a connection from now on. If that fails, the connection is closed.
+    /// Registers the socket of a connection. If that fails, the connection is closed.
     fn watched<S: Source + Drop>(&self, mut stream: S, number: u64) -> io::Result<S>
         ensures { IfOk result (λ watched. S.keeps stream watched) }
     {
@@ -132,7 +132,7 @@ impl Poller {
         Ok(stream)
     }
 
-    /// Returns the next order, if one waits.
+    /// Returns the next order, if one is pending.
     fn next_order(&self, number: u64) -> AcceptOutcome<Socket>
         ensures { IsAtListener Listener.Orders result }
     {
@@ -152,7 +152,7 @@ impl Poller {
         }
     }
 
-    /// Returns the next client at an address, if one waits there.
+    /// Returns the next client at an address, if one is pending there.
     fn client_at(&self, address: Address, number: u64) -> AcceptOutcome<Socket>
         ensures { IsAtListener Listener.Clients result }
     {
@@ -172,7 +172,8 @@ impl Poller {
         }
     }
 
-    /// Returns the next client at either address. They come first in turn, so that a crowd at one of them doesn't shut out the other.
+    /// Returns the next client at either address. The addresses take turns, so that a crowd at one of them doesn't shut out the
+    /// other.
     fn next_client(&mut self, number: u64) -> AcceptOutcome<Socket>
         ensures at_door { IsAtListener Listener.Clients result }
         ensures in_turn { self.new.next ≡ other_address self.old.next }
@@ -185,7 +186,7 @@ impl Poller {
         }
     }
 
-    /// Returns the next order or, if none waits and clients are wanted, the next client.
+    /// Returns the next order or, if none is pending and clients are wanted, the next client.
     fn next_at(&mut self, number: u64, clients_too: bool) -> AcceptOutcome<Socket>
         ensures wanted { IsWanted clients_too result }
         ensures by_door { ComesByListener result }
@@ -196,7 +197,7 @@ impl Poller {
         }
     }
 
-    /// Has the next wait name each listener at which somebody waits, even if it was named before.
+    /// Has the next wait report each listener with a pending connection, even if it was reported before.
     fn watch_anew(&mut self) -> io::Result<()>
         ensures clients { clients_of self.new ≡ clients_of self.old }
         ensures orders { orders_of self.new ≡ orders_of self.old }
@@ -212,8 +213,8 @@ impl Poller {
         Ok(())
     }
 
-    /// Notes what the doors returned, and returns it. The system reports that it is full before it looks whether anybody waits. So unless
-    /// an event said that somebody does, the answer is that nobody waits, and the next wait says whether that is so.
+    /// Notes what the listeners returned, and returns it. The system reports that it is full before it looks whether a connection
+    /// is pending. So unless an event reported one, the result is that none is pending, and the next wait tells whether that is so.
     fn noted(&mut self, outcome: AcceptOutcome<Socket>, clients_too: bool) -> AcceptOutcome<Socket>
         ensures same { (result ≡ outcome) ⊎ ((outcome ≡ AcceptOutcome.Full) × (result ≡ AcceptOutcome.Nobody)) }
         ensures seen { self.old.waiting ≡ Waiting.Somebody → result ≡ outcome }
@@ -238,7 +239,7 @@ impl Poller {
 }
 
 impl Poller {
-    /// Waits until somebody may go on or come in, so long at most.
+    /// Waits until a connection is ready or pending, at most for this long.
     pub(crate) fn wait(&mut self, most: Duration) -> Result<(), Broken> {
         self.told = 0;
         match self.poll.poll(&mut self.events, Some(most)) {
@@ -247,7 +248,7 @@ impl Poller {
         }
     }
 
-    /// Returns the number of the next connection that may go on; none, once all were named.
+    /// Returns the number of the next connection that is ready; `None` once all were reported.
     pub(crate) fn next_ready(&mut self) -> Option<u64> {
         for _ in 0..EVENTS {
             let event = self.events.iter().nth(self.told)?;
@@ -260,7 +261,7 @@ impl Poller {
         None
     }
 
-    /// Lets in the next that waits at a door, under this number.
+    /// Accepts the next pending connection, under this number.
     pub(crate) fn accept(&mut self, number: u64, clients_too: bool) -> AcceptOutcome<Socket>
         ensures { IsWanted clients_too result }
     {
@@ -268,7 +269,7 @@ impl Poller {
         self.noted(outcome, clients_too)
     }
 
-    /// Returns whether somebody may wait at a door.
+    /// Returns whether a connection may be pending.
     pub(crate) fn has_pending(&self) -> bool
         ensures { result ≡ has_pending self.now }
     {

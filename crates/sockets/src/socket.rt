@@ -1,4 +1,4 @@
-//! A socket as a line: no call on it blocks.
+//! A socket as a stream: no call on it blocks.
 
 ghost use Rattle.std.specs.Prelude.{◌≡◌, ◌⊎◌, ◌<◌, ℕ, None, Ok, IfOk};
 
@@ -15,7 +15,7 @@ pub enum Socket {
     Order(UnixStream),
 }
 
-/// Returns what a read gave. A read that would block gave nothing yet.
+/// Returns the result of a read. A read that would block has no bytes yet.
 fn came(read: io::Result<usize>) -> Result<Received, Broken>
     ensures { (n : ℕ) → result ≡ Ok (Received.Bytes n) → (0 < n) × (read ≡ Ok n) }
 {

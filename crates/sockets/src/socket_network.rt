@@ -1,4 +1,4 @@
-//! The doors of an office that serves: what is watched, with a clock.
+//! The network over sockets.
 
 ghost use Rattle.std.specs.Prelude.{◌≡◌, None};
 ghost use Rattle.connections.specs.Tables.{with_removed};
@@ -10,7 +10,7 @@ use connections::{AcceptOutcome, Network, Removed};
 use std::time::{Clock, Duration};
 use votes::Broken;
 
-/// What is watched, and a clock.
+/// A poller, and a clock.
 #[derive(Drop)]
 pub struct SocketNetwork<C> {
     pub poller: Poller,

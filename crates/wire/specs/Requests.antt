@@ -1,4 +1,4 @@
--- What a request asks, or why it is denied before the office is asked: by its head and the bytes behind it.
+-- What a request asks, or why it is rejected before the office is asked: by its head and the bytes that follow it.
 use Rattle.std.specs.Prelude.{◌≡◌, ◌⊎◌, ◌+◌, ◌<◌, ◌++◌, ⊤, Bool, List, [], ◌∷◌, Option, Some, None, Result}
 use Rattle.std.specs.Prelude.{Ok, Err, bytes_eq, codes, drop, false, if◌then◌else◌, length, map, option_and_then, string_bytes, take, true, ℕ}
 use Rattle.std.specs.Io.KnownBytes.{Consumes}
@@ -27,7 +27,7 @@ use Rattle.wire.specs.Lengths.{NamedValue, body_length}
 use Rattle.wire.specs.Origins.{is_foreign}
 use Rattle.wire.specs.Targets.{named_by}
 
--- what is shown to a clerk whatever the state is: his page; or that he has left, and his browser is to forget his code
+-- what is shown to a clerk whatever the state is: the clerk's page; or that the clerk is signed out, and the browser is to forget the code
 pub data ShowEntry : Type 0 where
   page : PageEntry → ShowEntry
   has_left : ShowEntry
@@ -36,7 +36,7 @@ abbrev pub show_entry : Show → ShowEntry
 show_entry (Page its) = page (page_entry its)
 show_entry Left = has_left
 
--- what is asked: nothing, for it is denied; to be shown something that is a clerk's; to keep a clerk's keying of a batch; or to read
+-- what is asked: nothing, since it is rejected; to be shown something for a clerk; to keep a clerk's keying of a batch; or to read
 pub data HttpRequestEntry : Type 0 where
   denied : RequestError → HttpRequestEntry
   shown : ℕ → ShowEntry → HttpRequestEntry
@@ -50,44 +50,44 @@ http_request_entry (Shown clerk show) = shown clerk (show_entry show)
 http_request_entry (Keying k) = keying k.clerk k.batch (record { id = string_bytes k.id; round = k.round; papers = map string_bytes k.papers.items })
 http_request_entry (Reads what) = reading what
 
--- why a request wasn't read, by what the source counts: one failure more, or, where memory was wanting, none
+-- why a request wasn't read, by what the source counts: one failure more, or none if an allocation failed
 abbrev pub IsUnread : ℕ → ℕ → ReadFailure → Type 0
 IsUnread old new Broken = new ≡ old + 1
 IsUnread old new Memory = new ≡ old
 
--- how a verb is written
+-- a verb as it is written
 abbrev pub verb_text : Verb → List ℕ
 verb_text Get = codes "GET"
 verb_text Post = codes "POST"
 
--- the one verb of what a target names
+-- the only verb for a target
 abbrev pub verb_of : Target → Verb
 verb_of (target.Keying clerk batch) = Post
 verb_of (target.Page clerk) = Get
 verb_of (target.Leave clerk) = Get
 verb_of (target.Resource what) = Get
 
--- a clerk's keying, by what its body says
+-- a clerk's keying, by its body
 abbrev pub asked_in : ℕ → ℕ → Option KeyingEntry → HttpRequestEntry
 asked_in clerk batch (Some entry) = keying clerk batch entry
 asked_in clerk batch None = denied BadRequest
 
--- a clerk's keying, by the length of its body and the bytes behind the head
+-- a clerk's keying, by the length of its body and the bytes that follow the head
 abbrev pub asked_with : ℕ → ℕ → Result ℕ RequestError → List ℕ → HttpRequestEntry
 asked_with clerk batch (Ok n) behind = asked_in clerk batch (option_and_then keying_of (body_in n behind))
 asked_with clerk batch (Err why) behind = denied why
 
--- what is asked for there, if by its own verb
+-- what is asked for there, if the verb is the right one
 abbrev pub asked_for : List ℕ → Option Target → Result Target RequestError
 asked_for method None = Err NotFound
 asked_for method (Some there) = if bytes_eq method (verb_text (verb_of there)) then Ok there else Err (MethodNotAllowed (verb_of there))
 
--- the same of who isn't kept out
+-- the same if authentication didn't fail
 abbrev pub let_in : Option RequestError → List ℕ → Option Target → Result Target RequestError
 let_in (Some why) method there = Err why
 let_in None method there = asked_for method there
 
--- what is asked for behind the gate: nothing by who is kept out there, whatever the target names
+-- what is asked for after the gate: nothing if authentication failed there, whatever the target names
 abbrev pub wanted_behind : Option GateEntry → List NamedValue → List ℕ → List ℕ → Result Target RequestError
 wanted_behind gate fields method target = let_in (kept_out gate (clerk_under target) fields) method (served_at gate (named_by target))
 
@@ -104,7 +104,7 @@ abbrev pub page_at : Option GateEntry → ℕ → HttpRequestEntry
 page_at None clerk = denied NotFound
 page_at (Some gate) clerk = shown clerk (page gate.page)
 
--- what is asked of it; but for a keying neither the length of a body nor any byte behind the head counts
+-- what is asked of it; except for a keying, neither the length of a body nor any byte after the head counts
 abbrev pub asked_of : Option GateEntry → Result Target RequestError → Result ℕ RequestError → List ℕ → HttpRequestEntry
 asked_of gate (Ok (target.Keying clerk batch)) size behind = asked_with clerk batch size behind
 asked_of gate (Ok (target.Page clerk)) size behind = page_at gate clerk
@@ -112,12 +112,12 @@ asked_of gate (Ok (target.Leave clerk)) size behind = shown clerk has_left
 asked_of gate (Ok (target.Resource what)) size behind = reading what
 asked_of gate (Err why) size behind = denied why
 
--- what a head and the bytes behind it ask, of an office that was given this
+-- what a head and the bytes that follow it ask, by these settings
 abbrev pub asked_by : HttpSettingsEntry → RequestHead → List ℕ → HttpRequestEntry
 asked_by settings head behind =
     asked_of settings.gate (wanted settings (map name_and_value head.fields) head.method head.target) (body_length (map name_and_value head.fields)) behind
 
--- the same of a head that was found in what was read, and of what is left
+-- the same for a head that was found in what was read, and for what is left
 abbrev pub asked_at : HttpSettingsEntry → List ℕ → List HeaderSpan → RequestSpans → List ℕ → HttpRequestEntry
 asked_at settings got headers spans left =
     asked_of settings.gate (wanted settings (map (header_bytes got) (take spans.headers headers)) (span_bytes got spans.method) (span_bytes got spans.path))
@@ -132,34 +132,33 @@ Asks settings bytes asked =
 abbrev pub AsksOneThing : HttpSettingsEntry → List ℕ → Type 0
 AsksOneThing settings bytes = (one two : HttpRequestEntry) → Asks settings bytes one → Asks settings bytes two → one ≡ two
 
--- a request that a page from elsewhere sent, or that came by a foreign name, asks nothing but to be denied, whatever else it says
+-- A request that a page from elsewhere sent, or that came by a foreign name, asks nothing but to be rejected, whatever else it says.
 abbrev pub DeniesForeign : HttpSettingsEntry → List ℕ → Type 0
 DeniesForeign settings bytes =
     (head : RequestHead) (behind : List ℕ) → BeginsWith bytes head behind → is_foreign settings.origin (map name_and_value head.fields) ≡ true
     → (asked : HttpRequestEntry) → Asks settings bytes asked → asked ≡ denied Forbidden
 
--- every other one asks what its target names, whatever origin was given, where it isn't kept out at the gate
+-- Every other one asks what its target names, whatever origin the settings have, unless authentication fails at the gate.
 abbrev pub TakesOwn : HttpSettingsEntry → List ℕ → Type 0
 TakesOwn settings bytes =
     (head : RequestHead) (behind : List ℕ) → BeginsWith bytes head behind → is_foreign settings.origin (map name_and_value head.fields) ≡ false
     → (asked : HttpRequestEntry) → Asks settings bytes asked
     → asked ≡ asked_of settings.gate (wanted_behind settings.gate (map name_and_value head.fields) head.method head.target) (body_length (map name_and_value head.fields)) behind
 
--- the clerk under whose number something is asked: his page, leaving, a keying, his work, or the candidates of a batch
+-- the clerk under whose number something is asked: the page, signing out, a keying, the work, or the candidates of a batch
 abbrev pub clerk_asked : HttpRequestEntry → Option ℕ
 clerk_asked (denied why) = None
 clerk_asked (shown clerk show) = Some clerk
 clerk_asked (keying clerk batch entry) = Some clerk
 clerk_asked (reading what) = reader_of what
 
--- A request holds a clerk's code: it has one `Authorization`, and that is this clerk's.
+-- A request has a clerk's code: it has one `Authorization`, and that is this clerk's.
 pub record HoldsCode (gate : GateEntry) (clerk : ℕ) (fields : List NamedValue) : Type 0 where
   pub value : List ℕ
   pub once : sent_codes fields ≡ value ∷ []
   pub is_his : is_of gate.holders clerk value ≡ true
 
--- what is asked under a clerk's number is asked by the holder of that clerk's code alone, where codes are asked for; whoever else asks for it asks nothing but to
--- be denied
+-- At a gate, what is asked under a clerk's number is asked only by the holder of that clerk's code. Anyone else who asks for it asks nothing but to be rejected.
 abbrev pub AsksByHolder : HttpSettingsEntry → List ℕ → Type 0
 AsksByHolder settings bytes =
     (head : RequestHead) (behind : List ℕ) → BeginsWith bytes head behind → (asked : HttpRequestEntry) → Asks settings bytes asked
@@ -167,12 +166,12 @@ AsksByHolder settings bytes =
 
 -- ---- what doesn't say yet what is asked
 
--- the bytes behind a head are fewer than the length of its body
+-- fewer bytes follow the head than the length of its body
 abbrev pub MissesBody : Result ℕ RequestError → List ℕ → Type 0
 MissesBody (Ok n) behind = length behind < n
 MissesBody (Err why) behind = ⊥
 
--- what is asked for needs more than the bytes behind the head: only a keying does, until its body is all there
+-- what is asked for needs more than the bytes that follow the head: only a keying does, until its body is complete
 abbrev pub MissesBytes : Result Target RequestError → Result ℕ RequestError → List ℕ → Type 0
 MissesBytes (Ok (target.Keying clerk batch)) size behind = MissesBody size behind
 MissesBytes (Ok (target.Page clerk)) size behind = ⊥
@@ -180,29 +179,29 @@ MissesBytes (Ok (target.Leave clerk)) size behind = ⊥
 MissesBytes (Ok (target.Resource what)) size behind = ⊥
 MissesBytes (Err why) size behind = ⊥
 
--- the same of a head and the bytes behind it
+-- the same for a head and the bytes that follow it
 abbrev pub MissesBehind : HttpSettingsEntry → RequestHead → List ℕ → Type 0
 MissesBehind settings head behind = MissesBytes (wanted settings (map name_and_value head.fields) head.method head.target) (body_length (map name_and_value head.fields)) behind
 
--- the same of a head that was found in what was read, and of the bytes behind it
+-- the same for a head that was found in what was read, and for the bytes that follow it
 abbrev pub MissesFound : HttpSettingsEntry → List ℕ → List HeaderSpan → RequestSpans → List ℕ → Type 0
 MissesFound settings got headers spans behind =
     MissesBytes (wanted settings (map (header_bytes got) (take spans.headers headers)) (span_bytes got spans.method) (span_bytes got spans.path))
     (body_length (map (header_bytes got) (take spans.headers headers))) behind
 
--- the same of the bytes behind it that were read with it, and of what was read then
+-- the same for the bytes that were read with the head, and for what was read then
 abbrev pub MissesAt : HttpSettingsEntry → List ℕ → List HeaderSpan → RequestSpans → List ℕ → Type 0
 MissesAt settings got headers spans more = MissesFound settings got headers spans (drop spans.len got ++ more)
 
--- what was read doesn't say yet what is asked: it has no whole head yet, or the head of a keying whose body isn't all there
+-- What was read doesn't say yet what is asked: it has no complete head yet, or the head of a keying whose body isn't complete.
 abbrev pub IsWanting : HttpSettingsEntry → List ℕ → Type 0
 IsWanting settings got = IsHeadWanting got ⊎ ((head : RequestHead) × (behind : List ℕ) × BeginsWith got head behind × MissesBehind settings head behind)
 
--- something of which P holds was read, and of known bytes just that
+-- something was read for which P holds, and of known bytes exactly that
 abbrev pub HasRead : Option (List ℕ) → Option (List ℕ) → (List ℕ → Type 0) → Type 0
 HasRead old new P = (got : List ℕ) × Consumes old new got × P got
 
--- where the source failed, P holds of what was read before
+-- if the source failed, P holds for what was read before
 abbrev pub FailsAfter : Option (List ℕ) → Option (List ℕ) → (List ℕ → Type 0) → ReadFailure → Type 0
 FailsAfter old new P Broken = HasRead old new P
 FailsAfter old new P Memory = ⊤

@@ -26,7 +26,7 @@ abbrev pub is_number : List ℕ → Bool
 is_number [] = false
 is_number (b ∷ bs) = not (b == 48) && (nat_le (length (b ∷ bs)) most_digits && list_all is_ascii_digit (b ∷ bs))
 
--- the number that a parameter writes
+-- the number that a parameter gives
 abbrev pub number_in : List ℕ → Option ℕ
 number_in text = if is_number text then Some (digits_value 10 text) else None
 
@@ -49,18 +49,18 @@ office_routes =
     (with_route (codes "/clerks/{c}/work") place.Work
     (with_route (codes "/clerks/{c}/batches/{b}/keying") place.Keying []))))))
 
--- what the parameters of a route took of a target, each with its name
+-- the parameters of a route in a target, each with its name
 abbrev pub Taken : Type 0
 Taken = List (List ℕ × List ℕ)
 
 abbrev pub taken_by : Params → Taken
 taken_by params = walk params.pattern.now params.text.now params.path.now params.names.now 0 0
 
--- the number that the parameter of a name writes
+-- the number that the parameter with a name gives
 abbrev pub parameter : List ℕ → Taken → Option ℕ
 parameter name taken = option_and_then number_in (named name taken)
 
--- what a target names, by where its route leads and by what the parameters took
+-- what a target names, by where its route leads and by its parameters
 abbrev pub named_at : RouteTarget → Taken → Option Target
 named_at place.Keying taken =
     option_and_then (λ clerk. option_map (λ batch. Keying clerk batch) (parameter (codes "b") taken)) (parameter (codes "c") taken)
@@ -82,7 +82,7 @@ named_by target = option_and_then (λ (route : RouteOf RouteTarget). named_at ro
 
 -- ---- the same in plain words
 
--- the target of something that is served: its path, in which each number is written in 1 to 5 digits, the first not 0
+-- the target of something that is served: its path, with each number in 1 to 5 digits, the first not 0
 abbrev pub IsTargetOf : Target → List ℕ → Type 0
 IsTargetOf (Keying clerk batch) target =
     (c b : List ℕ) × (target ≡ codes "/clerks/" ++ (c ++ (codes "/batches/" ++ (b ++ codes "/keying")))) × (number_in c ≡ Some clerk) × (number_in b ≡ Some batch)
@@ -94,6 +94,6 @@ IsTargetOf (Resource (Work clerk)) target = (c : List ℕ) × (target ≡ codes 
 IsTargetOf (Resource (Sheet ward)) target = (w : List ℕ) × (target ≡ codes "/wards/" ++ (w ++ codes "/sheet")) × (number_in w ≡ Some ward)
 IsTargetOf (Resource (Declaration ward)) target = (w : List ℕ) × (target ≡ codes "/wards/" ++ (w ++ codes "/result")) × (number_in w ≡ Some ward)
 
--- a target names just what it is the path of, and so none names anything else
+-- a target names exactly that of which it is the path, and so no other target names it
 abbrev pub NamesItsOwn : List ℕ → Type 0
 NamesItsOwn target = (there : Target) → (named_by target ≡ Some there) ↔ IsTargetOf there target

@@ -1,4 +1,4 @@
-//! What is asked of the office, and its answers.
+//! What the office is asked, and the response.
 
 ghost use Rattle.std.specs.Prelude.{◌≡◌, false, map, true, string_bytes};
 ghost use Rattle.register.specs.Standings.{paper_entry, work_entry};
@@ -26,7 +26,7 @@ use sqlite::Alter;
 use std::alloc::{AllocError, Global};
 use store::Fault;
 
-/// The answer with a reply.
+/// Returns the response with a reply.
 fn replied(alloc: Global, text: &str) -> Response
     ensures { IsTold (reply_response text.now) result }
 {
@@ -38,7 +38,7 @@ fn replied(alloc: Global, text: &str) -> Response
     )
 }
 
-/// The answer with a refusal.
+/// Returns the response with a refusal.
 fn refused(alloc: Global, why: &Refusal) -> Response
     ensures { IsTold (refused_for why.now) result }
 {
@@ -46,7 +46,7 @@ fn refused(alloc: Global, why: &Refusal) -> Response
     Response::made(alloc, StatusCode::CONFLICT, Content::Json, body)
 }
 
-/// The answer with a fault.
+/// Returns the response with a fault.
 fn faulted(alloc: Global, fault: Fault) -> Response
     ensures { IsTold (fault_response (fault_number fault)) result }
 {
@@ -54,7 +54,7 @@ fn faulted(alloc: Global, fault: Fault) -> Response
     Response::made(alloc, StatusCode::SERVICE_UNAVAILABLE, Content::Json, body)
 }
 
-/// The answer with what the office answered to a keying.
+/// Returns the response with the office's answer to a keying.
 fn answered(alloc: Global, answer: &Answer) -> Response
     ensures { IsTold (told_response (told answer.now)) result }
 {
@@ -65,7 +65,7 @@ fn answered(alloc: Global, answer: &Answer) -> Response
     }
 }
 
-/// Hands a clerk's keying on to the office, and answers it.
+/// Sends a clerk's keying to the office, and returns the response.
 fn answer_keying<S: Alter>(alloc: Global, office: &mut Office<S>, keying: Keying) -> Response
     ensures answers { HasCleanDisk (state S.Store office.new.held) → office.old.closed ≡ false → (s : OfficeState) → IsAt s (state S.Store office.old.held)
         → Readies s (http_request_entry (HttpRequest.Keying keying)) result office.new.closed (state S.Store office.new.held) }
@@ -91,7 +91,7 @@ fn answer_keying<S: Alter>(alloc: Global, office: &mut Office<S>, keying: Keying
     }
 }
 
-/// The answer with a text of a ward, or why there is none.
+/// Returns the response with a text of a ward, or why there is none.
 fn answer_text(alloc: Global, told: Result<String, Stop>) -> Response
     ensures { IsReadTold text_response string_bytes told result }
 {
@@ -102,7 +102,7 @@ fn answer_text(alloc: Global, told: Result<String, Stop>) -> Response
     }
 }
 
-/// The answer with the work of a clerk, or why there is none.
+/// Returns the response with the work of a clerk, or why there is none.
 fn answer_work(alloc: Global, clerk: u32, told: Result<Vec<Work>, Stop>) -> Response
     ensures { IsReadTold (work_response clerk) (λ work. map work_entry work.items) told result }
 {
@@ -116,7 +116,7 @@ fn answer_work(alloc: Global, clerk: u32, told: Result<Vec<Work>, Stop>) -> Resp
     }
 }
 
-/// The answer that names the candidates of a batch, or why there is none.
+/// Returns the response that names the candidates of a batch, or why there is none.
 fn answer_paper(alloc: Global, batch: u32, told: Result<BallotPaper, Stop>) -> Response
     ensures { IsReadTold (paper_response batch) paper_entry told result }
 {
@@ -130,7 +130,7 @@ fn answer_paper(alloc: Global, batch: u32, told: Result<BallotPaper, Stop>) -> R
     }
 }
 
-/// Reads from the office, and answers that.
+/// Reads from the office, and returns the response.
 fn answer_reading<S: Alter>(alloc: Global, office: &mut Office<S>, what: Resource) -> Response
     ensures answers { HasCleanDisk (state S.Store office.new.held) → office.old.closed ≡ false → (s : OfficeState) → IsAt s (state S.Store office.old.held)
         → Readies s (reading what) result office.new.closed (state S.Store office.new.held) }
@@ -148,7 +148,7 @@ fn answer_reading<S: Alter>(alloc: Global, office: &mut Office<S>, what: Resourc
     }
 }
 
-/// Asks the office what a request asks, and answers that.
+/// Asks the office what a request asks, and returns the response.
 pub(crate) fn answer<S: Alter>(
     alloc: Global,
     office: &mut Office<S>,

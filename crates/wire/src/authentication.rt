@@ -1,4 +1,4 @@
-//! Who knocks: a request under a clerk's number, where codes are asked for.
+//! Whose code came with a request, at the gate.
 
 ghost use Rattle.std.specs.Prelude.{◌≡◌, ◌≤◌, length, map, option_map};
 ghost use Rattle.std.specs.Char.{is_ascii_digit};
@@ -18,17 +18,17 @@ use httparse::Status;
 use httparse::spans::{EMPTY_HEADER_SPAN, HeaderSpan, parse_request};
 use std::str;
 
-/// What the target of something that is a clerk's begins with.
+/// The beginning of a target that belongs to a clerk.
 const CLERKS: &[u8] = b"/clerks/";
 
-/// A request under a clerk's number, and whether a code came with it that is wrong.
+/// A request under a clerk's number, and whether a wrong code came with it.
 #[derive(Clone, Copy)]
 pub struct Authentication {
     pub clerk: u32,
     pub is_wrong: bool,
 }
 
-/// How many digits a text begins with.
+/// Returns how many digits a text begins with.
 fn digits_length(text: &[u8]) -> usize
     ensures bound { result ≤ length text.now }
     ensures is { result ≡ prefix_len is_ascii_digit text.now }
@@ -43,7 +43,7 @@ fn digits_length(text: &[u8]) -> usize
     length
 }
 
-/// The clerk under whose number a target stands, whether something is served there or not.
+/// Returns the clerk whose number is in a target, whether something is served there or not.
 pub(crate) fn clerk_under(target: &[u8]) -> Option<u32>
     ensures { result ≡ clerk_under target.now }
 {
@@ -61,7 +61,7 @@ pub(crate) fn clerk_under(target: &[u8]) -> Option<u32>
     }
 }
 
-/// Why who asks under a clerk's number isn't let in, by the header fields, whose names and values stand in a buffer.
+/// Returns why authentication of a clerk failed, by the header fields, whose names and values are in a buffer.
 fn kept_out_by(
     held: &Codes,
     clerk: u32,
@@ -84,7 +84,7 @@ fn kept_out_by(
     }
 }
 
-/// Why a request isn't let in at the gate, by the clerk under whose number its target stands.
+/// Returns why authentication failed at the gate, by the clerk whose number is in the target.
 pub(crate) fn kept_out(
     gate: Option<Gate<'_>>,
     clerk: Option<u32>,
@@ -103,7 +103,7 @@ pub(crate) fn kept_out(
     }
 }
 
-/// A code was sent, and it is wrong.
+/// Returns whether a code was sent, and is wrong.
 fn is_wrong_code(why: Option<RequestError>) -> bool
     ensures { result ≡ is_wrong_code why }
 {
@@ -114,7 +114,7 @@ fn is_wrong_code(why: Option<RequestError>) -> bool
     }
 }
 
-/// The knock of a request with these header fields and this target.
+/// Returns the authentication of a request with these header fields and this target.
 fn authentication_at(
     settings: HttpSettings<'_>,
     buffer: &[u8],
@@ -136,8 +136,8 @@ fn authentication_at(
     })
 }
 
-/// How the bytes knock that a client sent, where codes are asked for: by their head alone, whichever method it has, and
-/// whether anything is served where it asks. It takes no memory.
+/// Returns the authentication of a request by its head alone, whatever its method is, and whether anything is served at its target.
+/// There is none without a gate. Allocates nothing.
 pub fn authentication_of(settings: HttpSettings<'_>, got: &[u8]) -> Option<Authentication>
     ensures { IsAuthentication (settings_entry settings.entry) got.now (option_map authentication_entry result) }
 {

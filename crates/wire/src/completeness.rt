@@ -1,10 +1,10 @@
-//! What a request lacks that isn't whole yet.
+//! Whether a request is complete.
 
-/// What a request lacks of which some bytes came.
+/// Whether a request of which some bytes came is complete.
 #[derive(Clone, Copy, PartialEq, Eq)]
 pub enum Completeness {
-    /// Nothing: what they ask, they ask whatever follows.
+    /// It is complete: the bytes ask the same whatever follows them.
     Nothing,
-    /// Bytes: fewer than so many in all are never enough.
+    /// It needs at least so many bytes in all.
     Bytes(usize),
 }

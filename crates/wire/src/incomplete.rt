@@ -1,4 +1,4 @@
-//! Whether a client was heard to the end of what he asks.
+//! Whether a request is complete.
 
 ghost use Rattle.std.specs.Prelude.{◌≡◌, ◌<◌, ◌≤◌, IfNone, IfOk, IfSome, List, ℕ, length};
 ghost use Rattle.httparse.specs.Spans.{IsRequestWithin};
@@ -16,7 +16,8 @@ use httparse::Status;
 use httparse::spans::{EMPTY_HEADER_SPAN, HeaderSpan, RequestSpans, parse_request};
 use std::alloc::{AllocError, Global};
 
-/// How long the body is that a request asks for, by its head, if fewer bytes than that stand behind the head. Only a keying asks for a body.
+/// Returns the length of the body that a request needs, by its head, if fewer bytes than that follow the head. Only a keying needs
+/// a body.
 fn missing_body(
     alloc: Global,
     settings: HttpSettings<'_>,
@@ -48,10 +49,10 @@ fn missing_body(
     }
 }
 
-/// What a request lacks of which these bytes came, of an office that was given this. The only error is want of memory.
+/// Returns whether a request is complete of which these bytes came, by the settings of HTTP. The only error is a failed allocation.
 ///
-/// Bytes that lack nothing ask what they ask, whatever follows them. So a client
-/// who was heard so far is answered: he may wait for it, and send no more.
+/// The bytes of a complete request ask the same whatever follows them. So it is answered now: the client may wait for the response,
+/// and send no more.
 pub fn completeness_of(
     alloc: Global,
     settings: HttpSettings<'_>,

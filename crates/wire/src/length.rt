@@ -1,4 +1,4 @@
-//! How long the body of a request is.
+//! The length of a request's body.
 
 ghost use Rattle.std.specs.Prelude.{◌≡◌, ◌<◌, ◌≤◌, IfErr, IfOk, length, map};
 ghost use Rattle.std.specs.List.{All};
@@ -13,7 +13,7 @@ use httparse::spans::HeaderSpan;
 /// The most bytes that a body may have.
 pub const MAX_BODY_BYTES: u32 = 1_048_576;
 
-/// The length that a text writes, up to the greatest.
+/// Parses a length, up to the greatest.
 fn length_in(text: &[u8]) -> Result<usize, RequestError>
     ensures is { result ≡ length_in text.now }
     ensures fits { IfOk result (λ length. length ≤ MAX_BODY_BYTES) }
@@ -28,14 +28,14 @@ fn length_in(text: &[u8]) -> Result<usize, RequestError>
     Ok(length as usize)
 }
 
-/// Whether a header's name is another in any case of its letters.
+/// Returns whether a header's name is another, whatever the case of their letters.
 pub(crate) fn is_named(name: &[u8], other: &[u8]) -> bool
     ensures { result ≡ str_eq_ignore_ascii_case name.now other.now }
 {
     name.eq_ignore_ascii_case(other)
 }
 
-/// The value of the header of a name, if there is one; `BadRequest` where there are several.
+/// Returns the value of the header with a name, if there is one; `BadRequest` if there are several.
 pub(crate) fn value_of<'b>(
     buffer: &'b [u8],
     headers: &[HeaderSpan],
@@ -57,8 +57,8 @@ pub(crate) fn value_of<'b>(
     Ok(found)
 }
 
-/// The length of a body, from the header fields, whose names and values stand in a buffer. No transfer coding may wrap it, and it
-/// may be given once; where it isn't given, there is none.
+/// Returns the length of a body, by the header fields, whose names and values are in a buffer. It is an error if there is a
+/// transfer coding, or more than one length; without a length it is 0.
 pub(crate) fn body_length(buffer: &[u8], headers: &[HeaderSpan]) -> Result<usize, RequestError>
     requires { All (IsHeaderWithin (length buffer.now)) headers.now }
     ensures is { result ≡ body_length (map (header_bytes buffer.now) headers.now) }

@@ -1,25 +1,24 @@
-//! Keying and reading over HTTP, one request a connection.
+//! Keying and reading over HTTP, one request for each connection.
 //!
-//! [`serve_one`] reads a request, asks the office what it asks, and writes the answer. What may be asked:
-//! `POST /clerks/{c}/batches/{b}/keying`, `GET /clerks/{c}/work`, `GET /wards/{w}/sheet` and
-//! `GET /wards/{w}/result`; and where codes are asked for, `GET /clerks/{c}/`, `GET /clerks/{c}/leave` and
-//! `GET /clerks/{c}/batches/{b}/candidates`. [`read_request`] reads what is asked, [`HttpRequest`], or why it is denied before
-//! the office is asked, [`RequestError`]. [`completeness_of`] says whether a client was heard to the end of what he asks.
+//! [`serve_one`] reads a request, asks the office, and writes the response. It serves `POST /clerks/{c}/batches/{b}/keying`, `GET
+//! /clerks/{c}/work`, `GET /wards/{w}/sheet` and `GET /wards/{w}/result`; and at a gate `GET /clerks/{c}/`, `GET /clerks/{c}/leave`
+//! and `GET /clerks/{c}/batches/{b}/candidates`. [`read_request`] returns what is asked, [`HttpRequest`], or why it is rejected
+//! before the office is asked, [`RequestError`]. [`completeness_of`] says whether a request is complete.
 //!
-//! [`HttpSettings`] is what an office that serves goes by; [`plain`] serves a connection without any of it. A page from elsewhere in a browser of this machine asks nothing: each
-//! request with a header that shows one is denied. [`Origin`] is that of pages which may come through a proxy in front.
-//! At a [`Gate`] whatever stands under a clerk's number is asked for with his code. [`authentication_of`] says whose number that is,
-//! and whether a wrong code came; who must wait for wrong codes is told so by [`write_wait_response`].
+//! [`HttpSettings`] are the settings. A page from elsewhere in a browser of this machine can't ask anything: each request with a
+//! header that shows one is rejected. [`Origin`] is that of pages that come through a proxy in front. At a [`Gate`] whatever is
+//! under a clerk's number needs that clerk's code. [`authentication_of`] says whose number that is, and whether a wrong code came.
+//! [`write_wait_response`] responds to a client that must wait because of wrong codes.
 //!
-//! `specs/Requests.antt` says what the bytes of a client ask, and `specs/Completeness.antt` when they are whole. `specs/Gates.antt`
-//! says who is let in under a clerk's number, and `specs/Origins.antt` what shows that a page from elsewhere sent the bytes.
-//! `specs/Targets.antt` says which targets name what, and `specs/Responses.antt` which bytes an answer has.
-//! `specs/Serving.antt` says what is answered at a state of the office, and what each end of a connection leaves.
+//! `specs/Requests.antt` defines what bytes ask, and `specs/Completeness.antt` when they are complete. `specs/Gates.antt` defines
+//! what a gate lets in under a clerk's number, and `specs/Origins.antt` what shows that a page from elsewhere sent the bytes.
+//! `specs/Targets.antt` defines the targets, and `specs/Responses.antt` the bytes of a response. `specs/Serving.antt` defines the
+//! response at a state of the office, and what each end of a connection leaves.
 //!
 //! ```text
-//! match serve_one(alloc, given, &mut reader, &mut writer, &mut office) {
+//! match serve_one(alloc, settings, &mut reader, &mut writer, &mut office) {
 //!     Served::Answered(status) => ..,
-//!     Served::ReadFailed => ..,       // nothing was handed on
+//!     Served::ReadFailed => ..,       // the office wasn't asked
 //!     Served::WriteFailed => ..,      // what the office answered stands
 //! }
 //! ```
@@ -41,7 +40,7 @@ pub mod request;
 mod rest;
 pub mod settings;
 pub mod target;
-// what is answered
+// the response
 mod bodies;
 mod candidates;
 mod response;

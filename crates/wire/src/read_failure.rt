@@ -1,4 +1,4 @@
-//! Why a request wasn't read.
+//! Why a request couldn't be read.
 
 ghost use Rattle.std.specs.Prelude.{◌≡◌};
 ghost use Rattle.wire.specs.declared.read_failure.ReadFailure.TheVariants.{Broken, Memory};
@@ -6,12 +6,12 @@ ghost use Rattle.wire.specs.declared.read_failure.ReadFailure.TheVariants.{Broke
 use std::alloc::AllocError;
 use votes::Broken;
 
-/// Why a request wasn't read.
+/// Why a request couldn't be read.
 #[derive(Clone, Copy, PartialEq, Eq)]
 pub enum ReadFailure {
     /// The source failed, and counts one failure more.
     Broken,
-    /// Memory was wanting.
+    /// An allocation failed.
     Memory,
 }
 

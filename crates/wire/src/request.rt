@@ -23,9 +23,8 @@ use httparse::spans::{EMPTY_HEADER_SPAN, HeaderSpan, RequestSpans};
 use std::alloc::{AllocError, Global};
 use votes::Source;
 
-/// A clerk's keying of a batch in a round: under which id it is sent, and the marks text of each paper.
-/// Clerk and batch have 1 to 5 digits and the round is any number of 32 bits: whether they are in range
-/// is decided when the keying is handled.
+/// A clerk's keying of a batch in a round: its id, and the marks text of each paper. Clerk and batch have 1 to 5 digits, and the
+/// round is any number of 32 bits. Whether they are in range is decided when the keying is handled.
 #[derive(Drop)]
 pub struct Keying {
     pub clerk: u32,
@@ -40,7 +39,7 @@ pub struct Keying {
 pub enum HttpRequest<'a> {
     /// Nothing that the office could be asked.
     Denied(RequestError),
-    /// To be shown something that is a clerk's, whatever the office's state is.
+    /// To be shown something for a clerk, whatever the office's state is.
     Shown(u32, Show<'a>),
     /// To keep a clerk's keying.
     Keying(Keying),
@@ -49,7 +48,7 @@ pub enum HttpRequest<'a> {
 }
 
 impl Verb {
-    /// How the verb is written.
+    /// Returns the verb as it is written.
     pub(crate) fn text(self) -> &'static str
         ensures { result.now ≡ verb_text self }
     {
@@ -61,7 +60,7 @@ impl Verb {
 }
 
 impl Resource {
-    /// Whether it is served only where codes are asked for.
+    /// Returns whether it is served at a gate only.
     fn needs_gate(&self) -> bool
         ensures { result ≡ reading_needs_gate self.now }
     {
@@ -75,7 +74,7 @@ impl Resource {
 }
 
 impl Target {
-    /// The one verb of what the target names.
+    /// Returns the only verb for the target.
     pub(crate) fn verb(&self) -> Verb
         ensures { result ≡ verb_of self.now }
     {
@@ -85,7 +84,7 @@ impl Target {
         }
     }
 
-    /// Whether it is served only where codes are asked for.
+    /// Returns whether it is served at a gate only.
     fn needs_gate(&self) -> bool
         ensures { result ≡ needs_gate self.now }
     {
@@ -98,7 +97,7 @@ impl Target {
     }
 }
 
-/// Reads a clerk's keying of a batch, of which the head was read, and some bytes behind it.
+/// Reads a clerk's keying of a batch, after the head and some of the bytes that follow it were read.
 fn read_keying<'a, R: Source>(
     alloc: Global,
     reader: &mut R,
@@ -132,7 +131,7 @@ fn read_keying<'a, R: Source>(
     }
 }
 
-/// What a target names that is served at a gate, or where there is none. The only error is want of memory.
+/// Returns what a target names that is served, at the gate or without one. The only error is a failed allocation.
 fn served_at(
     alloc: Global,
     gate: Option<Gate<'_>>,
@@ -149,7 +148,7 @@ fn served_at(
     Ok(Some(there))
 }
 
-/// What is asked for there, if by its own verb.
+/// Returns what is asked for there, if the verb is the right one.
 fn asked_for(method: &[u8], there: Option<Target>) -> Result<Target, RequestError>
     ensures { result ≡ asked_for method.now there }
 {
@@ -164,8 +163,8 @@ fn asked_for(method: &[u8], there: Option<Target>) -> Result<Target, RequestErro
     }
 }
 
-/// What is asked for: what a target names, if it is asked for by its own verb, and neither by a page from elsewhere nor by
-/// who isn't let in at the gate; or why it is denied. The only error is want of memory.
+/// Returns what is asked for: what a target names, if the verb is the right one, no page from elsewhere asks, and the gate lets the
+/// request in; or why it is rejected. The only error is a failed allocation.
 pub(crate) fn wanted(
     alloc: Global,
     settings: HttpSettings<'_>,
@@ -187,7 +186,7 @@ pub(crate) fn wanted(
     Ok(asked_for(method, there))
 }
 
-/// The page of a gate, for a clerk.
+/// Returns the page of a gate, for a clerk.
 fn page_at<'a>(gate: Option<Gate<'a>>, clerk: u32) -> HttpRequest<'a>
     ensures { http_request_entry result ≡ page_at (option_map gate_entry gate.entry) clerk }
 {
@@ -197,7 +196,7 @@ fn page_at<'a>(gate: Option<Gate<'a>>, clerk: u32) -> HttpRequest<'a>
     }
 }
 
-/// Reads what a request asks whose head was read, and some bytes behind it.
+/// Reads what a request asks, after the head and some of the bytes that follow it were read.
 fn read_behind<'a, R: Source>(
     alloc: Global,
     settings: HttpSettings<'a>,
@@ -262,20 +261,20 @@ fn read_from_head<'a, R: Source>(
     )
 }
 
-/// Reads what a request asks of an office that was given this: the origin of pages that come through a proxy, if any; and
-/// the gate, where clerks' codes are asked for.
+/// Reads what a request asks, by the settings: the origin of pages that come through a proxy, and the gate, if any.
 ///
-/// A request with a header which shows that a page from elsewhere sent it, or that it came by a foreign name, is
-/// `Forbidden`, whatever else it asks. At a gate a request whose target begins with a clerk's number, as `/clerks/4/`, is let
-/// in with that clerk's code alone. Else it is `Unauthorized`, or of the `WrongCode`, whatever else it asks. So what is asked
-/// under a clerk's number is asked by the holder of his code. Every other request asks what it asks without such a check. What
-/// is denied is answered the same at every state of the office, and so is what is `Shown`.
+/// A request with a header which shows that a page from elsewhere sent it, or that it came by a foreign name, is `Forbidden`,
+/// whatever else it asks. At a gate a request whose target begins with a clerk's number, such as `/clerks/4/`, is let in only with
+/// that clerk's code. Otherwise it is `Unauthorized`, or a `WrongCode`, whatever else it asks. So what is asked under a clerk's
+/// number is asked by the holder of that clerk's code. Every other request needs no such check. The response to a rejected request
+/// is the same at every state of the office, and so is what is `Shown`.
 ///
-/// `Broken` comes only from the source, which then counts one failure more. It comes only while what was read doesn't say yet what is asked.
-/// Once it does, nothing more is read, for the client may wait for its answer. Of the bytes behind the request some may have been read.
+/// `Broken` comes only from the source, which then counts one failure more. It comes only while what was read doesn't say yet what
+/// is asked. Once it does, nothing more is read, because the client may wait for its response. Some of the bytes after the request
+/// may have been read.
 ///
-/// What is asked for hangs on the target alone, which names just what it is the path of. It is one of the seven of this crate,
-/// with numbers of 1 to 5 digits in it, the first not 0. Any other target names nothing.
+/// What is asked for depends only on the target, which names exactly that of which it is the path. It is one of the seven of this
+/// crate, with numbers of 1 to 5 digits in it, the first not 0. Any other target names nothing.
 pub fn read_request<'a, R: Source>(
     alloc: Global,
     settings: HttpSettings<'a>,

@@ -1,4 +1,4 @@
-//! One connection: a request is read, handed on, and answered.
+//! One connection: a request is read, the office is asked, and the response is written.
 
 ghost use Rattle.std.specs.Prelude.{◌≡◌, ◌+◌, ◌-◌, ◌^◌, ◌<◌, false, true, IfOk, OnErr, OnOk};
 ghost use Rattle.sqlite.specs.State.{HasCleanDisk};
@@ -24,15 +24,15 @@ use votes::{Broken, Sink, Source, put_all};
 /// How a connection ended.
 #[derive(Clone, Copy, Debug, PartialEq, Eq)]
 pub enum Served {
-    /// An answer of this status was written whole.
+    /// A response with this status was written whole.
     Answered(u16),
-    /// The reader failed: nothing was written, and nothing was handed on.
+    /// The reader failed: nothing was written, and the office wasn't asked.
     ReadFailed,
-    /// The writer failed: a beginning of the answer was written.
+    /// The writer failed: a beginning of the response was written.
     WriteFailed,
 }
 
-/// The answer to what a client asks, which the office is asked.
+/// Returns the response to what a client asks, for which the office is asked.
 fn response_to<R: Source, S: Alter>(
     alloc: Global,
     settings: HttpSettings<'_>,
@@ -57,7 +57,7 @@ fn response_to<R: Source, S: Alter>(
     }
 }
 
-/// Writes an answer.
+/// Writes a response.
 fn put<W: Sink>(writer: &mut W, response: &Response) -> Served
     requires { W.failed writer.old < 2 ^ 64 - 1 }
     ensures puts { IsPut (W.taken writer.old) (W.taken writer.new) response.now result }
@@ -70,9 +70,9 @@ fn put<W: Sink>(writer: &mut W, response: &Response) -> Served
     }
 }
 
-/// Answers who must wait that he must: wrong codes came under the number for which he asks.
+/// Writes that the client must wait: wrong codes came under the number for which it asks.
 ///
-/// `WriteFailed` comes only from the writer, which counts one failure more: a beginning of the answer was written.
+/// `WriteFailed` comes only from the writer, which counts one failure more: a beginning of the response was written.
 pub fn write_wait_response<W: Sink>(writer: &mut W) -> Served
     requires { W.failed writer.old < 2 ^ 64 - 1 }
     ensures told { IsServed (IsWritten waits_response) (W.taken writer.old) (W.taken writer.new) result }
@@ -94,20 +94,20 @@ pub fn write_gone_response<W: Sink>(writer: &mut W) -> Served
     put(writer, &Response::gone())
 }
 
-/// Serves one connection: reads a request, hands it on to the office, and writes the answer.
+/// Serves one connection: reads a request, asks the office, and writes the response.
 ///
-/// `Answered`: the answer to what the reader's bytes ask was written whole, the office is at the state after it, and neither the
-/// reader nor the writer failed. After a fault of the office the answer is that fault (503). The office is then as it was; or it
-/// is closed, and a stop leaves the state before the request or, of an accepted one, the state after it. The answer is 101 (503)
-/// where memory was wanting: for the request, which then wasn't handed on; for the answer, and then the office is at the state
-/// after the request; or in the office, as any fault.
+/// `Answered`: the response to what the reader's bytes ask was written whole, the office is at the state after it, and neither the
+/// reader nor the writer failed. After a fault of the office the response is that fault (503). The office is then as it was; or it
+/// is closed, and a stop leaves the state before the request or, of an accepted one, the state after it. The response is 101 (503)
+/// if an allocation failed: for the request, which then wasn't sent to the office; for the response, and then the office is at the
+/// state after the request; or in the office, like any fault.
 ///
 /// `ReadFailed` comes only from the reader, which counts one failure more, and only while what was read doesn't say yet what is
-/// asked. A failed read isn't answered: nothing was written, and the office is as it was. `WriteFailed` comes only from the
-/// writer, which counts one failure more, where the reader counts none. A beginning of the answer was written, the write isn't
-/// tried again, and what the office answered stands. A closed office answers that it is closed, 104 (503), where it is asked
-/// anything, and stays as it is. A request that is denied, as one of a page from elsewhere, is answered the same at every state, and so is a
-/// page that is shown.
+/// asked. A failed read gets no response: nothing was written, and the office is as it was. `WriteFailed` comes only from the
+/// writer, which counts one failure more, while the reader counts none. A beginning of the response was written, the write isn't
+/// repeated, and what the office answered stands. A closed office answers that it is closed, 104 (503), if it is asked anything,
+/// and stays as it is. The response to a rejected request, such as one of a page from elsewhere, is the same at every state, and so
+/// is a page that is shown.
 pub fn serve_one<R: Source, W: Sink, S: Alter>(
     alloc: Global,
     settings: HttpSettings<'_>,

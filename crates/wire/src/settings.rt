@@ -1,23 +1,23 @@
-//! What an office that serves was given for its clients.
+//! The settings of HTTP.
 
 use crate::origin::Origin;
 use codes::Codes;
 
-/// The page on which clerks key, and what a browser lets it do.
+/// The page on which clerks key, and its policy, which says what a browser lets it do.
 #[derive(Clone, Copy)]
 pub struct Page<'a> {
     pub text: &'a str,
     pub policy: &'a str,
 }
 
-/// Where clerks' codes are asked for: the codes, and the page.
+/// The gate, which asks for clerks' codes: the codes, and the page.
 #[derive(Clone, Copy)]
 pub struct Gate<'a> {
     pub codes: &'a Codes,
     pub page: Page<'a>,
 }
 
-/// The origin of pages that come through a proxy, if one was given; and the gate, where clerks' codes are asked for.
+/// The origin of pages that come through a proxy, and the gate, if any.
 #[derive(Clone, Copy)]
 pub struct HttpSettings<'a> {
     pub origin: Option<Origin<'a>>,
@@ -27,8 +27,8 @@ pub struct HttpSettings<'a> {
 /// What is shown to a clerk whatever the office's state is.
 #[derive(Clone, Copy)]
 pub enum Show<'a> {
-    /// The page on which he keys.
+    /// The page on which the clerk keys.
     Page(Page<'a>),
-    /// That he has left. His browser is to forget his code.
+    /// That the clerk is signed out. The browser is to forget the code.
     Left,
 }

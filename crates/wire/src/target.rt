@@ -29,7 +29,7 @@ pub(crate) enum Target {
     Keying { clerk: u32, batch: u32 },
     /// The page on which a clerk keys.
     Page { clerk: u32 },
-    /// That a clerk leaves his place.
+    /// That a clerk signs out.
     Leave { clerk: u32 },
     /// What may be read.
     Resource(Resource),
@@ -47,7 +47,7 @@ enum RouteTarget {
     Declaration,
 }
 
-/// The seven routes.
+/// Returns the router with the seven routes.
 fn office_router(alloc: Global) -> Result<Router<RouteTarget>, InsertError>
     ensures { IfOk result (λ router. router ≡ office_routes) }
 {
@@ -65,7 +65,7 @@ fn office_router(alloc: Global) -> Result<Router<RouteTarget>, InsertError>
     Ok(router)
 }
 
-/// The number that the parameter of a name writes.
+/// Returns the number that a parameter has.
 fn parameter(params: &Params<'_, '_>, name: &str) -> Option<u32>
     requires { AllText (taken_by params.now) }
     ensures { result ≡ parameter name.now (taken_by params.now) }
@@ -73,7 +73,7 @@ fn parameter(params: &Params<'_, '_>, name: &str) -> Option<u32>
     number_in(params.get(name)?)
 }
 
-/// What a target names, by where its route leads and by what the parameters took.
+/// Returns what a target names, by where its route leads and by its parameters.
 fn named_at(place: RouteTarget, params: &Params<'_, '_>) -> Option<Target>
     requires { AllText (taken_by params.now) }
     ensures { result ≡ named_at place (taken_by params.now) }
@@ -112,7 +112,7 @@ fn named_at(place: RouteTarget, params: &Params<'_, '_>) -> Option<Target>
     }
 }
 
-/// What a target names, if anything is served there. The only error is want of memory.
+/// Returns what a target names, if anything is served there. The only error is a failed allocation.
 pub(crate) fn named_by(alloc: Global, target: &[u8]) -> Result<Option<Target>, AllocError>
     ensures { IfOk result (λ found. found ≡ named_by target.now) }
 {
