@@ -26,7 +26,7 @@ use Rattle.connections.specs.declared.client.PendingResponse.{PendingResponse}
 use Rattle.connections.specs.declared.client.Client.{Client}
 use Rattle.wire.specs.Gates.{HttpSettingsEntry}
 use Rattle.wire.specs.Completeness.{IsCompletenessOf, IsWhole}
-use Rattle.wire.specs.declared.completeness.Completeness.TheVariants.{Nothing}
+use Rattle.wire.specs.declared.completeness.Completeness.TheVariants.{Complete}
 use Rattle.connections.proofs.StreamLemmas.{heard_more, told_more, told_none}
 use Rattle.server.specs.Settings.{ServerSettingsEntry}
 use Rattle.server.specs.Servicing.{Services, HasCome, HasComeAt, HasResponded, HasExchanges, IsAtGate, IsLostOnly, LooksAtGate, MayHaveResponded, WasServiced, answer_of, moment_of, response_at}
@@ -43,7 +43,7 @@ pub same_answer : (old new : PendingResponse) (before : Option PendingResponse) 
 same_answer old new before is same = ap Some same ∙ sym (ap (option_map (λ (a : PendingResponse). a.bytes.items)) is)
 
 -- bytes that lack nothing have come to their end
-pub lacks_nothing : (settings : HttpSettingsEntry) (held : Option (List ℕ)) (seen got : List ℕ) (lacking : _) → seen ≡ got → lacking ≡ Nothing → IsCompletenessOf settings seen lacking → HasCome settings held got
+pub lacks_nothing : (settings : HttpSettingsEntry) (held : Option (List ℕ)) (seen got : List ℕ) (lacking : _) → seen ≡ got → lacking ≡ Complete → IsCompletenessOf settings seen lacking → HasCome settings held got
 lacks_nothing settings held seen got lacking same nothing it = inl (subst (λ (bytes : List ℕ). IsWhole settings bytes) same (subst (λ l. IsCompletenessOf settings seen l) nothing it))
 
 -- neither of two has an answer

@@ -68,11 +68,11 @@ fn receive_body<L: Stream>(
     ensures lost { IsLostOnly result }
 {
     match client.receive(wanted)? {
-        ReadProgress::ServeError => Ok(true),
+        ReadProgress::Ended => Ok(true),
         ReadProgress::Waits => Ok(false),
         ReadProgress::Enough => match completeness_of(alloc, settings, client.got.as_slice())? {
-            Completeness::Nothing => Ok(true),
-            Completeness::Bytes(_) => Ok(false),
+            Completeness::Complete => Ok(true),
+            Completeness::AtLeast(_) => Ok(false),
         },
     }
 }
@@ -92,9 +92,9 @@ fn receive_request<L: Stream>(
 {
     let received = client.receive(FRONT)?;
     match completeness_of(alloc, settings, client.got.as_slice())? {
-        Completeness::Nothing => Ok(true),
-        Completeness::Bytes(wanted) => match received {
-            ReadProgress::ServeError => Ok(true),
+        Completeness::Complete => Ok(true),
+        Completeness::AtLeast(wanted) => match received {
+            ReadProgress::Ended => Ok(true),
             ReadProgress::Waits => Ok(false),
             ReadProgress::Enough => receive_body(alloc, settings, client, wanted),
         },

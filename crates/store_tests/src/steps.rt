@@ -232,7 +232,7 @@ fn work<S: Alter + Drop>(
 
 /// The file that is served, no proxy, and no codes.
 pub const SERVER_SETTINGS: ServerSettings<'static> = ServerSettings {
-    given: HttpSettings {
+    http: HttpSettings {
         origin: None,
         gate: None,
     },
@@ -266,7 +266,7 @@ fn terms_of(held: &Option<Codes>) -> ServerSettings<'_> {
         None => None,
     };
     ServerSettings {
-        given: HttpSettings { origin: None, gate },
+        http: HttpSettings { origin: None, gate },
         file: SERVER_SETTINGS.file,
     }
 }

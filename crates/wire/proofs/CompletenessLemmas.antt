@@ -13,7 +13,7 @@ use Rattle.wire.specs.Gates.{GateEntry, HttpSettingsEntry}
 use Rattle.wire.specs.Heads.{BeginsWith, HasNoHead}
 use Rattle.wire.specs.Completeness.{IsCompletenessOf, IsWhole}
 use Rattle.wire.specs.declared.request_error.RequestError.{RequestError}
-use Rattle.wire.specs.declared.completeness.Completeness.TheVariants.{Bytes}
+use Rattle.wire.specs.declared.completeness.Completeness.TheVariants.{AtLeast}
 use Rattle.wire.specs.declared.target.Target.{Target}
 use Rattle.wire.specs.declared.target.Target.TheVariants as target
 use Rattle.wire.proofs.RequestLemmas.{AsksOneThing-all, IsWanting-found, MissesFound-of, begins}
@@ -72,7 +72,7 @@ whole_found settings got n headers spans behind (head, there) small places insid
 -- what it asks for lacks bytes, until so many are behind it
 pub lacks_found : (settings : HttpSettingsEntry) (got : List ℕ) (n : ℕ) (headers : List HeaderSpan) (spans : RequestSpans) (size : ℕ) → IsRequestOf (take n got) headers spans → n ≤ 8192 → length headers ≡ 32
     → spans.len ≤ length (take n got) → length got - spans.len < size → ((rest : List ℕ) → length rest < size → MissesFound settings (take n got) headers spans rest)
-    → IsCompletenessOf settings got (Bytes (spans.len + size))
+    → IsCompletenessOf settings got (AtLeast (spans.len + size))
 lacks_found settings got n headers spans size found small places inside few completeness_of =
     let front = take n got in
     let back = drop n got in
@@ -121,7 +121,7 @@ whole_over settings got n room is over =
 -- ---- a head that isn't whole yet
 
 pub lacks_head : (settings : HttpSettingsEntry) (got : List ℕ) (n : ℕ) → length got ≤ n → length got < 8192 → HasNoRequest (take n got) → MayBecomeRequest (take n got)
-    → IsCompletenessOf settings got (Bytes (length got + 1))
+    → IsCompletenessOf settings got (AtLeast (length got + 1))
 lacks_head settings got n all short none may =
     let same : take n got ≡ got = take_all n got all in
     let none_there : HasNoRequest got = subst HasNoRequest same none in

@@ -66,12 +66,14 @@ pub fn completeness_of(
         Ok(Status::Complete(spans)) => {
             let behind = got.len() - spans.len;
             match missing_body(alloc, settings, front, &headers, spans, behind)? {
-                Some(size) => Ok(Completeness::Bytes(spans.len + size)),
-                None => Ok(Completeness::Nothing),
+                Some(size) => Ok(Completeness::AtLeast(spans.len + size)),
+                None => Ok(Completeness::Complete),
             }
         }
-        Ok(Status::Partial) if got.len() < MAX_HEAD_BYTES => Ok(Completeness::Bytes(got.len() + 1)),
-        Ok(Status::Partial) => Ok(Completeness::Nothing),
-        Err(_) => Ok(Completeness::Nothing),
+        Ok(Status::Partial) if got.len() < MAX_HEAD_BYTES => Ok(Completeness::AtLeast(
+            got.len() + 1,
+        )),
+        Ok(Status::Partial) => Ok(Completeness::Complete),
+        Err(_) => Ok(Completeness::Complete),
     }
 }
