@@ -12,7 +12,7 @@ use crate::settings::{Page, Show};
 use http::StatusCode;
 use std::alloc::{AllocError, Global};
 
-/// Returns the media type of a body.
+/// The kind of text that a body is, for its media type.
 #[derive(Clone, Copy)]
 pub(crate) enum Content {
     Text,
@@ -135,7 +135,7 @@ fn denied_status(why: RequestError) -> u16
     }
 }
 
-/// The media type of a body.
+/// Returns the media type of a body.
 fn media_type(content: Content) -> &'static str
     ensures { result.now ≡ media_type content }
 {
