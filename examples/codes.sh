@@ -27,7 +27,7 @@ look() {
 # Serves with codes, until the commands of a function have been played.
 serve() {
     local server tries=0
-    (cd "$folder" && exec "$office" town.db serve "$port" 0 --codes codes.txt) &
+    (cd "$folder" && exec "$office" town.db serve "$port" --codes codes.txt) &
     server=$!
     until (exec 3<>"/dev/tcp/127.0.0.1/$port") 2>/dev/null; do
         tries=$((tries + 1))

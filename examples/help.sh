@@ -29,6 +29,7 @@ source "$(dirname "$(readlink -f "${BASH_SOURCE[0]}")")/play.bash"
     play town.db ward 7 2 -Harbour --id w1
     play town.db judge 12 6 maybe --id v1
     play town.db serve 0 10
+    play town.db serve 8080 0
     play town.db serve 8080 1000001
     play town.db serve 8080 10 --origin count.example.org
     play town.db import-candidates names.csv --id c --sha256 12ab

@@ -20,8 +20,8 @@ trap 'stop; rm -rf "$folder"' EXIT
 # Serves the office without a limit of connections, and waits until it answers.
 serve() {
     local tries=0
-    echo "\$ count-office town.db serve PORT 0"
-    (cd "$folder" && exec "$office" town.db serve "$port" 0 2>said) &
+    echo "\$ count-office town.db serve PORT"
+    (cd "$folder" && exec "$office" town.db serve "$port" 2>said) &
     server=$!
     until (exec 3<>"/dev/tcp/127.0.0.1/$port") 2>/dev/null; do
         tries=$((tries + 1))

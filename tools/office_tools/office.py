@@ -160,6 +160,7 @@ class Office:
         (self.folder / "codes.txt").chmod(0o600)
 
     def serve(self, connections=0, *words, **how):
+        """Starts `serve`, for so many connections; 0 for no limit."""
         return Serving(self, connections, *words, **how)
 
     def copied(self, folder, town=TOWN):
@@ -206,7 +207,7 @@ class Serving:
 
     def __init__(self, office, connections=0, *words, port=None, **how):
         self.port = port or free_port()
-        self.process = office.start("serve", self.port, connections, *words, **how)
+        self.process = office.start("serve", self.port, *([connections] if connections else []), *words, **how)
 
     def __enter__(self):
         return self

@@ -5,10 +5,10 @@
 //! check-count ballots.txt sheet.txt
 //! ```
 //!
-//! What it prints, and the status that it ends with, is [`run`] of `recount`; here are this machine's words, files and outputs.
+//! What it prints, and the status that it ends with, is [`run`] of `checker`; here are this machine's words, files and outputs.
 #![tactic(auto)]
 
-use recount::{Folder, Unread, WordsFault, run};
+use checker::{ArgumentsFault, InputFiles, NotRead, run};
 use std::io::{Error, ErrorKind};
 use std::process::ExitCode;
 use std::{env, fs};
@@ -16,25 +16,25 @@ use votes::Counted;
 
 /// The files of this machine.
 #[derive(Clone, Copy)]
-struct Paths<'a> {
+struct LocalFiles<'a> {
     rt: &'a HostRuntime,
 }
 
-impl Paths<'_> {
+impl LocalFiles<'_> {
     /// Why a file wasn't read.
-    fn unread(&self, error: Error) -> Unread {
+    fn unread(&self, error: Error) -> NotRead {
         if error.kind() == ErrorKind::OutOfMemory {
-            return Unread::Memory;
+            return NotRead::Memory;
         }
         match error.to_string(self.rt.alloc()) {
-            Ok(why) => Unread::Because(why),
-            Err(_) => Unread::Memory,
+            Ok(why) => NotRead::Because(why),
+            Err(_) => NotRead::Memory,
         }
     }
 }
 
-impl Folder for Paths<'_> {
-    fn read(&self, path: &str) -> Result<Vec<u8>, Unread> {
+impl InputFiles for LocalFiles<'_> {
+    fn read(&self, path: &str) -> Result<Vec<u8>, NotRead> {
         match fs::read(self.rt, path) {
             Ok(bytes) => Ok(bytes),
             Err(error) => Err(self.unread(error)),
@@ -43,20 +43,20 @@ impl Folder for Paths<'_> {
 }
 
 /// The words behind the program's name.
-fn words(rt: &HostRuntime) -> Result<Vec<String>, WordsFault> {
+fn words(rt: &HostRuntime) -> Result<Vec<String>, ArgumentsFault> {
     let all = match env::args(rt) {
         Ok(all) => all,
-        Err(error) if error.kind() == ErrorKind::OutOfMemory => return Err(WordsFault::Memory),
-        Err(_) => return Err(WordsFault::NotUtf8),
+        Err(error) if error.kind() == ErrorKind::OutOfMemory => return Err(ArgumentsFault::Memory),
+        Err(_) => return Err(ArgumentsFault::NotUtf8),
     };
     match all.skip(1).collect(rt.alloc()) {
         Ok(words) => Ok(words),
-        Err(_) => Err(WordsFault::Memory),
+        Err(_) => Err(ArgumentsFault::Memory),
     }
 }
 
 fn main(rt: HostRuntime) -> ExitCode {
-    let folder = Paths { rt: &rt };
+    let folder = LocalFiles { rt: &rt };
     let mut out = Counted::new(rt.stdout());
     let mut err = Counted::new(rt.stderr());
     ExitCode::from(run(rt.alloc(), &words(&rt), &folder, &mut out, &mut err))

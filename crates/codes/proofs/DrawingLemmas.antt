@@ -9,9 +9,9 @@ use Rattle.codes.specs.Drawing.{AreDrawn, AreTooFew, IsDraw, IsDrawn, IsInVain, 
 use Rattle.codes.specs.Files.{codes_in}
 use Rattle.codes.specs.Making.{clerks_of, is_file_for, letter_of, letters_drawn, text_of}
 use Rattle.codes.specs.declared.fault.CodesFault.TheVariants.{BadRandom, NoRandom}
-use Rattle.codes.specs.declared.fault.ReadError.{ReadError}
-use Rattle.codes.specs.declared.fault.ReadError.TheVariants.{Fault, Memory}
-use Rattle.codes.specs.declared.range.Clerks.{Clerks}
+use Rattle.codes.specs.declared.fault.CodesError.{CodesError}
+use Rattle.codes.specs.declared.fault.CodesError.TheVariants.{Fault, Memory}
+use Rattle.codes.specs.declared.range.ClerkRange.{ClerkRange}
 use Rattle.codes.proofs.LetterLemmas.{one_letter}
 
 -- ---- known bytes
@@ -67,11 +67,11 @@ draw_grows old new before after one =
     ap (λ (ls : List ℕ). length ls) one.letters ∙ length-append before (letters_drawn (one.byte ∷ [])) in
     omega (arith, longer, one_letter one.byte)
 
-pub all_drawn : (clerks : Clerks) (old new : Option (List ℕ)) (letters : List ℕ) (most left : ℕ)
+pub all_drawn : (clerks : ClerkRange) (old new : Option (List ℕ)) (letters : List ℕ) (most left : ℕ)
     → IsDrawing old new letters most left → length letters ≡ letters_for clerks → AreDrawn clerks old new letters
 all_drawn clerks old new letters most left it enough = record { own = it.own; drew = it.drew; are = it.are; enough = enough }
 
-pub too_few : (clerks : Clerks) (old new : Option (List ℕ)) (letters : List ℕ) (most left : ℕ)
+pub too_few : (clerks : ClerkRange) (old new : Option (List ℕ)) (letters : List ℕ) (most left : ℕ)
     → IsDrawing old new letters most left → left ≡ 0 → most ≡ most_bytes * letters_for clerks → length letters < letters_for clerks → IsShort clerks old new
 too_few clerks old new letters most left it none all few =
     let same : length letters ≡ length (letters_drawn it.own) = ap (λ (ls : List ℕ). length ls) it.are in
@@ -80,7 +80,7 @@ too_few clerks old new letters most left it none all few =
 
 -- ---- texts
 
-pub text_drawn : (clerks : Clerks) (old new : Option (List ℕ)) (letters text : List ℕ)
+pub text_drawn : (clerks : ClerkRange) (old new : Option (List ℕ)) (letters text : List ℕ)
     → AreDrawn clerks old new letters → text ≡ text_of (clerks_of clerks) letters → IsDrawn clerks old new text
 text_drawn clerks old new letters text it is =
     record {
@@ -91,22 +91,22 @@ text_drawn clerks old new letters text it is =
     }
 
 -- so many texts were drawn of those that may be, and none of them is a file of codes
-pub record HasDrawn (clerks : Clerks) (old new : Option (List ℕ)) (left : ℕ) : Type 0 where
+pub record HasDrawn (clerks : ClerkRange) (old new : Option (List ℕ)) (left : ℕ) : Type 0 where
   pub earlier : List (List ℕ)
   pub drew : new ≡ append_known old (concat earlier)
   pub vain : list_all (is_vain clerks) earlier ≡ true
   pub many : length earlier + left ≡ most_files
 
-pub none_drawn : (clerks : Clerks) (old : Option (List ℕ)) → HasDrawn clerks old old most_files
+pub none_drawn : (clerks : ClerkRange) (old : Option (List ℕ)) → HasDrawn clerks old old most_files
 none_drawn clerks old = record { earlier = []; drew = known_none old; vain = refl; many = refl }
 
-is_not : (clerks : Clerks) (text own : List ℕ) → length (letters_drawn own) ≡ letters_for clerks → text ≡ text_of (clerks_of clerks) (letters_drawn own)
+is_not : (clerks : ClerkRange) (text own : List ℕ) → length (letters_drawn own) ≡ letters_for clerks → text ≡ text_of (clerks_of clerks) (letters_drawn own)
     → is_file_for clerks (codes_in text) ≡ false → is_vain clerks own ≡ true
 is_not clerks text own enough is bad =
     and_from _ _ (eq-eqb (length (letters_drawn own)) (letters_for clerks) enough)
     (ap not (ap (λ (t : List ℕ). is_file_for clerks (codes_in t)) (sym is) ∙ bad))
 
-pub one_more : (clerks : Clerks) (old mid new : Option (List ℕ)) (text : List ℕ) (left : ℕ)
+pub one_more : (clerks : ClerkRange) (old mid new : Option (List ℕ)) (text : List ℕ) (left : ℕ)
     → HasDrawn clerks old mid left → IsDrawn clerks mid new text → is_file_for clerks (codes_in text) ≡ false → 0 < left → HasDrawn clerks old new (left - 1)
 one_more clerks old mid new text left it one bad some =
     let joined : concat (it.earlier ++ one.own ∷ []) ≡ concat it.earlier ++ one.own =
@@ -121,7 +121,7 @@ one_more clerks old mid new text left it one bad some =
       many = omega (arith, longer, it.many, some);
     }
 
-pub made_of : (clerks : Clerks) (old mid new : Option (List ℕ)) (text : List ℕ) (left : ℕ)
+pub made_of : (clerks : ClerkRange) (old mid new : Option (List ℕ)) (text : List ℕ) (left : ℕ)
     → HasDrawn clerks old mid left → IsDrawn clerks mid new text → IsMadeOf clerks old new text
 made_of clerks old mid new text left it one =
     record {
@@ -133,20 +133,20 @@ made_of clerks old mid new text left it one =
       is = one.is;
     }
 
-pub all_vain : (clerks : Clerks) (old new : Option (List ℕ)) (left : ℕ) → HasDrawn clerks old new left → left ≤ 0 → IsInVain clerks old new
+pub all_vain : (clerks : ClerkRange) (old new : Option (List ℕ)) (left : ℕ) → HasDrawn clerks old new left → left ≤ 0 → IsInVain clerks old new
 all_vain clerks old new left it none =
     let many : length it.earlier ≡ most_files = omega (arith, it.many, none) in
     record { earlier = it.earlier; own = []; drew = it.drew ∙ ap (append_known old) (sym (append-nil (concat it.earlier))); vain = it.vain; ends = inl (many, refl) }
 
 -- ---- errors
 
-pub undrawn : (clerks : Clerks) (failed failed_mid failed_then : ℕ) (old new : Option (List ℕ)) (why : ReadError)
+pub undrawn : (clerks : ClerkRange) (failed failed_mid failed_then : ℕ) (old new : Option (List ℕ)) (why : CodesError)
     → failed_mid ≡ failed → IsUndrawn failed_mid failed_then why → IsUnwritten clerks failed failed_then old new why
 undrawn clerks failed failed_mid failed_then old new Memory same is = is ∙ same
 undrawn clerks failed failed_mid failed_then old new (Fault NoRandom) same is = is ∙ ap (λ n. n + 1) same
 undrawn clerks failed failed_mid failed_then old new (Fault other) same is = absurd is
 
-pub unmade : (clerks : Clerks) (failed failed_mid failed_then : ℕ) (old mid new : Option (List ℕ)) (left : ℕ) (why : ReadError)
+pub unmade : (clerks : ClerkRange) (failed failed_mid failed_then : ℕ) (old mid new : Option (List ℕ)) (left : ℕ) (why : CodesError)
     → HasDrawn clerks old mid left → failed_mid ≡ failed → IsUnwritten clerks failed_mid failed_then mid new why → IsUnmade clerks failed failed_then old new why
 unmade clerks failed failed_mid failed_then old mid new left Memory it same is = is ∙ same
 unmade clerks failed failed_mid failed_then old mid new left (Fault NoRandom) it same is = is ∙ ap (λ n. n + 1) same

@@ -6,11 +6,11 @@ use Rattle.base64.specs.GeneralPurpose.{encode_of}
 use Rattle.codes.specs.declared.credentials.Credentials.{Credentials}
 use Rattle.codes.specs.declared.holders.Codes.{Codes}
 
--- a clerk's number, a colon and his code, as a browser sends them: in base64, behind the name of the scheme
+-- a clerk's number, a colon and the clerk's code, as a browser sends them: in base64, after the name of the scheme
 abbrev pub credentials_of : ℕ → List ℕ → List ℕ
 credentials_of clerk code = codes "Basic " ++ encode_of standard ((decimal clerk ++ codes ":") ++ code)
 
--- who has which credentials
+-- a clerk and that clerk's credentials
 pub record Holder : Type 0 where
   pub clerk : ℕ
   pub text : List ℕ

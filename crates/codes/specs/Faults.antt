@@ -1,17 +1,17 @@
--- Why codes aren't taken, or not made: a number, in words, and of which line.
+-- Why codes aren't accepted, or not made: a number, a text, and the line.
 use Rattle.std.specs.Prelude.{List, Option, Some, None, codes, ℕ}
 use Rattle.codes.specs.declared.fault.CodesFault.{CodesFault}
 use Rattle.codes.specs.declared.fault.CodesFault.TheVariants.{BadRandom, Line, NoClerks, NoRandom, OpenToOthers, Unmade, Unread}
-use Rattle.codes.specs.declared.fault.Flaw.{Flaw}
-use Rattle.codes.specs.declared.fault.Flaw.TheVariants.{BadCode, ClerkTwice, CodeTwice, NoEntry}
+use Rattle.codes.specs.declared.fault.CodeFlaw.{CodeFlaw}
+use Rattle.codes.specs.declared.fault.CodeFlaw.TheVariants.{BadCode, ClerkTwice, CodeTwice, NoEntry}
 
-abbrev pub flaw_number : Flaw → ℕ
+abbrev pub flaw_number : CodeFlaw → ℕ
 flaw_number NoEntry = 1
 flaw_number BadCode = 2
 flaw_number ClerkTwice = 3
 flaw_number CodeTwice = 4
 
-abbrev pub flaw_text : Flaw → List ℕ
+abbrev pub flaw_text : CodeFlaw → List ℕ
 flaw_text NoEntry = codes "no clerk and code"
 flaw_text BadCode = codes "bad code"
 flaw_text ClerkTwice = codes "clerk twice"
@@ -35,7 +35,7 @@ fault_text NoRandom = codes "no random bytes"
 fault_text NoClerks = codes "no clerks, as 1-40"
 fault_text BadRandom = codes "random bytes make no codes"
 
--- the number of its line, where it is of one
+-- the number of its line, if it is about one
 abbrev pub fault_line : CodesFault → Option ℕ
 fault_line (Line number flaw) = Some number
 fault_line other = None

@@ -1,11 +1,11 @@
--- A file of codes: a line a clerk, his number, a blank, and his code.
+-- A file of codes: for each clerk a line with the clerk's number, a blank, and the code.
 use Rattle.std.specs.Prelude.{◌∷◌, ◌++◌, ◌+◌, ◌-◌, ◌*◌, ◌==◌, ◌&&◌, ◌||◌, Bool, List, [], Option, Some, None, Result, Ok, Err}
 use Rattle.std.specs.Prelude.{bytes_eq, count_by, drop, if◌then◌else◌, length, map, nat_le, nat_lt, not, option_and_then, option_map, slice_index, take, ℕ}
 use Rattle.std.specs.Char.{is_ascii_digit}
 use Rattle.std.specs.List.{list_all, list_any, prefix_len}
 use Rattle.codes.specs.Codes.{Holder, credentials_of}
-use Rattle.codes.specs.declared.fault.Flaw.{Flaw}
-use Rattle.codes.specs.declared.fault.Flaw.TheVariants.{BadCode, ClerkTwice, CodeTwice, NoEntry}
+use Rattle.codes.specs.declared.fault.CodeFlaw.{CodeFlaw}
+use Rattle.codes.specs.declared.fault.CodeFlaw.TheVariants.{BadCode, ClerkTwice, CodeTwice, NoEntry}
 use Rattle.codes.specs.declared.fault.CodesFault.{CodesFault}
 use Rattle.codes.specs.declared.fault.CodesFault.TheVariants as fault
 use Rattle.codes.specs.declared.reading.CodeLine.{CodeLine}
@@ -41,11 +41,11 @@ is_strong code = nat_le fewest_strong_bytes (count_by is_no_hyphen code)
 
 -- ---- a clerk's number
 
--- what a digit counts
+-- the value of a digit
 abbrev pub digit_in : ℕ → Option ℕ
 digit_in byte = if is_ascii_digit byte then Some (byte - 48) else None
 
--- the number that some digits write behind others, which write this one
+-- the number that digits make after others, which make this one
 abbrev pub more_digits : Option ℕ → List ℕ → Option ℕ
 more_digits value [] = value
 more_digits value (byte ∷ bytes) = more_digits (option_and_then (λ v. option_map (λ d. v * 10 + d) (digit_in byte)) value) bytes
@@ -57,7 +57,7 @@ clerk_in (byte ∷ bytes) = if byte == 48 || nat_lt 2 (length bytes) then None e
 
 -- ---- a line
 
--- who has which code
+-- a clerk and that clerk's code
 pub record CodeEntry : Type 0 where
   pub clerk : ℕ
   pub code : List ℕ
@@ -65,7 +65,7 @@ pub record CodeEntry : Type 0 where
 abbrev pub code_entry : CodeLine → CodeEntry
 code_entry line = record { clerk = line.clerk; code = line.code.now }
 
--- the lines of a text behind the beginning of the first; a line feed ends one
+-- the lines of a text after the beginning of the first; a line feed ends one
 abbrev pub lines_from : List ℕ → List ℕ → List (List ℕ)
 lines_from line [] = line ∷ []
 lines_from line (byte ∷ bytes) = if byte == 10 then line ∷ lines_from [] bytes else lines_from (line ++ byte ∷ []) bytes
@@ -78,17 +78,17 @@ without_return line = if nat_lt 0 (length line) && slice_index line (length line
 abbrev pub is_no_blank : ℕ → Bool
 is_no_blank byte = not (byte == 32)
 
--- a clerk and his code, by what stands before the first blank of a line and behind it
-abbrev pub entry_by : Option ℕ → List ℕ → Result CodeEntry Flaw
+-- a clerk and the clerk's code, by what comes before the first blank of a line and after it
+abbrev pub entry_by : Option ℕ → List ℕ → Result CodeEntry CodeFlaw
 entry_by None code = Err NoEntry
 entry_by (Some clerk) code = if is_code code then Ok (record { clerk = clerk; code = code }) else Err BadCode
 
--- what a line says
-abbrev pub entry_in : List ℕ → Result CodeEntry Flaw
+-- the entry of a line
+abbrev pub entry_in : List ℕ → Result CodeEntry CodeFlaw
 entry_in line = entry_by (clerk_in (take (prefix_len is_no_blank line) line)) (drop (prefix_len is_no_blank line + 1) line)
 
--- an entry behind others: no clerk stands there twice, and no code
-abbrev pub entry_behind : List CodeEntry → Result CodeEntry Flaw → Result CodeEntry Flaw
+-- an entry after others, none of which has its clerk or its code
+abbrev pub entry_behind : List CodeEntry → Result CodeEntry CodeFlaw → Result CodeEntry CodeFlaw
 entry_behind before (Err flaw) = Err flaw
 entry_behind before (Ok entry) =
     if list_any (λ other. other.clerk == entry.clerk) before then Err ClerkTwice else
@@ -96,12 +96,12 @@ entry_behind before (Ok entry) =
 
 -- ---- all lines
 
--- it goes on behind an entry, or ends with what is wrong with the line of this number
-abbrev pub entries_by : (List CodeEntry → Result (List CodeEntry) CodesFault) → ℕ → List CodeEntry → Result CodeEntry Flaw → Result (List CodeEntry) CodesFault
+-- it continues after an entry, or ends with what is wrong with the line of this number
+abbrev pub entries_by : (List CodeEntry → Result (List CodeEntry) CodesFault) → ℕ → List CodeEntry → Result CodeEntry CodeFlaw → Result (List CodeEntry) CodesFault
 entries_by others number before (Err flaw) = Err (fault.Line number flaw)
 entries_by others number before (Ok entry) = others (before ++ entry ∷ [])
 
--- the entries of lines from one number on, behind those before; a line with nothing in it is passed over
+-- the entries of lines from one number on, after those before; an empty line is skipped
 abbrev pub entries_from : ℕ → List CodeEntry → List (List ℕ) → Result (List CodeEntry) CodesFault
 entries_from number before [] = Ok before
 entries_from number before (line ∷ lines) =

@@ -4,7 +4,7 @@ use Rattle.std.specs.Prelude.{codes, decimal, drop, if◌then◌else◌, length,
 use Rattle.std.specs.List.{filter_map, list_all, list_any, prefix_len}
 use Rattle.codes.specs.Files.{CodeEntry, clerk_in, codes_in, is_no_hyphen}
 use Rattle.codes.specs.declared.fault.CodesFault.{CodesFault}
-use Rattle.codes.specs.declared.range.Clerks.{Clerks}
+use Rattle.codes.specs.declared.range.ClerkRange.{ClerkRange}
 
 -- ---- codes
 
@@ -16,7 +16,7 @@ letters = codes "abcdefghjkmnprstuwxy2347"
 abbrev pub is_letter : ℕ → Bool
 is_letter byte = list_any (λ letter. letter == byte) letters
 
--- how many bytes draw a letter, each letter as many; any other byte draws none
+-- how many bytes draw a letter, equally many for each letter; any other byte draws none
 abbrev pub drawing_bytes : ℕ
 drawing_bytes = 240
 
@@ -32,7 +32,7 @@ letters_drawn bytes = filter_map letter_of bytes
 abbrev pub code_letters : ℕ
 code_letters = 12
 
--- a code of twelve letters: in fours, with a hyphen between
+-- a code of twelve letters: in groups of four, with hyphens between them
 abbrev pub is_made : List ℕ → Bool
 is_made code =
     (length code == 14)
@@ -47,15 +47,15 @@ numbers first zero = []
 numbers first (suc n) = first ∷ numbers (first + 1) n
 
 -- the clerks from one to another
-abbrev pub clerks_of : Clerks → List ℕ
+abbrev pub clerks_of : ClerkRange → List ℕ
 clerks_of clerks = numbers clerks.first (clerks.last + 1 - clerks.first)
 
--- who is first and who is last, where the first isn't behind the last
+-- the first and the last clerk, if the first isn't greater than the last
 pub record ClerksEntry : Type 0 where
   pub first : ℕ
   pub last : ℕ
 
-abbrev pub clerks_entry : Clerks → ClerksEntry
+abbrev pub clerks_entry : ClerkRange → ClerksEntry
 clerks_entry clerks = record { first = clerks.first; last = clerks.last }
 
 abbrev pub clerks_between : Option ℕ → Option ℕ → Option ClerksEntry
@@ -82,13 +82,13 @@ are_from next end [] = next == end
 are_from next end (entry ∷ entries) = (entry.clerk == next) && are_from (next + 1) end entries
 
 -- the same test of what was read of a text
-abbrev pub is_file_for : Clerks → Result (List CodeEntry) CodesFault → Bool
+abbrev pub is_file_for : ClerkRange → Result (List CodeEntry) CodesFault → Bool
 is_file_for clerks (Err fault) = false
 is_file_for clerks (Ok entries) = are_from clerks.first (clerks.last + 1) entries && list_all (λ (e : CodeEntry). is_made e.code) entries
 
 -- ---- its text
 
--- the line of a clerk: his number, a blank, and his code of these letters
+-- the line of a clerk: the clerk's number, a blank, and the code of these letters
 abbrev pub line_of : ℕ → List ℕ → List ℕ
 line_of clerk own =
     ((((((decimal clerk ++ codes " ") ++ take 4 own) ++ codes "-") ++ slice_range own 4 8) ++ codes "-") ++ drop 8 own) ++ codes "\n"

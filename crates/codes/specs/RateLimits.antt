@@ -10,7 +10,7 @@ most_wrong = 6000
 abbrev pub minute : ℕ
 minute = 60000
 
--- the wrong codes of a minute: when it began, in milliseconds of a clock, and how many came since, up to the limit
+-- the wrong codes of a minute: when it began, in milliseconds of a clock, and how many came since then, up to the limit
 pub record LimitEntry : Type 0 where
   pub since : ℕ
   pub count : ℕ
@@ -22,7 +22,7 @@ limit_entry limit = record { since = limit.since; count = limit.count }
 abbrev pub none_wrong : LimitEntry
 none_wrong = record { since = 0; count = 0 }
 
--- its minute isn't over; a time before its beginning, to which a clock was set back, counts as the beginning
+-- the minute isn't over; a time before its beginning, to which a clock was set back, counts as the beginning
 abbrev pub is_current : LimitEntry → ℕ → Bool
 is_current e now = nat_lt (now - e.since) minute
 
@@ -30,7 +30,7 @@ is_current e now = nat_lt (now - e.since) minute
 abbrev pub is_reached : LimitEntry → ℕ → Bool
 is_reached e now = nat_le most_wrong e.count && is_current e now
 
--- one wrong code more, in the current minute, or the first one of a new minute
+-- one more wrong code, in the current minute, or the first one of a new minute
 abbrev pub counted : ℕ → LimitEntry → LimitEntry
 counted now e =
     if is_current e now then record { since = e.since; count = min (e.count + 1) most_wrong } else record { since = now; count = 1 }

@@ -3,7 +3,7 @@
 ghost use Rattle.std.specs.Prelude.{◌≡◌, string_bytes};
 ghost use Rattle.sha2.specs.Sha256.{sha256};
 
-/// What a browser sends for a clerk with a code, and its digest.
+/// What a browser sends for a clerk with a code, and the digest of that.
 #[derive(Drop)]
 pub struct Credentials {
     pub clerk: u32,

@@ -5,17 +5,17 @@ ghost use Rattle.codes.specs.Drawing.{AreDrawn, IsDraw, IsDrawn, IsUndrawn, IsUn
 ghost use Rattle.codes.specs.Making.{clerks_of, letter_of, line_of, text_of};
 
 use crate::drawing::Draws;
-use crate::fault::{CodesFault, ReadError};
-use crate::range::Clerks;
+use crate::fault::{CodesError, CodesFault};
+use crate::range::ClerkRange;
 use std::alloc::{AllocError, Global};
 
 /// The letters of codes, none of which looks like another.
 pub(crate) const LETTERS: &[u8; 24] = b"abcdefghjkmnprstuwxy2347";
 
-/// How many bytes draw a letter, each letter as many. Any other byte draws none.
+/// How many bytes draw a letter, equally many for each letter. Any other byte draws none.
 const DRAWING_BYTES: u8 = 240;
 
-/// How many bytes are drawn at most, for each letter.
+/// The most bytes that are drawn for each letter.
 const MOST_BYTES: usize = 100;
 
 /// How many letters a code has.
@@ -39,19 +39,19 @@ fn letter_of(byte: u8) -> Option<u8>
 }
 
 /// Draws a byte, and appends the letter that it draws, if it draws one.
-fn draw_letter<D: Draws>(draws: &mut D, letters: &mut Vec<u8>) -> Result<(), ReadError>
+fn draw_letter<D: Draws>(draws: &mut D, letters: &mut Vec<u8>) -> Result<(), CodesError>
     requires { D.failed draws.old < 2 ^ 64 - 1 }
     ensures ok { OnOk result (IsDraw (D.drawn draws.old) (D.drawn draws.new) letters.old.items letters.new.items) }
     ensures failed { OnOk result (D.failed draws.new ≡ D.failed draws.old) }
     ensures err { IfErr result (IsUndrawn (D.failed draws.old) (D.failed draws.new)) }
 {
     let Ok(byte) = draws.draw() else {
-        return Err(ReadError::Fault(CodesFault::NoRandom));
+        return Err(CodesError::Fault(CodesFault::NoRandom));
     };
     match letter_of(byte) {
         Some(letter) => {
             if letters.push(letter).is_err() {
-                return Err(ReadError::Memory);
+                return Err(CodesError::Memory);
             }
             Ok(())
         }
@@ -63,8 +63,8 @@ fn draw_letter<D: Draws>(draws: &mut D, letters: &mut Vec<u8>) -> Result<(), Rea
 fn draw_letters<D: Draws>(
     alloc: Global,
     draws: &mut D,
-    clerks: Clerks,
-) -> Result<Vec<u8>, ReadError>
+    clerks: ClerkRange,
+) -> Result<Vec<u8>, CodesError>
     requires { D.failed draws.old < 2 ^ 64 - 1 }
     ensures ok { IfOk result (λ letters. AreDrawn clerks (D.drawn draws.old) (D.drawn draws.new) letters.items) }
     ensures failed { OnOk result (D.failed draws.new ≡ D.failed draws.old) }
@@ -75,7 +75,7 @@ fn draw_letters<D: Draws>(
     let mut letters = Vec::new(alloc);
     while letters.as_slice().len() < count {
         if left == 0 {
-            return Err(ReadError::Fault(CodesFault::BadRandom));
+            return Err(CodesError::Fault(CodesFault::BadRandom));
         }
         draw_letter(draws, &mut letters)?;
         left -= 1;
@@ -94,7 +94,7 @@ fn push_letters(text: &mut String, letters: &[u8]) -> Result<(), AllocError>
     Ok(())
 }
 
-/// Appends the line of a clerk: his number, a blank, and his code of these letters.
+/// Appends the line of a clerk: the clerk's number, a blank, and the code of these letters.
 #[tactic(auto, using(crate::proofs::NumberLemmas::joined))]
 fn push_line(alloc: Global, text: &mut String, clerk: u32, letters: &[u8]) -> Result<(), AllocError>
     requires enough { length letters.now ≡ 12 }
@@ -113,7 +113,7 @@ fn push_line(alloc: Global, text: &mut String, clerk: u32, letters: &[u8]) -> Re
 }
 
 /// Returns the lines of some clerks, with twelve of these letters for each.
-fn lines_by(alloc: Global, clerks: Clerks, letters: &[u8]) -> Result<String, AllocError>
+fn lines_by(alloc: Global, clerks: ClerkRange, letters: &[u8]) -> Result<String, AllocError>
     requires enough { length letters.now ≡ letters_for clerks }
     requires ascii { EachIndex letters.now (λ k. slice_index letters.now k < 128) }
     ensures { IfOk result (λ text. string_bytes text ≡ text_of (clerks_of clerks) letters.now) }
@@ -129,13 +129,13 @@ fn lines_by(alloc: Global, clerks: Clerks, letters: &[u8]) -> Result<String, All
     Ok(text)
 }
 
-/// Draws the codes of some clerks, and returns their lines. `NoRandom` comes from the source, and `BadRandom` where 100 bytes for
-/// each letter draw too few.
+/// Draws the codes of some clerks, and returns their lines. The error is `NoRandom` if the source fails, and `BadRandom` if 100
+/// bytes for each letter draw too few.
 pub(crate) fn draw_lines<D: Draws>(
     alloc: Global,
     draws: &mut D,
-    clerks: Clerks,
-) -> Result<String, ReadError>
+    clerks: ClerkRange,
+) -> Result<String, CodesError>
     requires { D.failed draws.old < 2 ^ 64 - 1 }
     ensures ok { IfOk result (λ text. IsDrawn clerks (D.drawn draws.old) (D.drawn draws.new) (string_bytes text)) }
     ensures failed { OnOk result (D.failed draws.new ≡ D.failed draws.old) }

@@ -2,13 +2,13 @@
 
 ghost use Rattle.std.specs.Prelude.{◌≡◌};
 ghost use Rattle.codes.specs.Faults.{fault_line, fault_number, fault_text, flaw_number, flaw_text};
-ghost use Rattle.codes.specs.declared.fault.ReadError.TheVariants.{Memory};
+ghost use Rattle.codes.specs.declared.fault.CodesError.TheVariants.{Memory};
 
 use std::alloc::AllocError;
 
 /// What is wrong with a line.
 #[derive(Clone, Copy, Debug, PartialEq, Eq, Drop)]
-pub enum Flaw {
+pub enum CodeFlaw {
     /// The line doesn't begin with a clerk's number, 1 to 999, and a blank.
     NoEntry,
     /// The rest of the line is no code: 8 to 64 letters, digits and signs.
@@ -23,7 +23,7 @@ pub enum Flaw {
 #[derive(Clone, Copy, Debug, PartialEq, Eq, Drop)]
 pub enum CodesFault {
     /// This is wrong with the line of this number.
-    Line(usize, Flaw),
+    Line(usize, CodeFlaw),
     /// Others than its owner may read the file.
     OpenToOthers,
     /// The file can't be read, or it is too long.
@@ -38,16 +38,16 @@ pub enum CodesFault {
     BadRandom,
 }
 
-impl Flaw {
+impl CodeFlaw {
     /// Returns its number.
     fn number(self) -> u32
         ensures { result ≡ flaw_number self }
     {
         match self {
-            Flaw::NoEntry => 1,
-            Flaw::BadCode => 2,
-            Flaw::ClerkTwice => 3,
-            Flaw::CodeTwice => 4,
+            CodeFlaw::NoEntry => 1,
+            CodeFlaw::BadCode => 2,
+            CodeFlaw::ClerkTwice => 3,
+            CodeFlaw::CodeTwice => 4,
         }
     }
 
@@ -56,10 +56,10 @@ impl Flaw {
         ensures { result.now ≡ flaw_text self }
     {
         match self {
-            Flaw::NoEntry => "no clerk and code",
-            Flaw::BadCode => "bad code",
-            Flaw::ClerkTwice => "clerk twice",
-            Flaw::CodeTwice => "code twice",
+            CodeFlaw::NoEntry => "no clerk and code",
+            CodeFlaw::BadCode => "bad code",
+            CodeFlaw::ClerkTwice => "clerk twice",
+            CodeFlaw::CodeTwice => "code twice",
         }
     }
 }
@@ -108,17 +108,17 @@ impl CodesFault {
 
 /// Why no codes were read or made.
 #[derive(Clone, Copy, Debug, PartialEq, Eq, Drop)]
-pub enum ReadError {
+pub enum CodesError {
     /// An allocation failed.
     Memory,
     /// This is wrong.
     Fault(CodesFault),
 }
 
-impl From<AllocError> for ReadError {
+impl From<AllocError> for CodesError {
     ghost from_gives = { λ _ why. why ≡ Memory };
 
-    fn from(_: AllocError) -> ReadError {
-        ReadError::Memory
+    fn from(_: AllocError) -> CodesError {
+        CodesError::Memory
     }
 }

@@ -29,9 +29,9 @@ mod rate_limit;
 
 pub use credentials::Credentials;
 pub use drawing::{DrawFailed, Draws};
-pub use fault::{CodesFault, Flaw, ReadError};
+pub use fault::{CodeFlaw, CodesError, CodesFault};
 pub use holders::Codes;
 pub use making::make;
-pub use range::Clerks;
+pub use range::ClerkRange;
 pub use rate_limit::RateLimit;
 pub use reading::CodeLine;

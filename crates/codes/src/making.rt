@@ -5,16 +5,16 @@ ghost use Rattle.std.specs.List.{list_all};
 ghost use Rattle.codes.specs.Drawing.{IsMadeOf, IsUnmade};
 ghost use Rattle.codes.specs.Files.{CodeEntry, code_entry, codes_in};
 ghost use Rattle.codes.specs.Making.{IsMadeFor, are_from, clerks_of, is_file_for, is_letter, is_made};
-ghost use Rattle.codes.specs.declared.fault.ReadError.TheVariants.{Memory};
+ghost use Rattle.codes.specs.declared.fault.CodesError.TheVariants.{Memory};
 
 use crate::drawing::Draws;
 use crate::drawn::{LETTERS, draw_lines};
-use crate::fault::{CodesFault, ReadError};
-use crate::range::Clerks;
+use crate::fault::{CodesError, CodesFault};
+use crate::range::ClerkRange;
 use crate::reading::{CodeLine, entries_of, lines_of};
 use std::alloc::Global;
 
-/// How many files are drawn at most.
+/// The most files that are drawn.
 const MOST_FILES: u32 = 100;
 
 /// How many bytes a code has.
@@ -27,14 +27,14 @@ fn is_letter(byte: u8) -> bool
     LETTERS.iter().any(|letter| *letter == byte)
 }
 
-/// Returns whether bytes are such letters alone.
+/// Returns whether all bytes are such letters.
 fn are_letters(text: &[u8]) -> bool
     ensures { result ≡ list_all is_letter text.now }
 {
     text.iter().all(|byte| is_letter(*byte))
 }
 
-/// Returns whether a code has twelve letters, in fours with a hyphen between.
+/// Returns whether a code has twelve letters, in groups of four with hyphens between them.
 fn is_made(code: &[u8]) -> bool
     ensures { result ≡ is_made code.now }
 {
@@ -46,7 +46,7 @@ fn is_made(code: &[u8]) -> bool
         && are_letters(&code[10..])
 }
 
-/// Returns whether the codes of some lines are such codes alone.
+/// Returns whether the codes of some lines are all such codes.
 fn all_made(all: &[CodeLine<'_>]) -> bool
     ensures { result ≡ list_all (λ (e : CodeEntry). is_made e.code) (map code_entry all.now) }
 {
@@ -58,8 +58,8 @@ fn all_made(all: &[CodeLine<'_>]) -> bool
     true
 }
 
-/// Returns whether some lines are of just these clerks, in order.
-fn are_of(all: &[CodeLine<'_>], clerks: Clerks) -> bool
+/// Returns whether some lines are of exactly these clerks, in order.
+fn are_of(all: &[CodeLine<'_>], clerks: ClerkRange) -> bool
     ensures { result ≡ are_from clerks.first (clerks.last + 1) (map code_entry all.now) }
 {
     let mut next = u64::from(clerks.first);
@@ -72,25 +72,29 @@ fn are_of(all: &[CodeLine<'_>], clerks: Clerks) -> bool
     next == u64::from(clerks.last) + 1
 }
 
-/// Returns whether a text is a file of new codes for just these clerks. The only error is that an allocation failed.
-fn is_made_for(alloc: Global, text: &[u8], clerks: Clerks) -> Result<bool, ReadError>
+/// Returns whether a text is a file of new codes for exactly these clerks. The only error is a failed allocation.
+fn is_made_for(alloc: Global, text: &[u8], clerks: ClerkRange) -> Result<bool, CodesError>
     ensures ok { IfOk result (λ is. is ≡ is_file_for clerks (codes_in text.now)) }
     ensures err { IfErr result (λ why. why ≡ Memory) }
 {
     let lines = lines_of(alloc, text)?;
     match entries_of(alloc, lines.as_slice()) {
         Ok(entries) => Ok(are_of(entries.as_slice(), clerks) && all_made(entries.as_slice())),
-        Err(ReadError::Fault(_)) => Ok(false),
-        Err(ReadError::Memory) => Err(ReadError::Memory),
+        Err(CodesError::Fault(_)) => Ok(false),
+        Err(CodesError::Memory) => Err(CodesError::Memory),
     }
 }
 
-/// Returns the text of a file of new codes for some clerks, a line each. Its letters are those that the last bytes draw. The text
-/// is read again: if a code stands in it twice, all are drawn anew.
+/// Returns the text of a file of new codes for some clerks, one line each. Its letters are those that the last bytes draw. The text
+/// is read back: if a code appears in it twice, all are drawn again.
 ///
-/// `NoRandom` comes only from the source, whose failures rose by one. `BadRandom` comes if 100 bytes for each letter draw too few
-/// letters, or if 100 texts are no files of codes. The only other error is that an allocation failed.
-pub fn make<D: Draws>(alloc: Global, draws: &mut D, clerks: Clerks) -> Result<String, ReadError>
+/// The error is `NoRandom` if the source fails, which then counts one failure more. It is `BadRandom` if 100 bytes for each letter
+/// draw too few letters, or if 100 texts are no files of codes. The only other error is a failed allocation.
+pub fn make<D: Draws>(
+    alloc: Global,
+    draws: &mut D,
+    clerks: ClerkRange,
+) -> Result<String, CodesError>
     requires { D.failed draws.old < 2 ^ 64 - 1 }
     ensures reads { IfOk result (λ text. IsMadeFor (clerks_of clerks) (string_bytes text)) }
     ensures drawn { IfOk result (λ text. IsMadeOf clerks (D.drawn draws.old) (D.drawn draws.new) (string_bytes text)) }
@@ -105,5 +109,5 @@ pub fn make<D: Draws>(alloc: Global, draws: &mut D, clerks: Clerks) -> Result<St
             return Ok(text);
         }
     }
-    Err(ReadError::Fault(CodesFault::BadRandom))
+    Err(CodesError::Fault(CodesFault::BadRandom))
 }

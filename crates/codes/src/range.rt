@@ -7,9 +7,9 @@ ghost use Rattle.codes.specs.Making.{clerks_entry, clerks_in, clerks_of};
 
 use crate::reading::clerk_in;
 
-/// Clerks in a row: the first and the last.
+/// A range of clerks: the first and the last.
 #[derive(Clone, Copy)]
-pub struct Clerks {
+pub struct ClerkRange {
     pub first: u32,
     pub last: u32,
 }
@@ -29,7 +29,7 @@ fn front_length(text: &[u8]) -> usize
     length
 }
 
-impl Clerks {
+impl ClerkRange {
     /// Returns how many they are.
     #[tactic(auto, using(crate::proofs::NumberLemmas::length_numbers))]
     pub fn count(self) -> usize
@@ -41,7 +41,7 @@ impl Clerks {
     }
 
     /// Returns the clerks that a text such as `1-40` names, or None if it names none.
-    pub fn parse(text: &str) -> Option<Clerks>
+    pub fn parse(text: &str) -> Option<ClerkRange>
         ensures { option_map clerks_entry result ≡ clerks_in text.now }
     {
         let text = text.as_bytes();
@@ -49,7 +49,7 @@ impl Clerks {
         let first = clerk_in(&text[..length])?;
         let last = clerk_in(&text[text.len().min(length + 1)..])?;
         if first <= last {
-            Some(Clerks { first, last })
+            Some(ClerkRange { first, last })
         } else {
             None
         }

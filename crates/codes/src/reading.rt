@@ -5,9 +5,9 @@ ghost use Rattle.std.specs.List.{list_all, list_any, prefix_len};
 ghost use Rattle.codes.specs.Codes.{holders_of};
 ghost use Rattle.codes.specs.Files.{CodeEntry, clerk_in, code_entry, codes_in, digit_in, entries_from, entry_behind, entry_in, holders_by, is_code, is_no_blank, is_strong, is_visible};
 ghost use Rattle.codes.specs.Files.{lines_from, weak_clerks, without_return};
-ghost use Rattle.codes.specs.declared.fault.ReadError.TheVariants as read_error;
+ghost use Rattle.codes.specs.declared.fault.CodesError.TheVariants as read_error;
 
-use crate::fault::{CodesFault, Flaw, ReadError};
+use crate::fault::{CodeFlaw, CodesError, CodesFault};
 use crate::holders::{Codes, credentials_by};
 use std::alloc::{AllocError, Global};
 use std::mem;
@@ -122,19 +122,19 @@ fn front_length(line: &[u8]) -> usize
 }
 
 /// Parses a line: a clerk's number, a blank, and a code.
-fn entry_in(line: &[u8]) -> Result<CodeLine<'_>, Flaw>
+fn entry_in(line: &[u8]) -> Result<CodeLine<'_>, CodeFlaw>
     ensures ok { IfOk result (λ found. entry_in line.now ≡ Ok (code_entry found)) }
     ensures err { IfErr result (λ flaw. entry_in line.now ≡ Err flaw) }
 {
     let length = front_length(line);
     let Some(clerk) = clerk_in(&line[..length]) else {
-        return Err(Flaw::NoEntry);
+        return Err(CodeFlaw::NoEntry);
     };
     let code = &line[line.len().min(length + 1)..];
     if is_code(code) {
         Ok(CodeLine { clerk, code })
     } else {
-        Err(Flaw::BadCode)
+        Err(CodeFlaw::BadCode)
     }
 }
 
@@ -174,16 +174,16 @@ fn has_code(before: &[CodeLine<'_>], code: &[u8]) -> bool
 }
 
 /// Parses a line after others, of which none may have its clerk or its code.
-fn entry_behind<'a>(before: &[CodeLine<'_>], line: &'a [u8]) -> Result<CodeLine<'a>, Flaw>
+fn entry_behind<'a>(before: &[CodeLine<'_>], line: &'a [u8]) -> Result<CodeLine<'a>, CodeFlaw>
     ensures ok { IfOk result (λ found. entry_behind (map code_entry before.now) (entry_in line.now) ≡ Ok (code_entry found)) }
     ensures err { IfErr result (λ flaw. entry_behind (map code_entry before.now) (entry_in line.now) ≡ Err flaw) }
 {
     let found = entry_in(line)?;
     if has_clerk(before, found.clerk) {
-        return Err(Flaw::ClerkTwice);
+        return Err(CodeFlaw::ClerkTwice);
     }
     if has_code(before, found.code) {
-        return Err(Flaw::CodeTwice);
+        return Err(CodeFlaw::CodeTwice);
     }
     Ok(found)
 }
@@ -206,7 +206,7 @@ pub(crate) fn lines_of(alloc: Global, text: &[u8]) -> Result<Vec<Vec<u8>>, Alloc
 }
 
 /// Parses all lines. The errors are that an allocation failed, and the first line that is wrong.
-pub(crate) fn entries_of(alloc: Global, lines: &[Vec<u8>]) -> Result<Vec<CodeLine<'_>>, ReadError>
+pub(crate) fn entries_of(alloc: Global, lines: &[Vec<u8>]) -> Result<Vec<CodeLine<'_>>, CodesError>
     ensures ok { IfOk result (λ found. entries_from 1 [] (map (λ line. line.items) lines.now) ≡ Ok (map code_entry found.items)) }
     ensures err { IfErr result (λ why. (why ≡ read_error.Memory) ⊎ ((fault : CodesFault) × (why ≡ read_error.Fault fault) × (entries_from 1 [] (map (λ line. line.items) lines.now) ≡ Err fault))) }
 {
@@ -217,10 +217,10 @@ pub(crate) fn entries_of(alloc: Global, lines: &[Vec<u8>]) -> Result<Vec<CodeLin
             match entry_behind(found.as_slice(), line) {
                 Ok(entry) => {
                     if found.push(entry).is_err() {
-                        return Err(ReadError::Memory);
+                        return Err(CodesError::Memory);
                     }
                 }
-                Err(flaw) => return Err(ReadError::Fault(CodesFault::Line(index + 1, flaw))),
+                Err(flaw) => return Err(CodesError::Fault(CodesFault::Line(index + 1, flaw))),
             }
         }
     }
@@ -229,7 +229,7 @@ pub(crate) fn entries_of(alloc: Global, lines: &[Vec<u8>]) -> Result<Vec<CodeLin
 
 impl Codes {
     /// Reads the codes of a file's text. The errors are that an allocation failed, and the first line that is wrong.
-    pub fn read(alloc: Global, text: &[u8]) -> Result<Codes, ReadError>
+    pub fn read(alloc: Global, text: &[u8]) -> Result<Codes, CodesError>
         ensures ok { IfOk result (λ own. (entries : List CodeEntry) × (codes_in text.now ≡ Ok entries) × (holders_of own ≡ holders_by entries) × (own.weak.items ≡ weak_clerks entries)) }
         ensures err { IfErr result (λ why. (why ≡ read_error.Memory) ⊎ ((fault : CodesFault) × (why ≡ read_error.Fault fault) × (codes_in text.now ≡ Err fault))) }
     {

@@ -60,3 +60,5 @@ pub use placed::Placed;
 pub use run::{CountEnd, run_count};
 pub use so_far::{count_to, due_by, dues_to};
 pub use stages::{Action, Due, Stage, TiedFor};
+/// The first name of [`TiedFor`].
+pub use stages::TiedFor as Kind;

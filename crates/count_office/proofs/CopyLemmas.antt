@@ -13,7 +13,7 @@ use Rattle.desk.specs.declared.lines.Failure.{Failure}
 use Rattle.desk.specs.declared.lines.Failure.TheVariants.{CopyFailed}
 use Rattle.desk.proofs.PageLemmas.{error_shown, shown_last}
 use Rattle.desk.proofs.TellingLemmas.{goes_after_zero, shown_whole, shown_zero}
-use Rattle.hall.specs.Handings.{IsCopyTold}
+use Rattle.server.specs.ServedOrders.{IsCopyTold}
 use Rattle.count_office.specs.Done.{EndsCopy}
 
 -- what was told with status 0 was told whole

@@ -2,8 +2,8 @@
 use Rattle.std.specs.Prelude.{◌≡◌, ⊤, List, None, Option, Some, Result, Ok, Err, ℕ}
 use Rattle.codes.specs.Codes.{Holder, holders_of}
 use Rattle.codes.specs.declared.fault.CodesFault.{CodesFault}
-use Rattle.codes.specs.declared.fault.ReadError.{ReadError}
-use Rattle.codes.specs.declared.fault.ReadError.TheVariants.{Fault, Memory}
+use Rattle.codes.specs.declared.fault.CodesError.{CodesError}
+use Rattle.codes.specs.declared.fault.CodesError.TheVariants.{Fault, Memory}
 use Rattle.codes.specs.declared.holders.Codes.{Codes}
 
 -- the codes in the file at each path, or why it has none, as far as that is known
@@ -11,7 +11,7 @@ abbrev pub CodeFiles : Type 0
 CodeFiles = List ℕ → Option (Result (List Holder) CodesFault)
 
 -- What was read of a file is what the file has, as far as that is known; or an allocation failed.
-abbrev pub IsReadAs : Option (Result (List Holder) CodesFault) → Result Codes ReadError → Type 0
+abbrev pub IsReadAs : Option (Result (List Holder) CodesFault) → Result Codes CodesError → Type 0
 IsReadAs None result = ⊤
 IsReadAs (Some known) (Ok own) = known ≡ Ok (holders_of own)
 IsReadAs (Some known) (Err Memory) = ⊤

@@ -4,11 +4,11 @@ use Rattle.sqlite.specs.Effect.{Database}
 use Rattle.sqlite.specs.Held.{Held}
 use Rattle.sqlite.specs.State.{HasCleanDisk, State}
 use Rattle.codes.specs.Codes.{Holder, holders_of}
-use Rattle.codes.specs.declared.fault.ReadError.{ReadError}
-use Rattle.codes.specs.declared.fault.ReadError.TheVariants as read_error
+use Rattle.codes.specs.declared.fault.CodesError.{CodesError}
+use Rattle.codes.specs.declared.fault.CodesError.TheVariants as read_error
 use Rattle.codes.specs.declared.holders.Codes.{Codes}
-use Rattle.gathering.specs.Lines.{Line}
-use Rattle.gathering.specs.Rooms.{DoorsEntry}
+use Rattle.connections.specs.Streams.{Stream}
+use Rattle.connections.specs.Tables.{NetworkEntry}
 use Rattle.keying_page.specs.Page.{page_text, policy_text}
 use Rattle.register.specs.Machine.{after}
 use Rattle.register.specs.Offices.{OfficeState, empty_office}
@@ -26,16 +26,16 @@ use Rattle.wire.specs.Origins.{given_by}
 use Rattle.desk.specs.Pages.{Page, codes_page, failed}
 use Rattle.desk.specs.declared.lines.Failure.{Failure}
 use Rattle.desk.specs.declared.lines.Failure.TheVariants.{Office, Output}
-use Rattle.hall.specs.Halls.{IsEndedBy, ServesHall}
-use Rattle.hall.specs.Terms.{Given}
-use Rattle.hall.specs.Visits.{IsKeptOf}
-use Rattle.hall.specs.declared.ended.Ended.{Ended}
-use Rattle.hall.specs.declared.ended.Ended.TheVariants as ended
-use Rattle.hall.specs.declared.terms.FileNumbers.{FileNumbers}
+use Rattle.server.specs.Servers.{IsEndedBy, ServesConnections}
+use Rattle.server.specs.Settings.{ServerSettingsEntry}
+use Rattle.server.specs.Exchanges.{IsKeptOf}
+use Rattle.server.specs.declared.serve_error.ServeError.{ServeError}
+use Rattle.server.specs.declared.serve_error.ServeError.TheVariants as ended
+use Rattle.server.specs.declared.server_settings.FileNumbers.{FileNumbers}
 use Rattle.count_office.specs.Hosts.{CodeFiles, IsReadAs}
-use Rattle.count_office.specs.declared.gate.Porter.{Porter}
+use Rattle.count_office.specs.declared.gate.GateFiles.{GateFiles}
 use Rattle.count_office.specs.declared.serving.Serving.{Serving}
-use Rattle.count_office.specs.declared.serving.Settings.{Settings}
+use Rattle.count_office.specs.declared.serving.GateSettings.{GateSettings}
 
 -- ---- what the office goes by
 
@@ -43,9 +43,9 @@ use Rattle.count_office.specs.declared.serving.Settings.{Settings}
 abbrev pub gate_with : List Holder → List ℕ → List ℕ → GateEntry
 gate_with holders text policy = record { holders = holders; page = record { text = text; policy = policy } }
 
--- the gate that a porter makes
-abbrev pub gate_at : Porter → GateEntry
-gate_at porter = gate_with (holders_of porter.codes) (string_bytes porter.page) (string_bytes porter.policy)
+-- the gate of these files
+abbrev pub gate_at : GateFiles → GateEntry
+gate_at gate_files = gate_with (holders_of gate_files.codes) (string_bytes gate_files.page) (string_bytes gate_files.policy)
 
 -- The gate: none if no file of codes is named; else the codes that were read at its path, with the page on which clerks key, and the policy of that page.
 abbrev pub IsGateFor : CodeFiles → Option (List ℕ) → Option GateEntry → Type 0
@@ -54,7 +54,7 @@ IsGateFor codes_at (Some path) gate = (own : Codes) × IsReadAs (codes_at path) 
     × (gate ≡ Some (gate_with (holders_of own) page_text policy_text))
 
 -- why there is no gate although a file is named: its codes weren't read
-abbrev pub IsUngated : CodeFiles → Option (List ℕ) → ReadError → Type 0
+abbrev pub IsUngated : CodeFiles → Option (List ℕ) → CodesError → Type 0
 IsUngated codes_at None why = ⊥
 IsUngated codes_at (Some path) why = IsReadAs (codes_at path) (Err why)
 
@@ -62,56 +62,56 @@ IsUngated codes_at (Some path) why = IsReadAs (codes_at path) (Err why)
 abbrev pub path_in : Serving → Option (List ℕ)
 path_in serving = option_map (λ path. path.now) serving.codes
 
--- an origin, a gate and a file are given
-abbrev pub given_with : Option (List ℕ) → Option GateEntry → FileNumbers → Given
-given_with origin gate file = record { clients = record { origin = origin; gate = gate }; file = file }
+-- the settings of an origin, a gate and a file
+abbrev pub settings_with : Option (List ℕ) → Option GateEntry → FileNumbers → ServerSettingsEntry
+settings_with origin gate file = record { clients = record { origin = origin; gate = gate }; file = file }
 
--- what settings give
-abbrev pub given_by_settings : Settings → Given
-given_by_settings settings = given_with (given_by settings.serving.origin) (option_map gate_at settings.porter.now) settings.file
+-- the settings of the server
+abbrev pub server_settings_of : GateSettings → ServerSettingsEntry
+server_settings_of settings = settings_with (given_by settings.serving.origin) (option_map gate_at settings.gate_files.now) settings.file
 
 -- What the order to serve gives: the origin that it names, the gate for the file of codes that it names, and the file of the office.
-pub record IsGivenFor (serving : Serving) (codes_at : CodeFiles) (numbers : Option FileNumbers) (given : Given) : Type 0 where
-  pub origin : given.clients.origin ≡ given_by serving.origin
-  pub gate : IsGateFor codes_at (path_in serving) given.clients.gate
-  pub file : IfSome numbers (λ known. given.file ≡ known)
+pub record AreSettingsFor (serving : Serving) (codes_at : CodeFiles) (numbers : Option FileNumbers) (settings : ServerSettingsEntry) : Type 0 where
+  pub origin : settings.clients.origin ≡ given_by serving.origin
+  pub gate : IsGateFor codes_at (path_in serving) settings.clients.gate
+  pub file : IfSome numbers (λ known. settings.file ≡ known)
 
--- ---- an open office at doors
+-- ---- an open office on a network
 
--- An open office was served at doors, with this end.
-pub record ServesAtDoors {L S : Type 0} (given : Given) (line : Line L) (state_of : Held S → State) (before later : DoorsEntry L) (most : Option ℕ)
-    (old new : OfficeValue S) (ends : Result (Unit {0}) Ended) : Type 0 where
-  pub serves : ServesHall given line state_of before later most old new ends
+-- An open office was served on a network, with this end.
+pub record ServesAtNetwork {L S : Type 0} (settings : ServerSettingsEntry) (stream : Stream L) (state_of : Held S → State) (before later : NetworkEntry L) (most : Option ℕ)
+    (old new : OfficeValue S) (ends : Result (Unit {0}) ServeError) : Type 0 where
+  pub serves : ServesConnections settings stream state_of before later most old new ends
   pub ended : IsEndedBy before later ends
   pub closed : old.closed ≡ true → new ≡ old
   pub clean : HasCleanDisk (state_of new.held) → HasCleanDisk (state_of old.held)
 
 -- the failure that is printed of an end
-abbrev pub failure_by : Ended → Failure
+abbrev pub failure_by : ServeError → Failure
 failure_by ended.Memory = Office fault.Memory
-failure_by ended.Doors = Output
+failure_by ended.Network = Output
 failure_by ended.Rounds = Output
 
-abbrev pub outcome_by : Result (Unit {0}) Ended → Result (Unit {0}) Failure
+abbrev pub outcome_by : Result (Unit {0}) ServeError → Result (Unit {0}) Failure
 outcome_by (Ok end) = Ok end
 outcome_by (Err why) = Err (failure_by why)
 
--- on every other port nobody came in or left
-abbrev pub IsElsewhereSame : {L : Type 0} → ℕ → (ℕ → DoorsEntry L) → (ℕ → DoorsEntry L) → Type 0
+-- on every other port no connection was accepted or closed
+abbrev pub IsElsewhereSame : {L : Type 0} → ℕ → (ℕ → NetworkEntry L) → (ℕ → NetworkEntry L) → Type 0
 IsElsewhereSame port before later = (other : ℕ) → other ≢ port → later other ≡ before other
 
--- The doors on a port couldn't be opened: nobody came in, and the office is as it was. Or it was served at them, by what was given, and on no other port.
-abbrev pub MayServe : {L S : Type 0} → (Given → Type 0) → Line L → (Held S → State) → ℕ → (ℕ → DoorsEntry L) → (ℕ → DoorsEntry L) → Option ℕ
+-- The network on a port couldn't be opened: no connection was accepted, and the office is as it was. Or it was served there, by these settings, and on no other port.
+abbrev pub MayServe : {L S : Type 0} → (ServerSettingsEntry → Type 0) → Stream L → (Held S → State) → ℕ → (ℕ → NetworkEntry L) → (ℕ → NetworkEntry L) → Option ℕ
     → OfficeValue S → OfficeValue S → Result (Unit {0}) Failure → Type 0
-MayServe IsGiven line state_of port before later most old new outcome =
+MayServe AreSettings stream state_of port before later most old new outcome =
     ((failure : Failure) × (outcome ≡ Err failure) × (later ≡ before) × (new ≡ old))
-    ⊎ ((given : Given) × (ends : Result (Unit {0}) Ended) × IsGiven given × ServesAtDoors given line state_of (before port) (later port) most old new ends
+    ⊎ ((settings : ServerSettingsEntry) × (ends : Result (Unit {0}) ServeError) × AreSettings settings × ServesAtNetwork settings stream state_of (before port) (later port) most old new ends
     × IsElsewhereSame port before later × (outcome ≡ outcome_by ends))
 
 -- ---- the order to serve
 
 -- why codes aren't taken, or not made
-abbrev pub untaken : ReadError → Page
+abbrev pub untaken : CodesError → Page
 untaken read_error.Memory = failed (Office fault.Memory)
 untaken (read_error.Fault why) = codes_page why
 
@@ -120,16 +120,16 @@ abbrev pub TellsOutcome : (List ℕ → ℕ → ℕ → Type 0) → Type 0 → �
 TellsOutcome Tells Quiet status (Ok end) = Quiet × (status ≡ 0)
 TellsOutcome Tells Quiet status (Err failure) = Tells (failed failure).err 3 status
 
--- The codes weren't read: nobody came in, and the connection is as it was.
-pub record IsUnread {L S : Type 0} (Tells : List ℕ → ℕ → ℕ → Type 0) (status : ℕ) (serving : Serving) (codes_at : CodeFiles) (before later : ℕ → DoorsEntry L) (old new : Held S) : Type 0 where
-  pub why : ReadError
+-- The codes weren't read: no connection was accepted, and that to the database is as it was.
+pub record IsUnread {L S : Type 0} (Tells : List ℕ → ℕ → ℕ → Type 0) (status : ℕ) (serving : Serving) (codes_at : CodeFiles) (before later : ℕ → NetworkEntry L) (old new : Held S) : Type 0 where
+  pub why : CodesError
   pub unread : IsUngated codes_at (path_in serving) why
   pub told : Tells (untaken why).err (untaken why).status status
   pub nobody : later ≡ before
   pub same : new ≡ old
 
--- The office wasn't opened: nobody came in, and the database is as it was. The fault is one for which an opening fails there.
-pub record IsUnopened {L S : Type 0} (Tells : List ℕ → ℕ → ℕ → Type 0) (status : ℕ) (state_of : Held S → State) (before later : ℕ → DoorsEntry L) (old new : Held S) : Type 0 where
+-- The office wasn't opened: no connection was accepted, and the database is as it was. The fault is one for which an opening fails there.
+pub record IsUnopened {L S : Type 0} (Tells : List ℕ → ℕ → ℕ → Type 0) (status : ℕ) (state_of : Held S → State) (before later : ℕ → NetworkEntry L) (old new : Held S) : Type 0 where
   pub why : Fault
   pub told : Tells (failed (Office why)).err 3 status
   pub nobody : later ≡ before
@@ -143,8 +143,8 @@ pub record IsOpenedFrom {S : Type 0} (state_of : Held S → State) (conn : Held 
   pub reads : OnlyReads (state_of conn) (state_of office.held)
   pub at : HasCleanDisk (state_of office.held) → (db : Database) → RestsAt db (state_of conn) → (s : OfficeState) → IsLeftAt s db → IsOpenAt s office.closed (state_of office.held)
 
--- The office was opened, but its doors weren't: nobody came in, and it is as it was opened.
-pub record IsShut {L S : Type 0} (Tells : List ℕ → ℕ → ℕ → Type 0) (status : ℕ) (state_of : Held S → State) (before later : ℕ → DoorsEntry L) (old new : Held S) : Type 0 where
+-- The office was opened, but its network wasn't: no connection was accepted, and the office is as it was opened.
+pub record IsShut {L S : Type 0} (Tells : List ℕ → ℕ → ℕ → Type 0) (status : ℕ) (state_of : Held S → State) (before later : ℕ → NetworkEntry L) (old new : Held S) : Type 0 where
   pub office : OfficeValue S
   pub opened : IsOpenedFrom state_of old office
   pub why : Failure
@@ -152,25 +152,25 @@ pub record IsShut {L S : Type 0} (Tells : List ℕ → ℕ → ℕ → Type 0) (
   pub nobody : later ≡ before
   pub same : new ≡ office.held
 
--- The office was opened and served at its doors, by what was given. If the database held the state after earlier requests, this is kept of these and of those that came.
-pub record IsServed {L S : Type 0} (Tells : List ℕ → ℕ → ℕ → Type 0) (Quiet : Type 0) (status : ℕ) (IsGiven : Given → Type 0) (line : Line L) (state_of : Held S → State)
-    (port : ℕ) (before later : ℕ → DoorsEntry L) (most : Option ℕ) (old new : Held S) : Type 0 where
+-- The office was opened and served on its network, by these settings. If the database held the state after earlier requests, this is kept of these and of those that came.
+pub record IsServed {L S : Type 0} (Tells : List ℕ → ℕ → ℕ → Type 0) (Quiet : Type 0) (status : ℕ) (AreSettings : ServerSettingsEntry → Type 0) (stream : Stream L) (state_of : Held S → State)
+    (port : ℕ) (before later : ℕ → NetworkEntry L) (most : Option ℕ) (old new : Held S) : Type 0 where
   pub office : OfficeValue S
   pub opened : IsOpenedFrom state_of old office
-  pub given : Given
-  pub is_given : IsGiven given
+  pub settings : ServerSettingsEntry
+  pub are_settings : AreSettings settings
   pub closed : Bool
-  pub ends : Result (Unit {0}) Ended
+  pub ends : Result (Unit {0}) ServeError
   pub told : TellsOutcome Tells Quiet status (outcome_by ends)
-  pub at_doors : ServesAtDoors given line state_of (before port) (later port) most office (record { held = new; closed = closed }) ends
+  pub at_network : ServesAtNetwork settings stream state_of (before port) (later port) most office (record { held = new; closed = closed }) ends
   pub elsewhere : IsElsewhereSame port before later
   pub keeps : HasCleanDisk (state_of new) → (db : Database) → RestsAt db (state_of old) → (earlier : List Request) → IsLeftAt (after empty_office earlier) db
-      → IsKeptOf state_of given earlier at_doors.serves.visits closed (state_of new)
+      → IsKeptOf state_of settings earlier at_network.serves.exchanges closed (state_of new)
 
--- What the order to serve comes to: the codes weren't read, or the office or its doors weren't opened; or it was served.
-abbrev pub ServesOrder : {L S : Type 0} → (List ℕ → ℕ → ℕ → Type 0) → Type 0 → ℕ → Serving → CodeFiles → Option FileNumbers → Line L → (Held S → State)
-    → (ℕ → DoorsEntry L) → (ℕ → DoorsEntry L) → Held S → Held S → Type 0
-ServesOrder Tells Quiet status serving codes_at file line state_of before later old new =
+-- What the order to serve comes to: the codes weren't read, or the office or its network wasn't opened; or it was served.
+abbrev pub ServesOrder : {L S : Type 0} → (List ℕ → ℕ → ℕ → Type 0) → Type 0 → ℕ → Serving → CodeFiles → Option FileNumbers → Stream L → (Held S → State)
+    → (ℕ → NetworkEntry L) → (ℕ → NetworkEntry L) → Held S → Held S → Type 0
+ServesOrder Tells Quiet status serving codes_at file stream state_of before later old new =
     (IsUnread Tells status serving codes_at before later old new ⊎ IsUnopened Tells status state_of before later old new)
     ⊎ (IsShut Tells status state_of before later old new
-    ⊎ IsServed Tells Quiet status (IsGivenFor serving codes_at file) line state_of serving.port before later serving.connections old new)
+    ⊎ IsServed Tells Quiet status (AreSettingsFor serving codes_at file) stream state_of serving.port before later serving.connections old new)

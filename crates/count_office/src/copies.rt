@@ -8,10 +8,10 @@ ghost use Rattle.sqlite_wal.specs.Reads.{AreClean};
 ghost use Rattle.tables.specs.Reading.{OnlyReads};
 ghost use Rattle.office.specs.Answers.{IsReadAt, WhenOpenAt};
 ghost use Rattle.desk.specs.Pages.{Tells, outputs_of};
-ghost use Rattle.hall.specs.Handings.{IsCopyTold};
+ghost use Rattle.server.specs.ServedOrders.{IsCopyTold};
 ghost use Rattle.count_office.specs.Done.{EndsCopy};
 
-use crate::fresh::Fresh;
+use crate::new_file::NewFile;
 use crate::{close, is_busy};
 use desk::{CopyState, Failure, copy_office, copy_open, tell_failure};
 use office::Office;
@@ -33,7 +33,7 @@ pub fn copy<S: Alter, O: Sink, E: Sink>(
     requires err { E.failed err.old < 2 ^ 64 - 1 }
     ensures { OnlyReads (state S.Store conn) (state S.Store result.1) }
 {
-    let fresh = match Fresh::make(rt, path) {
+    let fresh = match NewFile::make(rt, path) {
         Ok(fresh) => fresh,
         Err(failure) => return (tell_failure(failure, err), conn),
     };
@@ -62,7 +62,7 @@ fn failure_of(error: sqlite::Error) -> Failure {
 
 /// Why no copy is begun in files that were made for it, if none is: another program
 /// has made an office in them before, which is left; or they can't be looked at.
-fn why_not_begun(rt: &HostRuntime, fresh: &Fresh) -> Option<Failure> {
+fn why_not_begun(rt: &HostRuntime, fresh: &NewFile) -> Option<Failure> {
     match fresh.hold_none(rt) {
         Ok(true) => None,
         Ok(false) => Some(Failure::CopyTaken),
@@ -77,7 +77,7 @@ fn why_not_begun(rt: &HostRuntime, fresh: &Fresh) -> Option<Failure> {
 /// them. With status 0 the database file alone is the copy.
 fn finish<D: Disk + Drop, E: Sink>(
     rt: &HostRuntime,
-    fresh: &Fresh,
+    fresh: &NewFile,
     made: Connection<FileStore<D>>,
     status: u8,
     state: CopyState,
@@ -101,7 +101,7 @@ fn finish<D: Disk + Drop, E: Sink>(
 /// Copies the office over an opened connection to files that were made for the copy, and closes them.
 fn fill<S: Alter, D: Disk + Drop, O: Sink, E: Sink>(
     rt: &HostRuntime,
-    fresh: &Fresh,
+    fresh: &NewFile,
     conn: &mut Connection<S>,
     mut made: Connection<FileStore<D>>,
     out: &mut O,
@@ -121,7 +121,7 @@ fn fill<S: Alter, D: Disk + Drop, O: Sink, E: Sink>(
 /// Copies an open office, which goes on, to files that were made for the copy, and closes them.
 fn fill_open<S: Alter, D: Disk + Drop, O: Sink, E: Sink>(
     rt: &HostRuntime,
-    fresh: &Fresh,
+    fresh: &NewFile,
     office: &mut Office<S>,
     mut made: Connection<FileStore<D>>,
     out: &mut O,
@@ -156,7 +156,7 @@ pub fn copy_served<S: Alter, O: Sink, E: Sink>(
     ensures stays { WhenOpenAt (state S.Store) office.old office.new (λ s. IsReadAt s office.new.closed (state S.Store office.new.held)) }
     ensures clean { HasCleanDisk (state S.Store office.new.held) → HasCleanDisk (state S.Store office.old.held) }
 {
-    let fresh = match Fresh::make(rt, path) {
+    let fresh = match NewFile::make(rt, path) {
         Ok(fresh) => fresh,
         Err(failure) => return tell_failure(failure, err),
     };

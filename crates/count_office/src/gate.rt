@@ -5,26 +5,26 @@ ghost use Rattle.wire.specs.Gates.{gate_entry};
 ghost use Rattle.count_office.specs.Serving.{IsGateFor, IsUngated, gate_at};
 
 use crate::host::Host;
-use codes::{Codes, ReadError};
+use codes::{Codes, CodesError};
 use keying_page::{page_text, policy_text};
 use std::alloc::Global;
 use wire::{Gate, Page};
 
-/// What a gate is made of: clerks' codes, their page, and its policy.
+/// The files of a gate: clerks' codes, their page, and its policy.
 #[derive(Drop)]
-pub struct Porter {
+pub struct GateFiles {
     pub codes: Codes,
     pub page: String,
     pub policy: String,
 }
 
 /// Reads the file of codes at a path, and makes the page and its policy. Returns `None` if no path is given.
-pub fn porter_of<H: Host>(
+pub fn read_gate_files<H: Host>(
     alloc: Global,
     host: &H,
     path: Option<&str>,
-) -> Result<Option<Porter>, ReadError>
-    ensures gate { IfOk result (λ porter. IsGateFor (H.codes_at host.now) (option_map (λ text. text.now) path.entry) (option_map gate_at porter)) }
+) -> Result<Option<GateFiles>, CodesError>
+    ensures gate { IfOk result (λ gate_files. IsGateFor (H.codes_at host.now) (option_map (λ text. text.now) path.entry) (option_map gate_at gate_files)) }
     ensures unread { IfErr result (λ why. IsUngated (H.codes_at host.now) (option_map (λ text. text.now) path.entry) why) }
 {
     let Some(path) = path else {
@@ -33,23 +33,23 @@ pub fn porter_of<H: Host>(
     let codes = host.read_codes(path)?;
     let page = page_text(alloc)?;
     let policy = policy_text(alloc)?;
-    Ok(Some(Porter {
+    Ok(Some(GateFiles {
         codes,
         page,
         policy,
     }))
 }
 
-/// Returns the gate with the porter's codes, page and policy; `None` if there is no porter.
-pub fn gate_of(porter: &Option<Porter>) -> Option<Gate<'_>>
-    ensures { option_map gate_entry result ≡ option_map gate_at porter.now }
+/// Returns the gate with these codes, page and policy; `None` if there are none.
+pub fn gate_of(gate_files: &Option<GateFiles>) -> Option<Gate<'_>>
+    ensures { option_map gate_entry result ≡ option_map gate_at gate_files.now }
 {
-    match porter {
-        Some(porter) => Some(Gate {
-            codes: &porter.codes,
+    match gate_files {
+        Some(gate_files) => Some(Gate {
+            codes: &gate_files.codes,
             page: Page {
-                text: porter.page.as_str(),
-                policy: porter.policy.as_str(),
+                text: gate_files.page.as_str(),
+                policy: gate_files.policy.as_str(),
             },
         }),
         None => None,

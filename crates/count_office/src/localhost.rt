@@ -4,19 +4,19 @@
 
 ghost use Rattle.std.specs.Prelude.{◌≡◌, ◌≢◌, None, ℕ};
 ghost use Rattle.sockets.specs.declared.socket.Socket.{Socket};
-ghost use Rattle.sockets.specs.Watches.{unknown};
+ghost use Rattle.sockets.specs.Pollers.{unknown};
 
-use crate::Place;
-use crate::aside::Machine;
-use crate::beside::{Beside, closed_streams, reason_of};
+use crate::LockedDatabase;
+use crate::codes_file::read_codes;
 use crate::host::{Host, Opened};
+use crate::order_socket::{OrderSocket, closed_streams, reason_of};
 use crate::presence::Presence;
-use crate::slips::read_codes;
-use codes::{Codes, ReadError};
+use crate::side_jobs::LocalJobs;
+use codes::{Codes, CodesError};
 use desk::Failure;
-use hall::FileNumbers;
 use mio::net::UnixListener;
-use sockets::{Doorway, Loopback, Watch};
+use server::FileNumbers;
+use sockets::{Loopback, Poller, SocketNetwork};
 use std::alloc::{AllocError, Global};
 use std::fs::File;
 use std::io;
@@ -26,8 +26,8 @@ use store::Fault;
 /// This machine, the database that is served, the socket beside it, and the standard streams that are held meanwhile.
 #[derive(Drop)]
 pub struct Localhost<'a> {
-    place: Place<'a>,
-    beside: Option<Beside>,
+    place: LockedDatabase<'a>,
+    beside: Option<OrderSocket>,
     streams: Option<Vec<File>>,
 }
 
@@ -37,16 +37,16 @@ fn listen<'a>(
     rt: &'a HostRuntime,
     port: u32,
     orders: Option<UnixListener>,
-) -> io::Result<Doorway<&'a HostRuntime>> {
+) -> io::Result<SocketNetwork<&'a HostRuntime>> {
     let Ok(port) = u16::try_from(port) else {
         return Err(io::Error::from(ErrorKind::InvalidInput));
     };
     let clients = Loopback::bind(rt, port)?;
-    let watch = Watch::new(rt, rt.alloc(), clients, orders)?;
-    Ok(Doorway { watch, clock: rt })
+    let poller = Poller::new(rt, rt.alloc(), clients, orders)?;
+    Ok(SocketNetwork { poller, clock: rt })
 }
 
-/// Returns the failure that is printed when the doors can't be opened.
+/// Returns the failure that is printed when the network can't be opened.
 fn failure_at_the_doors(error: &io::Error) -> Failure {
     match error.kind() {
         ErrorKind::OutOfMemory => Failure::Office(Fault::Memory),
@@ -88,15 +88,15 @@ fn warn_of_weak(rt: &HostRuntime, codes: &Codes) {
     }
 }
 
-/// Opens the doors on a port, and looks at the file of the office at a place.
+/// Opens the network on a port, and looks at the file of the office at a place.
 fn open_at<'a>(
-    place: Place<'a>,
+    place: LockedDatabase<'a>,
     port: u32,
     orders: Option<UnixListener>,
-) -> Result<Opened<Doorway<&'a HostRuntime>, Machine<'a>>, Failure> {
+) -> Result<Opened<SocketNetwork<&'a HostRuntime>, LocalJobs<'a>>, Failure> {
     let rt = place.rt;
-    let doors = match listen(rt, port, orders) {
-        Ok(doors) => doors,
+    let network = match listen(rt, port, orders) {
+        Ok(network) => network,
         Err(error) => return Err(failure_at_the_doors(&error)),
     };
     let Ok((device, inode)) = place.held.numbers() else {
@@ -106,15 +106,15 @@ fn open_at<'a>(
         return Err(Failure::FileGone);
     };
     Ok(Opened {
-        doors,
-        aside: Machine { rt, presence },
+        network,
+        side_jobs: LocalJobs { rt, presence },
         file: FileNumbers { device, inode },
     })
 }
 
 impl<'a> Localhost<'a> {
     /// Returns this machine, for the database at a place.
-    pub fn at(place: Place<'a>) -> Localhost<'a> {
+    pub fn at(place: LockedDatabase<'a>) -> Localhost<'a> {
         Localhost {
             place,
             beside: None,
@@ -125,7 +125,7 @@ impl<'a> Localhost<'a> {
     /// Makes the socket beside the database. If that fails, a line on the error output says so, and no order can be handed over.
     fn listen_beside(&mut self) -> Option<UnixListener> {
         let rt = self.place.rt;
-        match Beside::listen(rt, self.place.found.database()) {
+        match OrderSocket::listen(rt, self.place.found.database()) {
             Ok((beside, orders)) => {
                 self.beside = Some(beside);
                 Some(orders)
@@ -147,9 +147,9 @@ impl<'a> Localhost<'a> {
 }
 
 impl<'a> Host for Localhost<'a> {
-    type Port = Doorway<&'a HostRuntime>;
+    type Port = SocketNetwork<&'a HostRuntime>;
 
-    type Side = Machine<'a>;
+    type Side = LocalJobs<'a>;
 
     ghost known = { λ _ _. unknown };
 
@@ -157,7 +157,7 @@ impl<'a> Host for Localhost<'a> {
 
     ghost file = { λ _. None };
 
-    fn read_codes(&self, path: &str) -> Result<Codes, ReadError> {
+    fn read_codes(&self, path: &str) -> Result<Codes, CodesError> {
         let codes = read_codes(self.place.rt, path)?;
         warn_of_weak(self.place.rt, &codes);
         Ok(codes)
@@ -166,7 +166,7 @@ impl<'a> Host for Localhost<'a> {
     fn open(
         &mut self,
         port: u32,
-    ) -> Result<Opened<Doorway<&'a HostRuntime>, Machine<'a>>, Failure> {
+    ) -> Result<Opened<SocketNetwork<&'a HostRuntime>, LocalJobs<'a>>, Failure> {
         match closed_streams(self.place.rt) {
             Ok(streams) => self.streams = Some(streams),
             Err(error) => return Err(failure_at_the_doors(&error)),
@@ -179,7 +179,7 @@ impl<'a> Host for Localhost<'a> {
         opened
     }
 
-    fn close(&mut self, port: u32, opened: Opened<Doorway<&'a HostRuntime>, Machine<'a>>)
+    fn close(&mut self, port: u32, opened: Opened<SocketNetwork<&'a HostRuntime>, LocalJobs<'a>>)
         ensures known { unknown {L = Socket} ≡ unknown }
         ensures others { (other : ℕ) → other ≢ port → unknown {L = Socket} ≡ unknown }
     {

@@ -19,42 +19,43 @@ ghost use Rattle.tables.specs.Reading.{OnlyReads};
 ghost use Rattle.store.specs.Openings.{IsLeftAt};
 ghost use Rattle.desk.specs.Journals.{IsJournalTold, IsToldElsewhere};
 ghost use Rattle.desk.specs.Pages.{IsErrorTold, Tells, outputs_of};
-ghost use Rattle.gathering.specs.Lines.{line_of};
+ghost use Rattle.connections.specs.Streams.{stream_of};
 ghost use Rattle.count_office.specs.Done.{IsDone};
 ghost use Rattle.count_office.specs.Serving.{ServesOrder};
 ghost use Rattle.sqlite_wal.specs.Reads.{AreClean};
 ghost use Rattle.sqlite.specs.Closing.{IsCopied};
 
-mod aside;
-mod attempt;
-mod beside;
+mod codes_file;
 mod copies;
-mod fresh;
+mod file_lock;
 mod gate;
-mod handing;
-mod held;
 mod host;
 mod localhost;
+mod new_file;
 mod notices;
-mod parcel;
+mod order_client;
+mod order_files;
+mod order_run;
+mod order_socket;
+mod path_state;
 mod presence;
 mod screen;
 mod serving;
-mod slips;
-mod traces;
+mod side_jobs;
 
-use attempt::{Request, perform_at};
+use codes_file::make_codes_file;
 use copies::copy;
 use desk::perform::perform;
 use desk::{
-    Failure, Order, Progress, Task, WordsFault, journal_office, order, tell_failure, tell_words,
+    Failure, Order, ProgressSink, Task, WordsFault, journal_office, order, tell_failure, tell_words,
 };
-use held::Held;
+use file_lock::FileLock;
 use host::Host;
-use parcel::{Parcel, Paths};
+use order_files::{LocalFolder, OrderFiles};
+use order_run::{OrderRun, perform_at};
+use path_state::PathState;
 use screen::Screen;
 use serving::{Serving, serve};
-use slips::make_codes;
 use sqlite::{Alter, Connection, ErrorCode, FileStore, Files};
 use sqlite_disk::Disk;
 use std::alloc::Global;
@@ -62,18 +63,17 @@ use std::io::IsTerminal;
 use std::process::ExitCode;
 use std::{env, io};
 use store::Fault;
-use traces::Found;
 use votes::{Counted, Sink};
 
 /// A database that is held: its path as it was given, what is there, and its file; and what was read of the order's files
 /// before, if anything was.
 #[derive(Clone, Copy)]
-pub struct Place<'a> {
+pub struct LockedDatabase<'a> {
     pub rt: &'a HostRuntime,
     pub path: &'a str,
-    pub found: &'a Found,
-    pub held: &'a Held,
-    pub brought: &'a Option<Parcel>,
+    pub found: &'a PathState,
+    pub held: &'a FileLock,
+    pub brought: &'a Option<OrderFiles>,
 }
 
 /// The words from DB on.
@@ -103,7 +103,7 @@ fn wants_progress(rt: &HostRuntime, task: &Task<'_>) -> bool {
 
 /// Does a task over an opened connection to the office, with the files that it names.
 fn perform_watched<S: Alter, O: Sink, E: Sink>(
-    paths: Paths<'_>,
+    paths: LocalFolder<'_>,
     task: &Task<'_>,
     conn: Connection<S>,
     out: &mut O,
@@ -115,7 +115,7 @@ fn perform_watched<S: Alter, O: Sink, E: Sink>(
 {
     let rt = paths.rt;
     if wants_progress(rt, task) {
-        let mut watched = Progress::new(out, rt.stderr());
+        let mut watched = ProgressSink::new(out, rt.stderr());
         return perform(rt.alloc(), task, conn, &paths, &mut watched, err);
     }
     perform(rt.alloc(), task, conn, &paths, out, err)
@@ -123,7 +123,7 @@ fn perform_watched<S: Alter, O: Sink, E: Sink>(
 
 /// Does an order over an opened connection to the office at a place. An order to serve is done on the host.
 fn perform_on<H: Host, S: Alter, O: Sink, E: Sink>(
-    place: Place<'_>,
+    place: LockedDatabase<'_>,
     host: &mut H,
     order: &Order<'_>,
     conn: Connection<S>,
@@ -138,12 +138,12 @@ fn perform_on<H: Host, S: Alter, O: Sink, E: Sink>(
         × IsToldElsewhere page (state S.Store conn) (state S.Store result.1))) }
     ensures serves { (serving : Serving) → order.now ≡ Order.Serve serving.port serving.connections serving.origin serving.codes
         → (out.new ≡ out.old) × ServesOrder (IsErrorTold E.taken E.failed err.old err.new) (err.new ≡ err.old) result.0 serving (H.codes_at host.old) (H.file host.old)
-        (line_of H.Port.Line.held H.Port.Line.taken H.Port.Line.failed) (state S.Store) (H.known host.old) (H.known host.new) conn result.1 }
+        (stream_of H.Port.Stream.held H.Port.Stream.taken H.Port.Stream.failed) (state S.Store) (H.known host.old) (H.known host.new) conn result.1 }
 {
     let rt = place.rt;
     match order {
         Order::Perform(task) => {
-            let paths = Paths {
+            let paths = LocalFolder {
                 rt,
                 brought: place.brought,
             };
@@ -165,7 +165,7 @@ fn perform_on<H: Host, S: Alter, O: Sink, E: Sink>(
         }
         Order::Copy { path } => copy(rt, conn, path, out, err),
         Order::Journal => journal(rt, conn, out, err),
-        Order::Codes { path, clerks } => (make_codes(rt, path, clerks, out, err), conn),
+        Order::Codes { path, clerks } => (make_codes_file(rt, path, clerks, out, err), conn),
     }
 }
 
@@ -222,9 +222,9 @@ fn follow<O: Sink, E: Sink>(rt: &HostRuntime, words: &[&str], out: &mut O, err: 
 {
     match order(rt.alloc(), &*words) {
         // codes are made without a database
-        Ok(Order::Codes { path, clerks }) => make_codes(rt, path, clerks, out, err),
+        Ok(Order::Codes { path, clerks }) => make_codes_file(rt, path, clerks, out, err),
         Ok(order) => {
-            let request = Request {
+            let request = OrderRun {
                 rt: &*rt,
                 path: words.first().copied().unwrap_or(""),
                 words: &*words,

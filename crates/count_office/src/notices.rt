@@ -10,25 +10,25 @@ const RIGHTS_OF_OTHERS: u32 = 0o066;
 
 /// Who holds a database, so that no other order can open it.
 #[derive(Clone, Copy)]
-pub enum Holder {
+pub enum LockHolder {
     /// Another order of this program, which may be `serve`.
     Order,
     /// Another program, by the locks of SQLite.
     Program,
 }
 
-impl Holder {
+impl LockHolder {
     /// Returns it in words, to stand after a database's path and a colon.
     fn text(self) -> &'static str {
         match self {
-            Holder::Order => "another order holds it",
-            Holder::Program => "another program has it open",
+            LockHolder::Order => "another order holds it",
+            LockHolder::Program => "another program has it open",
         }
     }
 }
 
 /// Prints on a terminal what an order waits for.
-pub fn say_waiting(rt: &HostRuntime, path: &str, holder: Holder) {
+pub fn say_waiting(rt: &HostRuntime, path: &str, holder: LockHolder) {
     let mut told = rt.stderr();
     if told.is_terminal() {
         let why = holder.text();
@@ -37,7 +37,7 @@ pub fn say_waiting(rt: &HostRuntime, path: &str, holder: Holder) {
 }
 
 /// Prints what an order waited for in vain.
-pub fn say_waited(rt: &HostRuntime, path: &str, holder: Holder) {
+pub fn say_waited(rt: &HostRuntime, path: &str, holder: LockHolder) {
     let mut told = rt.stderr();
     let why = holder.text();
     let _ = writeln!(told, "waited ten seconds for {path}: {why}");

@@ -9,8 +9,8 @@
 
 ghost use Rattle.std.specs.Prelude.{◌≡◌, ◌≤◌, true};
 
-use crate::held::Held;
-use crate::traces::Found;
+use crate::file_lock::FileLock;
+use crate::path_state::PathState;
 use desk::{Failure, tell_failure};
 use std::cell::Cell;
 use std::fs;
@@ -28,7 +28,7 @@ struct Seen {
 /// The database and the log of an office that is open, as they were last seen.
 #[derive(Drop)]
 pub struct Presence<'a> {
-    found: &'a Found,
+    found: &'a PathState,
     database: Cell<Seen>,
     log: Cell<Seen>,
     is_told: Cell<bool>,
@@ -68,7 +68,7 @@ fn is_still_at(rt: &HostRuntime, path: &str, last: &Cell<Seen>) -> bool {
 
 impl<'a> Presence<'a> {
     /// Returns the files of an office that was just opened; `None` if they aren't there any more, or aren't those that are held.
-    pub fn of(rt: &HostRuntime, found: &'a Found, held: &Held) -> Option<Presence<'a>> {
+    pub fn of(rt: &HostRuntime, found: &'a PathState, held: &FileLock) -> Option<Presence<'a>> {
         let database = seen_at(rt, found.database())?;
         let log = seen_at(rt, found.log())?;
         let (device, inode) = held.numbers().ok()?;

@@ -3,25 +3,25 @@
 ghost use Rattle.std.specs.Prelude.{◌≡◌, ◌-◌, ◌^◌, ◌<◌, IfSome, option_map};
 ghost use Rattle.sqlite.specs.Held.{state};
 ghost use Rattle.desk.specs.Pages.{IsErrorTold};
-ghost use Rattle.gathering.specs.Lines.{line_of};
+ghost use Rattle.connections.specs.Streams.{stream_of};
 ghost use Rattle.wire.specs.Origins.{given_by};
-ghost use Rattle.count_office.specs.Serving.{MayServe, ServesAtDoors, ServesOrder, TellsOutcome, failure_by, gate_at, given_by_settings, given_with};
+ghost use Rattle.count_office.specs.Serving.{MayServe, ServesAtNetwork, ServesOrder, TellsOutcome, failure_by, gate_at, server_settings_of, settings_with};
 
-use crate::gate::{Porter, gate_of, porter_of};
+use crate::codes_file::tell_untaken;
+use crate::gate::{GateFiles, gate_of, read_gate_files};
 use crate::host::{Host, Opened};
-use crate::slips::tell_untaken;
+use connections::Network;
 use desk::{Failure, tell_failure};
-use gathering::Doors;
-use hall::{Aside, Ended, FileNumbers, Terms, serve_hall};
 use office::Office;
+use server::{FileNumbers, ServeError, ServerSettings, SideJobs, serve_connections};
 use sqlite::{Alter, Connection};
 use std::alloc::Global;
 use store::Fault;
 use votes::Sink;
-use wire::{Given, Origin};
+use wire::{HttpSettings, Origin};
 
-/// What `serve` was given: its port, after how many clients it ends, if it does, the origin of a proxy, and the path of a file
-/// of clerks' codes, if one is given.
+/// The words of `serve`: its port, the number of clients after which it ends, the origin of a proxy, and the path of a file of
+/// clerks' codes, if they are given.
 #[derive(Clone, Copy)]
 pub struct Serving<'a> {
     pub port: u32,
@@ -30,21 +30,22 @@ pub struct Serving<'a> {
     pub codes: Option<&'a str>,
 }
 
-/// What an office is served by: what `serve` was given, what its gate is made of, if it has one, and its file.
+/// The settings by which an office is served: the words of `serve`, the codes and the page of the gate, if there is one, and the
+/// office's file.
 #[derive(Clone, Copy)]
-pub struct Settings<'a> {
+pub struct GateSettings<'a> {
     pub serving: Serving<'a>,
-    pub porter: &'a Option<Porter>,
+    pub gate_files: &'a Option<GateFiles>,
     pub file: FileNumbers,
 }
 
 /// Returns the failure that is printed when serving ended early.
-fn failure_of(ended: Ended) -> Failure
+fn failure_of(ended: ServeError) -> Failure
     ensures { result ≡ failure_by ended }
 {
     match ended {
-        Ended::Memory => Failure::Office(Fault::Memory),
-        Ended::Doors | Ended::Rounds => Failure::Output,
+        ServeError::Memory => Failure::Office(Fault::Memory),
+        ServeError::Network | ServeError::Rounds => Failure::Output,
     }
 }
 
@@ -58,53 +59,60 @@ fn most_of(connections: Option<u32>) -> Option<u64>
     }
 }
 
-/// Serves an open office at its doors, by its settings.
-fn serve_through<D: Doors, A: Aside, S: Alter>(
+/// Serves an open office on its network, by its settings.
+fn serve_through<D: Network, A: SideJobs, S: Alter>(
     alloc: Global,
-    doors: &mut D,
-    settings: Settings<'_>,
-    aside: &A,
+    network: &mut D,
+    settings: GateSettings<'_>,
+    side_jobs: &A,
     office: &mut Office<S>,
-) -> Result<(), Ended>
-    ensures { ServesAtDoors (given_by_settings settings.entry) (line_of D.Line.held D.Line.taken D.Line.failed) (state S.Store)
-        (D.known doors.old) (D.known doors.new) settings.entry.serving.connections office.old office.new result }
+) -> Result<(), ServeError>
+    ensures { ServesAtNetwork (server_settings_of settings.entry) (stream_of D.Stream.held D.Stream.taken D.Stream.failed) (state S.Store)
+        (D.known network.old) (D.known network.new) settings.entry.serving.connections office.old office.new result }
 {
-    let terms = Terms {
-        given: Given {
+    let server_settings = ServerSettings {
+        http: HttpSettings {
             origin: settings.serving.origin,
-            gate: gate_of(settings.porter),
+            gate: gate_of(settings.gate_files),
         },
         file: settings.file,
     };
     let most = most_of(settings.serving.connections);
-    serve_hall(alloc, doors, terms, aside, most, office)
+    serve_connections(alloc, network, server_settings, side_jobs, most, office)
 }
 
-/// Opens the doors of a host, serves an open office there, and closes them. The error is that they can't be opened, or why serving
+/// Opens the network of a host, serves an open office there, and closes it. The error is that it can't be opened, or why serving
 /// ended early.
 fn serve_at<H: Host, S: Alter>(
     alloc: Global,
     host: &mut H,
     serving: Serving<'_>,
-    porter: &Option<Porter>,
+    gate_files: &Option<GateFiles>,
     office: &mut Office<S>,
 ) -> Result<(), Failure>
-    ensures { MayServe (λ given. (given ≡ given_with (given_by serving.entry.origin) (option_map gate_at porter.now) given.file) × IfSome (H.file host.old) (λ numbers. given.file ≡ numbers))
-        (line_of H.Port.Line.held H.Port.Line.taken H.Port.Line.failed) (state S.Store)
+    ensures { MayServe (λ given. (given ≡ settings_with (given_by serving.entry.origin) (option_map gate_at gate_files.now) given.file) × IfSome (H.file host.old) (λ numbers. given.file ≡ numbers))
+        (stream_of H.Port.Stream.held H.Port.Stream.taken H.Port.Stream.failed) (state S.Store)
         serving.entry.port (H.known host.old) (H.known host.new) serving.entry.connections office.old office.new result }
 {
     let Opened {
-        mut doors,
-        aside,
+        mut network,
+        side_jobs,
         file,
     } = host.open(serving.port)?;
-    let settings = Settings {
+    let settings = GateSettings {
         serving,
-        porter,
+        gate_files,
         file,
     };
-    let ended = serve_through(alloc, &mut doors, settings, &aside, office);
-    host.close(serving.port, Opened { doors, aside, file });
+    let ended = serve_through(alloc, &mut network, settings, &side_jobs, office);
+    host.close(
+        serving.port,
+        Opened {
+            network,
+            side_jobs,
+            file,
+        },
+    );
     match ended {
         Ok(()) => Ok(()),
         Err(ended) => Err(failure_of(ended)),
@@ -124,9 +132,9 @@ fn tell_outcome<E: Sink>(outcome: Result<(), Failure>, err: &mut E) -> u8
 
 /// Opens the office of a connection, serves it on a host, and returns the status and the connection.
 ///
-/// If the settings name a file of clerks' codes, it is read first, and every client is served at a gate with just these codes. Without
-/// one there is no gate. If the codes can't be read, or the office or the doors can't be opened, nobody is served and nothing changes.
-/// The failure is printed.
+/// If the settings name a file of clerks' codes, it is read first, and every client is served at a gate with just these codes.
+/// Without one there is no gate. If the codes can't be read, or the office or the network can't be opened, nobody is served and
+/// nothing changes. The failure is printed.
 pub fn serve<H: Host, S: Alter, E: Sink>(
     alloc: Global,
     host: &mut H,
@@ -136,17 +144,17 @@ pub fn serve<H: Host, S: Alter, E: Sink>(
 ) -> (u8, Connection<S>)
     requires { E.failed err.old < 2 ^ 64 - 1 }
     ensures { ServesOrder (IsErrorTold E.taken E.failed err.old err.new) (err.new ≡ err.old) result.0 serving.entry (H.codes_at host.old) (H.file host.old)
-        (line_of H.Port.Line.held H.Port.Line.taken H.Port.Line.failed) (state S.Store) (H.known host.old) (H.known host.new) conn result.1 }
+        (stream_of H.Port.Stream.held H.Port.Stream.taken H.Port.Stream.failed) (state S.Store) (H.known host.old) (H.known host.new) conn result.1 }
 {
-    let porter = match porter_of(alloc, &*host, serving.codes) {
-        Ok(porter) => porter,
+    let gate_files = match read_gate_files(alloc, &*host, serving.codes) {
+        Ok(gate_files) => gate_files,
         Err(why) => return (tell_untaken(why, err), conn),
     };
     let mut office = match Office::open_from(alloc, conn) {
         Ok(office) => office,
         Err((fault, conn)) => return (tell_failure(Failure::Office(fault), err), conn),
     };
-    let outcome = serve_at(alloc, host, serving, &porter, &mut office);
+    let outcome = serve_at(alloc, host, serving, &gate_files, &mut office);
     let status = tell_outcome(outcome, err);
     (status, office.into_connection())
 }

@@ -16,7 +16,7 @@ use Rattle.desk.specs.Requests.{Sends, file_of}
 use Rattle.desk.specs.Scripts.{keeps_going}
 use Rattle.desk.specs.Told.{IsTold, page_answered}
 use Rattle.desk.specs.declared.orders.Job.{Job}
-use Rattle.desk.specs.declared.scripts.Turn.{Turn}
+use Rattle.desk.specs.declared.scripts.ScriptStep.{ScriptStep}
 use Rattle.desk.proofs.CauseLemmas.{TellsSince}
 use Rattle.desk.proofs.PageLemmas.{below_first, below_joined, below_last, fronted_status}
 use Rattle.desk.proofs.TellingLemmas.{cut_joined, cut_none, goes_after_both, goes_after_last, not_after_fault, whole_below}
@@ -225,7 +225,7 @@ unsent_since a b closed st keep line Tells s c since turn (inl (page, rest, told
 unsent_since a b closed st keep line Tells s c since turn (inr (page, cut, is, ends, inl told)) = inr (page, cut, is, ends, inl told)
 unsent_since a b closed st keep line Tells s c since turn (inr (page, cut, is, ends, inr stopped)) = inr (page, cut, is, ends, inr (stopped_since a b closed st s page since stopped))
 
-pub played_since : (a b : State) (closed : Bool) (st : State) (keep : Bool) (folder : Folder) → TellsSince a b st → (s : OfficeState) (turns : List Turn) (c : Course)
+pub played_since : (a b : State) (closed : Bool) (st : State) (keep : Bool) (folder : Folder) → TellsSince a b st → (s : OfficeState) (turns : List ScriptStep) (c : Course)
     → IsPlayed b closed st keep folder s turns c → IsPlayed a closed st keep folder s turns c
 played_since a b closed st keep folder since s [] c played = played
 played_since a b closed st keep folder since s (turn ∷ turns) c (file, found, inl (own, sends, sent)) = (
@@ -263,20 +263,20 @@ unsent_told old closed st keep line Tells s page uncut why = by (goes_on keep pa
 -- ---- turns of a script
 
 -- a turn was gone past: its requests were; or it sent none, and what it told was
-abbrev pub IsTurned : Bool → Turn → File → OfficeState → List Request → Page → OfficeState → Type 0
+abbrev pub IsTurned : Bool → ScriptStep → File → OfficeState → List Request → Page → OfficeState → Type 0
 IsTurned keep turn file s requests page mid =
     (Sends s turn.errand file requests × Replied keep turn.line (page_answered turn.errand) s requests page mid)
     ⊎ ((told : Page) × IsTold s turn.errand file told × (goes_on keep told.status ≡ true) × (requests ≡ []) × (page ≡ fronted turn.line told) × (mid ≡ s))
 
 -- All these turns were gone past: these are their requests, this page tells of them, and they led to this state.
-abbrev pub Taken : Bool → Folder → OfficeState → List Turn → List Request → Page → OfficeState → Type 0
+abbrev pub Taken : Bool → Folder → OfficeState → List ScriptStep → List Request → Page → OfficeState → Type 0
 Taken keep folder s [] own said end = (own ≡ []) × (said ≡ empty_page) × (end ≡ s)
 Taken keep folder s (turn ∷ turns) own said end =
     (file : File) × (requests others : List Request) × (page rest : Page) × (mid : OfficeState) × IsFileAt folder (file_of turn.errand) file × IsTurned keep turn file s requests page mid
     × (own ≡ requests ++ others) × (said ≡ below page rest) × Taken keep folder mid turns others rest end
 
 -- one turn more
-taken_more : (keep : Bool) (folder : Folder) (s : OfficeState) (turns : List Turn) (own : List Request) (said : Page) (end : OfficeState) (turn : Turn) (file : File) (requests : List Request) (page : Page) (next : OfficeState)
+taken_more : (keep : Bool) (folder : Folder) (s : OfficeState) (turns : List ScriptStep) (own : List Request) (said : Page) (end : OfficeState) (turn : ScriptStep) (file : File) (requests : List Request) (page : Page) (next : OfficeState)
     → Taken keep folder s turns own said end → IsFileAt folder (file_of turn.errand) file → IsTurned keep turn file end requests page next
     → Taken keep folder s (turns ++ turn ∷ []) (own ++ requests) (below said page) next
 taken_more keep folder s [] own said end turn file requests page next (no_own, no_said, same) found turned = (
@@ -311,7 +311,7 @@ same_above requests left own page rest said c own_is said_is =
     above_joined requests left page rest c ∙ (ap (λ xs. told_above xs (below page rest) c) (sym own_is) ∙ ap (λ p. told_above own p c) (sym said_is))
 
 -- what comes of the others stands below them
-taken_then : (old : State) (closed : Bool) (st : State) (keep : Bool) (folder : Folder) (s : OfficeState) (front : List Turn) (own : List Request) (said : Page) (end : OfficeState) (others : List Turn) (c : Course)
+taken_then : (old : State) (closed : Bool) (st : State) (keep : Bool) (folder : Folder) (s : OfficeState) (front : List ScriptStep) (own : List Request) (said : Page) (end : OfficeState) (others : List ScriptStep) (c : Course)
     → Taken keep folder s front own said end → IsPlayed old closed st keep folder end others c → IsPlayed old closed st keep folder s (front ++ others) (told_above own said c)
 taken_then old closed st keep folder s [] own said end others c (no_own, no_said, same) played =
     subst (λ x. IsPlayed old closed st keep folder x others (told_above own said c)) same
@@ -329,22 +329,22 @@ taken_then old closed st keep folder s (turn ∷ ts) own said end others c (file
     (file, found, inr (inl (told, told_above left rest c, is, goes, sym (same_above requests left own page rest said c own_is said_is) ∙ without, here)))
 
 -- The first of some turns were gone past, and this was told of them: the office is open where they led.
-pub record TakenSo (keep : Bool) (folder : Folder) (s : OfficeState) (turns : List Turn) (i : ℕ) (said : Page) (closed : Bool) (st : State) : Type 0 where
+pub record TakenSo (keep : Bool) (folder : Folder) (s : OfficeState) (turns : List ScriptStep) (i : ℕ) (said : Page) (closed : Bool) (st : State) : Type 0 where
   pub end : OfficeState
   pub open_at : IsOpenAt end closed st
   pub own : List Request
   pub taken : Taken keep folder s (take i turns) own said end
 
-pub none_taken : (keep : Bool) (folder : Folder) (s : OfficeState) (turns : List Turn) (closed : Bool) (st : State) → IsOpenAt s closed st → TakenSo keep folder s turns 0 empty_page closed st
+pub none_taken : (keep : Bool) (folder : Folder) (s : OfficeState) (turns : List ScriptStep) (closed : Bool) (st : State) → IsOpenAt s closed st → TakenSo keep folder s turns 0 empty_page closed st
 none_taken keep folder s turns closed st here = record { end = s; open_at = here; own = []; taken = (refl, refl, refl) }
 
-module _ (old : State) (keep : Bool) (folder : Folder) (s : OfficeState) (turns : List Turn) where
+module _ (old : State) (keep : Bool) (folder : Folder) (s : OfficeState) (turns : List ScriptStep) where
   -- what comes of all
   abbrev pub AllPlayed : Bool → State → Course → Type 0
   AllPlayed closed st c = IsPlayed old closed st keep folder s turns c
 
   -- the next turn was gone past
-  pub turn_more : (mid : State) (i : ℕ) (turn : Turn) (said : Page) (was : Bool) (before : State) (c : Course) (closed : Bool) (st : State) → i < length turns → turn ≡ get_or turns i turn
+  pub turn_more : (mid : State) (i : ℕ) (turn : ScriptStep) (said : Page) (was : Bool) (before : State) (c : Course) (closed : Bool) (st : State) → i < length turns → turn ≡ get_or turns i turn
       → (so : TakenSo keep folder s turns i said was before) → IsPlayed mid closed st keep folder so.end (turn ∷ []) c → WentOn keep c
       → TakenSo keep folder s turns (i + 1) (below said c.page) closed st
   turn_more mid i turn said was before c closed st within is so (file, found, inl (own, sends, sent)) gone =
@@ -369,7 +369,7 @@ module _ (old : State) (keep : Bool) (folder : Folder) (s : OfficeState) (turns 
       absurd (not_gone keep turn.line (page_answered turn.errand) [] 0 page cut c course_is ends gone)
 
   -- a turn that ended all, with those behind it
-  turn_then : (mid : State) (closed : Bool) (st : State) (x : OfficeState) (turn : Turn) (others : List Turn) (c : Course) → TellsSince old mid st → (WentOn keep c → ⊥)
+  turn_then : (mid : State) (closed : Bool) (st : State) (x : OfficeState) (turn : ScriptStep) (others : List ScriptStep) (c : Course) → TellsSince old mid st → (WentOn keep c → ⊥)
       → IsPlayed mid closed st keep folder x (turn ∷ []) c
       → IsPlayed old closed st keep folder x (turn ∷ others) c
   turn_then mid closed st x turn others c since bad (file, found, inl (own, sends, sent)) = (
@@ -391,7 +391,7 @@ module _ (old : State) (keep : Bool) (folder : Folder) (s : OfficeState) (turns 
   turn_then mid closed st x turn others c since bad (file, found, inr (inr (page, cut, is, ends, inr stopped))) =
       (file, found, inr (inr (page, cut, is, ends, inr (stopped_since old mid closed st x page since stopped))))
 
-  pub turn_last : (mid : State) (i : ℕ) (turn : Turn) (said : Page) (was : Bool) (before : State) (c : Course) (closed : Bool) (st : State) → i < length turns → turn ≡ get_or turns i turn
+  pub turn_last : (mid : State) (i : ℕ) (turn : ScriptStep) (said : Page) (was : Bool) (before : State) (c : Course) (closed : Bool) (st : State) → i < length turns → turn ≡ get_or turns i turn
       → TellsSince old mid st
       → (so : TakenSo keep folder s turns i said was before) → IsPlayed mid closed st keep folder so.end (turn ∷ []) c → (WentOn keep c → ⊥) → AllPlayed closed st (told_above so.own said c)
   turn_last mid i turn said was before c closed st within is since so played bad =

@@ -38,3 +38,11 @@ a_word_too_few = refl
 a_number_past_its_range : wrong_with (codes "DB" ∷ codes "serve" ∷ codes "65536" ∷ codes "1" ∷ []) ≡ ValueValidation ∷ []
 unfolding office_words orders clap_on_literals
 a_number_past_its_range = refl
+
+no_connections : wrong_with (codes "DB" ∷ codes "serve" ∷ codes "8080" ∷ codes "0" ∷ []) ≡ ValueValidation ∷ []
+unfolding office_words orders clap_on_literals
+no_connections = refl
+
+connections_left_out : wrong_with (codes "DB" ∷ codes "serve" ∷ codes "8080" ∷ []) ≡ []
+unfolding office_words orders clap_on_literals
+connections_left_out = refl

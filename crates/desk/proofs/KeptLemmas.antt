@@ -31,7 +31,7 @@ use Rattle.desk.specs.Told.{IsTold, page_answered}
 use Rattle.desk.specs.declared.orders.Job.{Job}
 use Rattle.desk.specs.declared.orders.Task.{Task}
 use Rattle.desk.specs.declared.orders.Task.TheVariants as task
-use Rattle.desk.specs.declared.scripts.Turn.{Turn}
+use Rattle.desk.specs.declared.scripts.ScriptStep.{ScriptStep}
 use Rattle.desk.proofs.PageLemmas.{fronted_status}
 use Rattle.desk.proofs.TellingLemmas.{goes_after_zero, shown_zero, whole_below, zero_last}
 
@@ -196,7 +196,7 @@ kept_unsent old closed st keep line Tells s c so (inl (page, rest, told, goes, i
 kept_unsent old closed st keep line Tells s c so (inr (page, cut, is, ends, inl told)) = subst (λ e. Kept s e st) (sym is) (kept_none s line page cut st told.1.at.leaves)
 kept_unsent old closed st keep line Tells s c so (inr (page, cut, is, ends, inr stopped)) = subst (λ e. Kept s e st) (sym is) (kept_none s line page cut st (stopped_leaves old closed st s page stopped))
 
-kept_played : (old : State) (closed : Bool) (st : State) (keep : Bool) (folder : Folder) (s : OfficeState) (turns : List Turn) (c : Course) → IsPlayed old closed st keep folder s turns c → Kept s c st
+kept_played : (old : State) (closed : Bool) (st : State) (keep : Bool) (folder : Folder) (s : OfficeState) (turns : List ScriptStep) (c : Course) → IsPlayed old closed st keep folder s turns c → Kept s c st
 kept_played old closed st keep folder s [] c played = subst (λ e. Kept s e st) (sym played.0) (kept_none s None empty_page uncut st played.1.at.leaves)
 kept_played old closed st keep folder s (turn ∷ turns) c (file, found, inl (own, sends, sent)) =
     kept_sent old closed st keep turn.line (page_answered turn.errand) (λ x e more. kept_played old closed st keep folder x turns e more) s own c sent

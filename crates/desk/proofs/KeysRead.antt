@@ -1,9 +1,9 @@
--- What words mean that hold several texts, or a flag, read off worked ones.
+-- What words mean that hold several texts, a flag, or a number that may be left out, read off worked ones.
 use Rattle.std.proofs.Common.{◌≡◌, [], ◌∷◌, true, false, refl}
-use Rattle.std.specs.Prelude.{codes, Some}
+use Rattle.std.specs.Prelude.{codes, Some, None}
 use Rattle.clap.proofs.OnLiterals.{clap_on_literals}
 use Rattle.clap.specs.Words.{subcommand_of}
-use Rattle.desk.specs.Orders.{key, orders, replay}
+use Rattle.desk.specs.Orders.{key, orders, replay, serve}
 use Rattle.desk.specs.Words.{meaning, office_words}
 
 -- the marks of three papers, one of them empty, around the id
@@ -23,3 +23,11 @@ past_refusals = refl
 up_to_a_refusal : meaning (subcommand_of office_words (codes "DB" ∷ codes "replay" ∷ codes "a.txt" ∷ [])) ≡ Some (replay (codes "a.txt") false)
 unfolding office_words orders clap_on_literals
 up_to_a_refusal = refl
+
+without_a_limit : meaning (subcommand_of office_words (codes "DB" ∷ codes "serve" ∷ codes "8080" ∷ [])) ≡ Some (serve 8080 None None None)
+unfolding office_words orders clap_on_literals
+without_a_limit = refl
+
+with_a_limit : meaning (subcommand_of office_words (codes "DB" ∷ codes "serve" ∷ codes "8080" ∷ codes "1000000" ∷ [])) ≡ Some (serve 8080 (Some 1000000) None None)
+unfolding office_words orders clap_on_literals
+with_a_limit = refl

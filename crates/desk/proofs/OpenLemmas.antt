@@ -13,7 +13,7 @@ use Rattle.desk.specs.Pages.{Cut, Page, fronted}
 use Rattle.desk.specs.Scripts.{keeps_going}
 use Rattle.desk.specs.Told.{IsTold, page_answered}
 use Rattle.desk.specs.declared.orders.Job.{Job}
-use Rattle.desk.specs.declared.scripts.Turn.{Turn}
+use Rattle.desk.specs.declared.scripts.ScriptStep.{ScriptStep}
 use Rattle.desk.proofs.KeptLemmas.{IsAfterSome}
 
 module _ (old : State) (closed : Bool) (st : State) where
@@ -52,7 +52,7 @@ module _ (old : State) (closed : Bool) (st : State) where
   open_unsent keep line Tells s c so (inr (page, cut, is, ends, inl told)) = subst (IsOpenAfter s) (sym is) (λ was. told.1)
   open_unsent keep line Tells s c so (inr (page, cut, is, ends, inr stopped)) = subst (IsOpenAfter s) (sym is) (open_stopped s page stopped)
 
-  open_played : (keep : Bool) (folder : Folder) (s : OfficeState) (turns : List Turn) (c : Course) → IsPlayed old closed st keep folder s turns c → IsOpenAfter s c
+  open_played : (keep : Bool) (folder : Folder) (s : OfficeState) (turns : List ScriptStep) (c : Course) → IsPlayed old closed st keep folder s turns c → IsOpenAfter s c
   open_played keep folder s [] c played = subst (IsOpenAfter s) (sym played.0) (λ was. played.1)
   open_played keep folder s (turn ∷ turns) c (file, found, inl (own, sends, sent)) =
       open_sent keep turn.line (page_answered turn.errand) (λ x e more. open_played keep folder x turns e more) s own c sent

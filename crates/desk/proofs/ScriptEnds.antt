@@ -7,7 +7,7 @@ use Rattle.sqlite.specs.State.{State}
 use Rattle.register.specs.Offices.{OfficeState}
 use Rattle.tables.specs.declared.fault.Fault.TheVariants.{Memory}
 use Rattle.office.specs.Answers.{IsOpenAt}
-use Rattle.desk.specs.Cuttings.{IsFaultOfLines, IsReplayOf}
+use Rattle.desk.specs.Lexing.{IsFaultOfLines, IsReplayOf}
 use Rattle.desk.specs.Folders.{File, Folder, HoldsText, IsFileAt}
 use Rattle.desk.specs.Headline.{Course, IsDone, IsStopped, IsUnsent, ended}
 use Rattle.desk.specs.Pages.{Cut, Page, failed, goes_on, script_page}
@@ -19,7 +19,7 @@ use Rattle.desk.specs.declared.scripts.LineFlaw.{LineFlaw}
 use Rattle.desk.specs.Scripts.{AreTurns, IsFirstFlaw, Numbered, Typed, lines_of, numbered_from, script_lines, typed_line}
 use Rattle.desk.specs.declared.scripts.ScriptFault.{ScriptFault}
 use Rattle.desk.specs.declared.scripts.ScriptFault.TheVariants as script
-use Rattle.desk.specs.declared.scripts.Turn.{Turn}
+use Rattle.desk.specs.declared.scripts.ScriptStep.{ScriptStep}
 
 holds_also : (P Q : Text → Type 0) (file : File) → ((text : Text) → P text → Q text) → HoldsText file P → HoldsText file Q
 holds_also P Q None also holds = absurd holds
@@ -33,7 +33,7 @@ holds_lines file read lines are holds =
     holds_also (λ text. read ≡ numbered_from 1 (lines_of text)) (λ text. lines ≡ script_lines text) file (λ text is. are ∙ ap (map typed_line) is) holds
 
 -- and so are their turns
-holds_turns : (file : File) (lines : List Typed) (turns : List Turn) → AreTurns lines turns → HoldsText file (λ text. lines ≡ script_lines text)
+holds_turns : (file : File) (lines : List Typed) (turns : List ScriptStep) → AreTurns lines turns → HoldsText file (λ text. lines ≡ script_lines text)
     → HoldsText file (λ text. AreTurns (script_lines text) turns)
 holds_turns file lines turns are holds =
     holds_also (λ text. lines ≡ script_lines text) (λ text. AreTurns (script_lines text) turns) file (λ text is. subst (λ ls. AreTurns ls turns) is are) holds
@@ -44,7 +44,7 @@ refused_script (Some told) page (inl unread) = inl (inl unread)
 refused_script file page (inr memory) = inr memory
 
 first_flaw : (file : File) (lines : List Typed) (number : ℕ) (flaw : LineFlaw) → IsFirstFlaw lines number flaw → HoldsText file (λ text. lines ≡ script_lines text)
-    → IsRefusedScript file (script_page (script.Line number flaw))
+    → IsRefusedScript file (script_page (script.ScriptLine number flaw))
 first_flaw None lines number flaw is holds = absurd holds
 first_flaw (Some None) lines number flaw is holds = inr (number, flaw, refl, tt)
 first_flaw (Some (Some text)) lines number flaw is holds = inr (number, flaw, refl, subst (λ ls. IsFirstFlaw ls number flaw) holds is)
@@ -87,8 +87,8 @@ module _ (folder : Folder) (s : OfficeState) (keep : Bool) (path : Bor Text) (fi
   replay_fault : (lines : List Typed) (fault : ScriptFault) (cut : Cut) → IsFaultOfLines lines fault → HoldsText file (λ text. lines ≡ script_lines text) → IsOpenAt s closed st
       → IsDone old closed st folder s (job.Replay path keep) (ended None [] 0 (script_page fault) cut)
   replay_fault lines script.Memory cut is holds here = out_of_memory (script_page script.Memory) cut refl here
-  replay_fault lines (script.Line number flaw) cut is holds here =
-      inr (unsent_ended _ old closed st s (script_page (script.Line number flaw)) cut (λ zero. absurd (omega arith)) (inl ((file, found, first_flaw file lines number flaw is holds), here)))
+  replay_fault lines (script.ScriptLine number flaw) cut is holds here =
+      inr (unsent_ended _ old closed st s (script_page (script.ScriptLine number flaw)) cut (λ zero. absurd (omega arith)) (inl ((file, found, first_flaw file lines number flaw is holds), here)))
 
   -- what comes of the lines of a script
   pub replay_of : (lines : List Typed) (c : Course) → HoldsText file (λ text. lines ≡ script_lines text) → IsReplayOf keep folder s lines c old closed st → IsDone old closed st folder s (job.Replay path keep) c
@@ -97,4 +97,4 @@ module _ (folder : Folder) (s : OfficeState) (keep : Bool) (path : Bor Text) (fi
 
 pub no_output : (fault : ScriptFault) → (script_page fault).out ≡ []
 no_output script.Memory = refl
-no_output (script.Line number flaw) = refl
+no_output (script.ScriptLine number flaw) = refl

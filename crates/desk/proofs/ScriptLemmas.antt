@@ -14,17 +14,17 @@ use Rattle.desk.specs.Scripts.{AreTurns, IsFirstFlaw, IsFlawOf, IsTurn, Typed}
 use Rattle.desk.specs.declared.scripts.LineFlaw.{LineFlaw}
 use Rattle.desk.specs.declared.scripts.ScriptFault.{ScriptFault}
 use Rattle.desk.specs.declared.scripts.ScriptFault.TheVariants as script
-use Rattle.desk.specs.declared.scripts.Turn.{Turn}
-use Rattle.desk.specs.Cuttings.{IsFaultOfLine, IsFaultOfLines}
+use Rattle.desk.specs.declared.scripts.ScriptStep.{ScriptStep}
+use Rattle.desk.specs.Lexing.{IsFaultOfLine, IsFaultOfLines}
 use Rattle.desk.proofs.CourseLemmas.{next_left}
 
 -- one line more
-pub turns_more : (lines : List Typed) (turns : List Turn) (line : Typed) (turn : Turn) → AreTurns lines turns → IsTurn line turn → AreTurns (lines ++ line ∷ []) (turns ++ turn ∷ [])
+pub turns_more : (lines : List Typed) (turns : List ScriptStep) (line : Typed) (turn : ScriptStep) → AreTurns lines turns → IsTurn line turn → AreTurns (lines ++ line ∷ []) (turns ++ turn ∷ [])
 turns_more [] turns line turn none is = (turn, [], ap (λ ts. ts ++ turn ∷ []) none, is, refl)
 turns_more (l ∷ ls) turns line turn are is = (are.0, are.1 ++ turn ∷ [], ap (λ ts. ts ++ turn ∷ []) are.2, are.3, turns_more ls are.1 line turn are.4 is)
 
 -- what is wrong with a line that stands behind turns
-pub flaw_behind : (lines : List Typed) (turns : List Turn) (line : Typed) (left : List Typed) (number : ℕ) (flaw : LineFlaw) → AreTurns lines turns → line.number ≡ number → IsFlawOf line.words flaw
+pub flaw_behind : (lines : List Typed) (turns : List ScriptStep) (line : Typed) (left : List Typed) (number : ℕ) (flaw : LineFlaw) → AreTurns lines turns → line.number ≡ number → IsFlawOf line.words flaw
     → IsFirstFlaw (lines ++ line ∷ left) number flaw
 flaw_behind [] turns line left number flaw none here is = inl (here, is)
 flaw_behind (l ∷ ls) turns line left number flaw are here is = inr (are.0, are.3, flaw_behind ls are.1 line left number flaw are.4 here is)
@@ -60,17 +60,17 @@ module _ {X : Type 0} (f : X → Typed) where
   line_more xs i x within is = ap (map f) (take_more xs i x within) ∙ (map-append f (take i xs) (get_or xs i x ∷ []) ∙ ap (λ y. map f (take i xs) ++ f y ∷ []) (sym is))
 
   -- one more of them is a turn
-  pub turns_so : (xs : List X) (i : ℕ) (x : X) (turns new : List Turn) (turn : Turn) → i < length xs → x ≡ get_or xs i x → AreTurns (map f (take i xs)) turns → IsTurn (f x) turn
+  pub turns_so : (xs : List X) (i : ℕ) (x : X) (turns new : List ScriptStep) (turn : ScriptStep) → i < length xs → x ≡ get_or xs i x → AreTurns (map f (take i xs)) turns → IsTurn (f x) turn
       → new ≡ turns ++ turn ∷ []
       → AreTurns (map f (take (i + 1) xs)) new
   turns_so xs i x turns new turn within is so one more =
       rw more (subst (λ ls. AreTurns ls (turns ++ turn ∷ [])) (sym (line_more xs i x within is)) (turns_more (map f (take i xs)) turns (f x) turn so one))
 
   -- what is wrong with one behind them
-  pub fault_behind : (xs : List X) (i : ℕ) (x : X) (turns : List Turn) (fault : ScriptFault) → i < length xs → x ≡ get_or xs i x → AreTurns (map f (take i xs)) turns
+  pub fault_behind : (xs : List X) (i : ℕ) (x : X) (turns : List ScriptStep) (fault : ScriptFault) → i < length xs → x ≡ get_or xs i x → AreTurns (map f (take i xs)) turns
       → IsFaultOfLine (f x) fault → IsFaultOfLines (map f xs) fault
   fault_behind xs i x turns script.Memory within is so wrong = tt
-  fault_behind xs i x turns (script.Line number flaw) within is so wrong =
+  fault_behind xs i x turns (script.ScriptLine number flaw) within is so wrong =
       let left : map f xs ≡ map f (take i xs) ++ f x ∷ map f (drop (i + 1) xs) =
       ap (map f) (sym (take-append-drop i xs)) ∙ (map-append f (take i xs) (drop i xs) ∙ ap (λ ls. map f (take i xs) ++ map f ls) (next_left xs i x within is)) in
       subst (λ ls. IsFirstFlaw ls number flaw) (sym left) (flaw_behind (map f (take i xs)) turns (f x) (map f (drop (i + 1) xs)) number flaw so wrong.0 wrong.1)

@@ -11,7 +11,7 @@ use Rattle.store.specs.declared.migration.Migrated.TheVariants.{Already, Done}
 use Rattle.office.specs.{Answers.IsClosedIn, Answers.IsKeptOpen, Answers.IsMemoryOrStore, Answers.IsOpenAt, Answers.Told, Answers.told_of, Reads.IsClosedReading, Runs.Keeps}
 use Rattle.desk.specs.{Folders.File, Folders.Folder, Folders.IsFileAt, Requests.Sends, Requests.file_of, Scripts.HasTurns, Scripts.keeps_going, Told.IsNoScript, Told.IsTold, Told.page_answered}
 use Rattle.desk.specs.Pages.{Cut, Page, below, cut_below, empty_page, failed, fronted, goes_on, migrated_text, replied, uncut}
-use Rattle.desk.specs.declared.{lines.Failure.TheVariants.Office, orders.Job.Job, orders.Task.Task, scripts.Turn.Turn}
+use Rattle.desk.specs.declared.{lines.Failure.TheVariants.Office, orders.Job.Job, orders.Task.Task, scripts.ScriptStep.ScriptStep}
 use Rattle.desk.specs.declared.orders.Task.TheVariants as task
 
 -- What came of requests: which they are, how many of them were answered, the page that says so, and how much of that page was taken.
@@ -66,7 +66,7 @@ module _ (old : State) (closed : Bool) (st : State) where
 
   -- Turns are taken in turn, each with the file that lies at its path when it comes. All the requests
   -- of a turn are sent. Or none is, and the page has what the turn asks, or why its file isn't taken.
-  abbrev pub IsPlayed : Bool → Folder → OfficeState → List Turn → Course → Type 0
+  abbrev pub IsPlayed : Bool → Folder → OfficeState → List ScriptStep → Course → Type 0
   IsPlayed keep folder s [] course = (course ≡ ended None [] 0 empty_page uncut) × IsOpenAt s closed st
   IsPlayed keep folder s (turn ∷ turns) course =
       (file : File) × IsFileAt folder (file_of turn.errand) file
@@ -75,7 +75,8 @@ module _ (old : State) (closed : Bool) (st : State) where
 
   -- A job is done in the open office: its turns are taken, past refusals where it is to keep going. Or the page says why its text is no script. Or the page has a fault.
   abbrev pub IsDone : Folder → OfficeState → Job → Course → Type 0
-  IsDone folder s job course = ((turns : List Turn) × HasTurns folder job turns × IsPlayed (keeps_going job) folder s turns course) ⊎ IsUnsent false None (IsNoScript folder job) (λ rest. ⊥) s course
+  IsDone folder s job course = ((turns : List ScriptStep) × HasTurns folder job turns
+      × IsPlayed (keeps_going job) folder s turns course) ⊎ IsUnsent false None (IsNoScript folder job) (λ rest. ⊥) s course
 
 -- Nothing is sent, and a stop leaves the state as it was.
 abbrev pub IsUntouched : (Page → Type 0) → OfficeState → Course → State → Type 0

@@ -17,15 +17,15 @@ use Rattle.desk.specs.Headline.{IsFailed}
 use Rattle.desk.specs.Pages.{Page, printed, unjournalled}
 use Rattle.desk.specs.Scripts.{AreTurns, script_lines}
 use Rattle.desk.specs.declared.orders.Errand.TheVariants as errand
-use Rattle.desk.specs.declared.scripts.Turn.{Turn}
+use Rattle.desk.specs.declared.scripts.ScriptStep.{ScriptStep}
 
 -- each turn is to send the request of its place, and needs no file
-abbrev pub AreSent : List Turn → List Request → Type 0
-AreSent turns requests = map (λ (turn : Turn). turn.errand) turns ≡ map (λ (request : Request). errand.Send request) requests
+abbrev pub AreSent : List ScriptStep → List Request → Type 0
+AreSent turns requests = map (λ (turn : ScriptStep). turn.errand) turns ≡ map (λ (request : Request). errand.Send request) requests
 
 -- The text is a script of these requests, one a line.
 pub record IsScriptOf (text : Text) (requests : List Request) : Type 0 where
-  pub turns : List Turn
+  pub turns : List ScriptStep
   pub script : AreTurns (script_lines text) turns
   pub sends : AreSent turns requests
 

@@ -3,7 +3,7 @@ use Rattle.std.specs.Prelude.{ℕ, ◌==◌, List, [], Option, map, find, slice_
 use Rattle.std.specs.List.{range_with_len}
 use Rattle.clap.specs.Words.{Text}
 use Rattle.register.specs.Offices.{CandidateEntry}
-use Rattle.desk.specs.declared.names.Names.{Names}
+use Rattle.desk.specs.declared.names.NamesByNumber.{NamesByNumber}
 
 -- the candidate of a number
 abbrev pub candidate_in : List CandidateEntry → ℕ → Option CandidateEntry
@@ -22,5 +22,5 @@ abbrev pub name_in : List Text → ℕ → Text
 name_in names number = unwrap_or (slice_get names number) []
 
 -- the names that stand in a table
-abbrev pub names_told : Names → List Text
+abbrev pub names_told : NamesByNumber → List Text
 names_told names = map (λ name. name.now) names.places.items

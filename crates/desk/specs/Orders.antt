@@ -1,5 +1,5 @@
 -- The orders of the program: the name and the words of each, and what it means by their values.
-use Rattle.std.specs.Prelude.{ℕ, Bool, true, false, List, [], ◌∷◌, ◌++◌, Option, codes, map, option_map, string_bytes}
+use Rattle.std.specs.Prelude.{ℕ, Bool, true, false, List, [], ◌∷◌, ◌++◌, Option, Some, None, codes, map, option_map, string_bytes}
 use Rattle.clap.specs.Words.{Text}
 use Rattle.register.specs.declared.command.Command.{Command}
 use Rattle.register.specs.declared.command.Command.TheVariants as command
@@ -13,10 +13,10 @@ use Rattle.office.specs.declared.sheets.Text.TheVariants as ward_text
 use Rattle.wire.specs.Origins.{origin_text}
 use Rattle.keyfile.specs.Digests.{asked_digest}
 use Rattle.desk.specs.Verdicts.{Judgement, judgement_given}
-use Rattle.desk.specs.declared.table.Kind.{Kind}
-use Rattle.desk.specs.declared.table.Kind.TheVariants as kind
-use Rattle.desk.specs.declared.table.Word.{Word}
-use Rattle.desk.specs.declared.table.Entry.{Entry}
+use Rattle.desk.specs.declared.order_entry.Kind.{Kind}
+use Rattle.desk.specs.declared.order_entry.Kind.TheVariants as kind
+use Rattle.desk.specs.declared.order_entry.Word.{Word}
+use Rattle.desk.specs.declared.order_entry.Entry.{Entry}
 use Rattle.desk.specs.declared.orders.Errand.{Errand}
 use Rattle.desk.specs.declared.orders.Errand.TheVariants as errand
 use Rattle.desk.specs.declared.orders.Question.{Question}
@@ -24,6 +24,7 @@ use Rattle.desk.specs.declared.orders.Question.TheVariants as question
 use Rattle.desk.specs.declared.orders.Order.{Order}
 use Rattle.desk.specs.declared.orders.Order.TheVariants as order
 use Rattle.desk.specs.declared.orders.Job.TheVariants as job
+use Rattle.desk.specs.declared.orders.Task.{Task}
 use Rattle.desk.specs.declared.orders.Task.TheVariants as task
 
 -- ---- the words of an order
@@ -54,7 +55,7 @@ number name = record { name = name; kind = kind.Number }
 abbrev pub number_or_none : Text → WordEntry
 number_or_none name = record { name = name; kind = kind.NumberOrNone }
 
--- a word that is a port, and one that is a number of connections
+-- a word that is a port, and one that is a number of connections, which may be left out
 abbrev pub port : Text → WordEntry
 port name = record { name = name; kind = kind.Port }
 
@@ -201,6 +202,11 @@ told (order.Copy path) = copy path.now
 told order.Journal = journal
 told (order.Codes path clerks) = make_codes path.now clerks.now
 told (order.Serve port connections origin file) = serve port connections (option_map origin_text origin) (option_map (λ path. path.now) file)
+
+-- the task that an order is to perform, if it is such an order
+abbrev pub task_of : Order → Option Task
+task_of (order.Perform task) = Some task
+task_of other = None
 
 -- ---- the orders
 

@@ -14,7 +14,7 @@ use Rattle.store.specs.declared.overviews.batches.Standing.TheVariants.{Taken, D
 use Rattle.office.specs.Overviews.{batches_told, differences_told, doubtful_told, papers_told, receipts_told, wards_told}
 use Rattle.desk.specs.Names.{name_in, names_of}
 use Rattle.desk.specs.Pages.{Page, line, page_found, printed, replied}
-use Rattle.desk.specs.Standings.{phase_word}
+use Rattle.desk.specs.WardStatus.{phase_word}
 use Rattle.desk.specs.declared.orders.Question.{Question}
 use Rattle.desk.specs.declared.orders.Question.TheVariants as question
 

@@ -32,8 +32,8 @@ use Rattle.desk.specs.declared.lines.Failure.{Failure}
 use Rattle.desk.specs.declared.lines.Failure.TheVariants.{Office, Output, CopyTaken, CopyFailed, BeingServed, FileGone}
 use Rattle.desk.specs.declared.words.WordsFault.{WordsFault}
 use Rattle.desk.specs.declared.words.WordsFault.TheVariants as words
-use Rattle.desk.specs.declared.lines.Outcome.{Outcome}
-use Rattle.desk.specs.declared.lines.Outcome.TheVariants as outcome
+use Rattle.desk.specs.declared.lines.LineOutcome.{LineOutcome}
+use Rattle.desk.specs.declared.lines.LineOutcome.TheVariants as outcome
 
 -- what goes to the output and to the error output, and the status that the program ends with
 pub record Page : Type 0 where
@@ -186,7 +186,7 @@ migrated_text Done = codes "office migrated"
 migrated_text Already = codes "office is at version 2"
 
 -- an outcome
-abbrev pub page_of : Outcome → Page
+abbrev pub page_of : LineOutcome → Page
 page_of outcome.Ready = replied (codes "office ready")
 page_of (outcome.Migrated migrated) = replied (migrated_text migrated)
 page_of (outcome.Replied reply) = replied (string_bytes reply)
@@ -228,7 +228,7 @@ fronted (Some number) page = record { out = page.out; err = behind_front (line_f
 -- why a text is no script
 abbrev pub script_page : ScriptFault → Page
 script_page script.Memory = failed (Office fault.Memory)
-script_page (script.Line number flaw) = record { out = []; err = line_front (Some number) ++ line_flaw_text flaw; status = 2 }
+script_page (script.ScriptLine number flaw) = record { out = []; err = line_front (Some number) ++ line_flaw_text flaw; status = 2 }
 
 -- ---- pages below one another
 

@@ -15,13 +15,13 @@ use Rattle.desk.specs.declared.orders.Job.{Job}
 use Rattle.desk.specs.declared.orders.Job.TheVariants as job
 use Rattle.desk.specs.declared.orders.Task.TheVariants as task
 use Rattle.desk.specs.declared.words.WordsFault.TheVariants as words_fault
-use Rattle.desk.specs.declared.cutting.Place.{Place}
-use Rattle.desk.specs.declared.cutting.Place.TheVariants.{Between, Within, Quoted}
+use Rattle.desk.specs.declared.lexer.LexerState.{LexerState}
+use Rattle.desk.specs.declared.lexer.LexerState.TheVariants.{Between, Within, Quoted}
 use Rattle.desk.specs.declared.scripts.Garbled.{Garbled}
 use Rattle.desk.specs.declared.scripts.Garbled.TheVariants as garbled
 use Rattle.desk.specs.declared.scripts.LineFlaw.{LineFlaw}
 use Rattle.desk.specs.declared.scripts.LineFlaw.TheVariants as flaw
-use Rattle.desk.specs.declared.scripts.Turn.{Turn}
+use Rattle.desk.specs.declared.scripts.ScriptStep.{ScriptStep}
 
 -- ---- the lines of a text
 
@@ -55,43 +55,43 @@ passes_over [] = true
 passes_over (byte ∷ bytes) = if is_blank byte then passes_over bytes else byte == 35
 
 -- how far a line is cut: its words so far, the one that is begun, and where the next byte stands
-pub record Cutting : Type 0 where
+pub record LexerEntry : Type 0 where
   pub words : List Text
   pub word : Text
-  pub place : Place
+  pub place : LexerState
 
 -- the next byte stands elsewhere
-abbrev pub moved_to : Place → Cutting → Cutting
+abbrev pub moved_to : LexerState → LexerEntry → LexerEntry
 moved_to place c = record { words = c.words; word = c.word; place = place }
 
 -- the word has one byte more
-abbrev pub with_byte : Cutting → ℕ → Cutting
+abbrev pub with_byte : LexerEntry → ℕ → LexerEntry
 with_byte c byte = record { words = c.words; word = c.word ++ byte ∷ []; place = c.place }
 
 -- the word is whole
-abbrev pub with_word : Cutting → Cutting
+abbrev pub with_word : LexerEntry → LexerEntry
 with_word c = record { words = c.words ++ c.word ∷ []; word = []; place = Between }
 
 -- a byte that is no blank, outside quotes: a quote opens, any other belongs to the word
-abbrev pub cut_open : Cutting → ℕ → Cutting
+abbrev pub cut_open : LexerEntry → ℕ → LexerEntry
 cut_open c byte = if is_quote byte then moved_to (Quoted byte) c else moved_to Within (with_byte c byte)
 
 -- one byte more: in quotes each belongs to the word up to the same quote, and outside a blank ends a word
-abbrev pub cut_at : Place → Cutting → ℕ → Cutting
+abbrev pub cut_at : LexerState → LexerEntry → ℕ → LexerEntry
 cut_at Between c byte = if is_blank byte then c else cut_open c byte
 cut_at Within c byte = if is_blank byte then with_word c else cut_open c byte
 cut_at (Quoted quote) c byte = if byte == quote then moved_to Within c else with_byte c byte
 
-abbrev pub cut_byte : Cutting → ℕ → Cutting
+abbrev pub cut_byte : LexerEntry → ℕ → LexerEntry
 cut_byte c byte = cut_at c.place c byte
 
 -- the words of a line that was cut to its end; none where a quote isn't closed
-abbrev pub words_at : Place → Cutting → Option (List Text)
+abbrev pub words_at : LexerState → LexerEntry → Option (List Text)
 words_at Between c = Some c.words
 words_at Within c = Some (c.words ++ c.word ∷ [])
 words_at (Quoted quote) c = None
 
-abbrev pub words_cut : Cutting → Option (List Text)
+abbrev pub words_cut : LexerEntry → Option (List Text)
 words_cut c = words_at c.place c
 
 -- the words of a line, none where a quote isn't closed
@@ -149,17 +149,17 @@ pub record Means (words : List Text) (errand : Errand) : Type 0 where
   pub sends : sends_requests errand ≡ true
 
 -- a line is this turn
-pub record IsTurn (line : Typed) (turn : Turn) : Type 0 where
+pub record IsTurn (line : Typed) (turn : ScriptStep) : Type 0 where
   pub line_number : turn.line ≡ Some line.number
   pub means : IsOkAnd line.words (λ words. Means words turn.errand)
 
 -- the lines are these turns, one each
-abbrev pub AreTurns : List Typed → List Turn → Type 0
+abbrev pub AreTurns : List Typed → List ScriptStep → Type 0
 AreTurns [] turns = turns ≡ []
-AreTurns (line ∷ lines) turns = (turn : Turn) × (others : List Turn) × (turns ≡ turn ∷ others) × IsTurn line turn × AreTurns lines others
+AreTurns (line ∷ lines) turns = (turn : ScriptStep) × (others : List ScriptStep) × (turns ≡ turn ∷ others) × IsTurn line turn × AreTurns lines others
 
 -- the turns of a job: an errand alone is one turn, of no line; the turns of a script are the errands that its lines mean
-abbrev pub HasTurns : Folder → Job → List Turn → Type 0
+abbrev pub HasTurns : Folder → Job → List ScriptStep → Type 0
 HasTurns folder (job.Run errand) turns = turns ≡ record { line = None; errand = errand } ∷ []
 HasTurns folder (job.Replay path keep_going) turns = (file : File) × IsFileAt folder (Some path.now) file × HoldsText file (λ text. AreTurns (script_lines text) turns)
 
@@ -200,4 +200,4 @@ IsFlawOf (Ok words) found = IsFlawOfWords words found
 -- this is wrong with the line of some number, and nothing with those before it
 abbrev pub IsFirstFlaw : List Typed → ℕ → LineFlaw → Type 0
 IsFirstFlaw [] k found = ⊥
-IsFirstFlaw (line ∷ lines) k found = ((line.number ≡ k) × IsFlawOf line.words found) ⊎ ((turn : Turn) × IsTurn line turn × IsFirstFlaw lines k found)
+IsFirstFlaw (line ∷ lines) k found = ((line.number ≡ k) × IsFlawOf line.words found) ⊎ ((turn : ScriptStep) × IsTurn line turn × IsFirstFlaw lines k found)

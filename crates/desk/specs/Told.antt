@@ -19,7 +19,7 @@ use Rattle.desk.specs.Overviews.{page_asked}
 use Rattle.desk.specs.Pages.{Page, page_counted, page_for, page_found, printed, refused, replied, script_page, unread}
 use Rattle.desk.specs.Requests.{is_first}
 use Rattle.desk.specs.Scripts.{IsFirstFlaw, script_lines}
-use Rattle.desk.specs.Standings.{status_text}
+use Rattle.desk.specs.WardStatus.{status_text}
 use Rattle.desk.specs.Steps.{step_text}
 use Rattle.desk.specs.declared.orders.Errand.{Errand}
 use Rattle.desk.specs.declared.orders.Errand.TheVariants as errand
@@ -65,7 +65,7 @@ IsTold s (errand.Ask question) file page = page ≡ page_asked s question
 abbrev pub IsRefusedScript : File → Page → Type 0
 IsRefusedScript None page = page ≡ unopened
 IsRefusedScript (Some told) page =
-    (page ≡ unopened) ⊎ ((number : ℕ) × (flaw : LineFlaw) × (page ≡ script_page (script.Line number flaw)) × Known told (λ text. IsFirstFlaw (script_lines text) number flaw))
+    (page ≡ unopened) ⊎ ((number : ℕ) × (flaw : LineFlaw) × (page ≡ script_page (script.ScriptLine number flaw)) × Known told (λ text. IsFirstFlaw (script_lines text) number flaw))
 
 -- why the file of a job isn't taken for a script
 abbrev pub IsNoScript : Folder → Job → Page → Type 0

@@ -1,6 +1,6 @@
 -- What `clap` takes for the words of an order, and the order that its matches mean, by the table of orders.
 use Rattle.std.specs.Prelude.{◌≡◌, ◌≢◌, ◌==◌, ◌&&◌, ⊤, ℕ, Bool, true, false, List, [], ◌∷◌, Option, Some, None, pos, IfSome}
-use Rattle.std.specs.Prelude.{codes, map, find, if◌then◌else◌, option_and_then, option_map, string_bytes, unwrap_or}
+use Rattle.std.specs.Prelude.{codes, map, find, option_and_then, option_map, string_bytes, unwrap_or}
 use Rattle.std.specs.List.{list_any}
 use Rattle.std.specs.Str.{bytes_eq}
 use Rattle.clap.specs.Words.{App, Kinds, Row, Rule, Text, all_of, fault_of, first_of, new_app, new_rule, one_of, with_rule, with_subcommand}
@@ -12,8 +12,8 @@ use Rattle.clap.specs.declared.error.kind.ErrorKind.{ErrorKind}
 use Rattle.clap.specs.declared.error.kind.ErrorKind.TheVariants.{DisplayHelp, DisplayVersion, OutOfMemory}
 use Rattle.desk.specs.declared.words.WordsFault.{WordsFault}
 use Rattle.desk.specs.declared.words.WordsFault.TheVariants as words_fault
-use Rattle.desk.specs.declared.table.Kind.{Kind}
-use Rattle.desk.specs.declared.table.Kind.TheVariants as kind
+use Rattle.desk.specs.declared.order_entry.Kind.{Kind}
+use Rattle.desk.specs.declared.order_entry.Kind.TheVariants as kind
 use Rattle.desk.specs.Numbers.{number_in}
 use Rattle.desk.specs.Orders.{Meant, OfWords, OrderWords, WordValue, WordEntry, asked_by, by_office, no_digest, no_origin, no_verdict, orders, send}
 use Rattle.desk.specs.Verdicts.{Judgement, judgement_in}
@@ -29,7 +29,7 @@ abbrev pub any_port : ValueParser
 any_port = parser.Signed (pos 1) (pos 65535)
 
 abbrev pub any_connections : ValueParser
-any_connections = parser.Signed (pos 0) (pos 1000000)
+any_connections = parser.Signed (pos 1) (pos 1000000)
 
 -- a word that is one of some numbers
 abbrev pub number_rule : ValueParser → Text → Rule
@@ -64,7 +64,7 @@ abbrev pub rule_of_kind : Kind → Text → Rule
 rule_of_kind kind.Number = number_rule any_number
 rule_of_kind kind.NumberOrNone = free_number_rule any_number
 rule_of_kind kind.Port = number_rule any_port
-rule_of_kind kind.Connections = number_rule any_connections
+rule_of_kind kind.Connections = free_number_rule any_connections
 rule_of_kind kind.Text = text_rule
 rule_of_kind kind.Verdict = text_rule
 rule_of_kind kind.Id = id_rule
@@ -120,10 +120,6 @@ texts_at name rows = unwrap_or (all_of name rows) []
 abbrev pub flag_at : Text → List Row → Bool
 flag_at name rows = bytes_eq (text_at name rows) (codes "true")
 
--- after how many connections serving ends, by the number of them; 0 stands for no limit
-abbrev pub limit_of : ℕ → Option ℕ
-limit_of number = if number == 0 then None else Some number
-
 -- what was matched under a name, if a text was: the origin that it is, or none
 abbrev pub origin_at : Text → List Row → Option (Option Text)
 origin_at name rows = option_map origin_in (first_of name rows)
@@ -154,7 +150,7 @@ abbrev pub with_value : (k : Kind) → List Row → Text → (WordValue k → Me
 with_value kind.Number rows name means = means (number_at name rows)
 with_value kind.NumberOrNone rows name means = means (number_found name rows)
 with_value kind.Port rows name means = means (number_at name rows)
-with_value kind.Connections rows name means = means (limit_of (number_at name rows))
+with_value kind.Connections rows name means = means (number_found name rows)
 with_value kind.Text rows name means = means (text_at name rows)
 with_value kind.Verdict rows name means = judged (judgement_in (text_at name rows)) means
 with_value kind.Id rows name means = means (text_at name rows)

@@ -11,7 +11,7 @@ ghost use Rattle.office.specs.Answers.{IsReadAt, WhenOpenAt};
 ghost use Rattle.desk.specs.Copying.{HoldsCopy, IsCopied, IsCopiedOpen, copied_text, state_behind};
 ghost use Rattle.desk.specs.Pages.{Tells, closed_page, outputs_of, page_of};
 
-use crate::lines::{Outcome, tell};
+use crate::lines::{LineOutcome, tell};
 use office::{Holdings, Office};
 use sqlite::{Alter, Connection};
 use std::alloc::{AllocError, Global};
@@ -57,7 +57,7 @@ fn copied<S: Alter, T: Alter>(
     alloc: Global,
     conn: &mut Connection<S>,
     copy: &mut Connection<T>,
-) -> (Outcome, CopyState)
+) -> (LineOutcome, CopyState)
     ensures holds { HoldsCopy result.1 (page_of result.0) (state T.Store copy.old) (state T.Store copy.new) }
     ensures copied { HasCleanDisk (state S.Store conn.new) → IsCopied (page_of result.0) result.1 (state S.Store conn.old) (state S.Store conn.new) (state T.Store copy.old) (state T.Store copy.new) }
     ensures untouched { result.1 ≡ CopyState.Untouched → copy.new ≡ copy.old }
@@ -67,10 +67,10 @@ fn copied<S: Alter, T: Alter>(
 {
     match Office::copy(alloc, conn, copy) {
         Ok(holdings) => match copied_text(alloc, holdings) {
-            Ok(text) => (Outcome::Replied(text), CopyState::Whole),
-            Err(_) => (Outcome::Failed(Fault::Memory), CopyState::Unknown),
+            Ok(text) => (LineOutcome::Replied(text), CopyState::Whole),
+            Err(_) => (LineOutcome::Failed(Fault::Memory), CopyState::Unknown),
         },
-        Err(fault) => (Outcome::Uncopied(fault), state_behind(fault)),
+        Err(fault) => (LineOutcome::Uncopied(fault), state_behind(fault)),
     }
 }
 
@@ -79,10 +79,11 @@ fn copied_open<S: Alter, T: Alter>(
     alloc: Global,
     office: &mut Office<S>,
     copy: &mut Connection<T>,
-) -> (Outcome, CopyState)
+) -> (LineOutcome, CopyState)
     ensures holds { HoldsCopy result.1 (page_of result.0) (state T.Store copy.old) (state T.Store copy.new) }
     ensures copied { WhenOpenAt (state S.Store) office.old office.new
-        (λ s. IsCopiedOpen s (page_of result.0) result.1 (state S.Store office.old.held) (state S.Store office.new.held) (state T.Store copy.old) (state T.Store copy.new) × IsReadAt s office.new.closed (state S.Store office.new.held)) }
+        (λ s. IsCopiedOpen s (page_of result.0) result.1 (state S.Store office.old.held) (state S.Store office.new.held) (state T.Store copy.old) (state T.Store copy.new)
+        × IsReadAt s office.new.closed (state S.Store office.new.held)) }
     ensures untouched { result.1 ≡ CopyState.Untouched → copy.new ≡ copy.old }
     ensures reads { OnlyReads (state S.Store office.old.held) (state S.Store office.new.held) }
     ensures closed { office.old.closed ≡ true → (page_of result.0 ≡ closed_page) × (office.new ≡ office.old) }
@@ -91,10 +92,10 @@ fn copied_open<S: Alter, T: Alter>(
 {
     match office.copy_open(copy) {
         Ok(holdings) => match copied_text(alloc, holdings) {
-            Ok(text) => (Outcome::Replied(text), CopyState::Whole),
-            Err(_) => (Outcome::Failed(Fault::Memory), CopyState::Unknown),
+            Ok(text) => (LineOutcome::Replied(text), CopyState::Whole),
+            Err(_) => (LineOutcome::Failed(Fault::Memory), CopyState::Unknown),
         },
-        Err(fault) => (Outcome::Uncopied(fault), state_behind(fault)),
+        Err(fault) => (LineOutcome::Uncopied(fault), state_behind(fault)),
     }
 }
 
@@ -114,7 +115,8 @@ pub fn copy_open<S: Alter, T: Alter, O: Sink, E: Sink>(
     requires err { E.failed err.old < 2 ^ 64 - 1 }
     ensures copied { let outputs = outputs_of O.taken O.failed E.taken E.failed in Tells (outputs out.old err.old) (outputs out.new err.new) result.0
         (λ _ page. HoldsCopy result.1 page (state T.Store copy.old) (state T.Store copy.new)
-        × WhenOpenAt (state S.Store) office.old office.new (λ s. IsCopiedOpen s page result.1 (state S.Store office.old.held) (state S.Store office.new.held) (state T.Store copy.old) (state T.Store copy.new))
+        × WhenOpenAt (state S.Store) office.old office.new (λ s. IsCopiedOpen s page result.1 (state S.Store office.old.held) (state S.Store office.new.held) (state T.Store copy.old)
+        (state T.Store copy.new))
         × (office.old.closed ≡ true → page ≡ closed_page)) }
     ensures stays { WhenOpenAt (state S.Store) office.old office.new (λ s. IsReadAt s office.new.closed (state S.Store office.new.held)) }
     ensures made { result.0 ≡ 0 → (result.1 ≡ CopyState.Whole)

@@ -11,7 +11,7 @@ ghost use Rattle.desk.specs.Pages.{Tells, outputs_of, page_at_rest, page_of};
 ghost use Rattle.desk.specs.Parts.{ComesTo, IsCounted, IsStage};
 ghost use Rattle.desk.specs.Requests.{advances, id_at, most_advances};
 
-use crate::lines::{Outcome, tell};
+use crate::lines::{LineOutcome, tell};
 use office::{Answer, Office};
 use register::{Reason, Refusal, Request};
 use sqlite::Alter;
@@ -19,30 +19,34 @@ use votes::Sink;
 
 /// What comes of a refusal of one stage more: that the count rests is a reply.
 /// Behind the first request a ward in another phase is one that was declared since.
-fn at_rest(is_first: bool, refusal: Refusal) -> Outcome
+fn at_rest(is_first: bool, refusal: Refusal) -> LineOutcome
     ensures { page_of result ≡ page_at_rest is_first refusal }
 {
     match refusal.reason() {
-        Reason::CountFinished => Outcome::CountFinished,
-        Reason::LotNeeded { .. } => Outcome::LotNeeded(refusal),
-        Reason::WrongPhase if !is_first => Outcome::CountFinished,
-        _ => Outcome::Refused(refusal),
+        Reason::CountFinished => LineOutcome::CountFinished,
+        Reason::LotNeeded { .. } => LineOutcome::LotNeeded(refusal),
+        Reason::WrongPhase if !is_first => LineOutcome::CountFinished,
+        _ => LineOutcome::Refused(refusal),
     }
 }
 
 /// What comes of a request for one stage more, the first of an order or another; and whether the count goes on behind it. It goes
 /// on where the request was accepted, now or before.
-fn stage_of<S: Alter>(office: &mut Office<S>, is_first: bool, request: &Request) -> (Outcome, bool)
+fn stage_of<S: Alter>(
+    office: &mut Office<S>,
+    is_first: bool,
+    request: &Request,
+) -> (LineOutcome, bool)
     ensures told { WhenOpenAt (state S.Store) office.old office.new
         (λ s. IsStage (state S.Store office.old.held) office.new.closed (state S.Store office.new.held) is_first s request.now (page_of result.0) result.1) }
     ensures wears { Wears (state S.Store office.old.held) (state S.Store office.new.held) }
     ensures clean { HasCleanDisk (state S.Store office.new.held) → HasCleanDisk (state S.Store office.old.held) }
 {
     match office.handle(request.actor, request.id.as_str(), &request.command) {
-        Ok(Answer::Done(reply)) => (Outcome::Replied(reply), true),
-        Ok(Answer::Kept(reply)) => (Outcome::Replied(reply), true),
+        Ok(Answer::Done(reply)) => (LineOutcome::Replied(reply), true),
+        Ok(Answer::Kept(reply)) => (LineOutcome::Replied(reply), true),
         Ok(Answer::Refused(refusal)) => (at_rest(is_first, refusal), false),
-        Err(fault) => (Outcome::Failed(fault), false),
+        Err(fault) => (LineOutcome::Failed(fault), false),
     }
 }
 

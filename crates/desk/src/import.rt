@@ -11,7 +11,7 @@ ghost use Rattle.desk.specs.Parts.{IsKeyingRead, IsUnread};
 ghost use Rattle.desk.specs.Pages.{page_of};
 ghost use Rattle.desk.specs.Requests.{HoldsRequests, keyings_for, requests_for};
 
-use crate::lines::Outcome;
+use crate::lines::LineOutcome;
 use crate::orders::KeyingFile;
 use crate::requests::{keying_request, requests_for};
 use keyfile::{FileDigest, FileFault, Flaw, read_candidates, read_keying};
@@ -36,20 +36,20 @@ pub(crate) fn candidate_requests<R: Read + Drop>(
     id: &str,
     file: Option<R>,
     digest: Option<FileDigest>,
-) -> Result<Vec<Request>, Outcome>
+) -> Result<Vec<Request>, LineOutcome>
     ensures rows { IfOk result (λ requests. HoldsRequests candidates (requests_for id.now) (asked_digest digest) (option_map R.remaining file) requests.items) }
     ensures refused { IfErr result (λ outcome. IsUnread candidates (asked_digest digest) (option_map R.remaining file) (page_of outcome)) }
 {
     let Some(file) = file else {
-        return Err(Outcome::Unread(UNOPENED));
+        return Err(LineOutcome::Unread(UNOPENED));
     };
     let rows = match read_candidates(alloc, file, digest) {
         Ok(rows) => rows,
-        Err(fault) => return Err(Outcome::Unread(fault)),
+        Err(fault) => return Err(LineOutcome::Unread(fault)),
     };
     match requests_for(alloc, id, &rows) {
         Ok(requests) => Ok(requests),
-        Err(_) => Err(Outcome::Failed(Fault::Memory)),
+        Err(_) => Err(LineOutcome::Failed(Fault::Memory)),
     }
 }
 
@@ -61,23 +61,23 @@ fn keying_in<R: Read + Drop>(
     keyed: KeyingFile<'_>,
     columns: Columns,
     file: Option<R>,
-) -> Result<Request, Outcome>
+) -> Result<Request, LineOutcome>
     ensures papers { let format = keying columns keyed.entry.batch keyed.entry.clerk in
         IfOk result (λ request. HoldsRequests format (keyings_for keyed.entry) (asked_digest keyed.entry.digest) (option_map R.remaining file) (request ∷ [])) }
     ensures refused { let format = keying columns keyed.entry.batch keyed.entry.clerk in
         IfErr result (λ outcome. IsUnread format (asked_digest keyed.entry.digest) (option_map R.remaining file) (page_of outcome)) }
 {
     let Some(file) = file else {
-        return Err(Outcome::Unread(UNOPENED));
+        return Err(LineOutcome::Unread(UNOPENED));
     };
     let read = read_keying(alloc, file, columns, keyed.batch, keyed.clerk, keyed.digest);
     let papers = match read {
         Ok(papers) => papers,
-        Err(fault) => return Err(Outcome::Unread(fault)),
+        Err(fault) => return Err(LineOutcome::Unread(fault)),
     };
     match keying_request(alloc, keyed, papers) {
         Ok(request) => Ok(request),
-        Err(AllocError) => Err(Outcome::Failed(Fault::Memory)),
+        Err(AllocError) => Err(LineOutcome::Failed(Fault::Memory)),
     }
 }
 
@@ -90,14 +90,14 @@ pub(crate) fn keying_of<S: Alter, R: Read + Drop>(
     office: &mut Office<S>,
     keyed: KeyingFile<'_>,
     file: Option<R>,
-) -> Result<Request, Outcome>
+) -> Result<Request, LineOutcome>
     ensures read { WhenOpenAt (state S.Store) office.old office.new
         (λ s. IsKeyingRead s keyed.entry (option_map R.remaining file) page_of result office.new.closed (state S.Store office.old.held) (state S.Store office.new.held)) }
     ensures same { OnlyReads (state S.Store office.old.held) (state S.Store office.new.held) }
 {
     match office.columns(keyed.batch) {
         Ok(columns) => keying_in(alloc, keyed, columns, file),
-        Err(Stop::Refused(refusal)) => Err(Outcome::Refused(refusal)),
-        Err(Stop::Fault(fault)) => Err(Outcome::Failed(fault)),
+        Err(Stop::Refused(refusal)) => Err(LineOutcome::Refused(refusal)),
+        Err(Stop::Fault(fault)) => Err(LineOutcome::Failed(fault)),
     }
 }

@@ -19,7 +19,7 @@ mod words;
 use crate::journal::counts::put_count;
 use crate::journal::nominations::put_nominations;
 use crate::journal::papers::put_batch;
-use crate::journal::receipts::{Kept, places_of};
+use crate::journal::receipts::{KeptReceipts, places_of};
 use crate::journal::words::put_heading;
 use rowcheck::Rows;
 use std::alloc::{AllocError, Global};
@@ -29,7 +29,11 @@ const FRONT: &str =
     "# The orders that an office accepted, in a sequence in which each is accepted again.\n# 'replay' sends them to an empty office, and makes the same one.\n";
 
 /// Puts the nominations of all wards.
-fn put_all_nominations(alloc: Global, text: &mut String, kept: &Kept<'_>) -> Result<(), AllocError>
+fn put_all_nominations(
+    alloc: Global,
+    text: &mut String,
+    kept: &KeptReceipts<'_>,
+) -> Result<(), AllocError>
     requires { MapsRise (state_of kept.now.rows.now) }
 {
     for ward in &kept.rows.wards {
@@ -39,7 +43,11 @@ fn put_all_nominations(alloc: Global, text: &mut String, kept: &Kept<'_>) -> Res
 }
 
 /// Puts all batches.
-fn put_all_batches(alloc: Global, text: &mut String, kept: &Kept<'_>) -> Result<(), AllocError>
+fn put_all_batches(
+    alloc: Global,
+    text: &mut String,
+    kept: &KeptReceipts<'_>,
+) -> Result<(), AllocError>
     requires { MapsRise (state_of kept.now.rows.now) }
 {
     for batch in &kept.rows.batches {
@@ -49,7 +57,11 @@ fn put_all_batches(alloc: Global, text: &mut String, kept: &Kept<'_>) -> Result<
 }
 
 /// Puts the counts of all wards.
-fn put_all_counts(alloc: Global, text: &mut String, kept: &Kept<'_>) -> Result<(), AllocError>
+fn put_all_counts(
+    alloc: Global,
+    text: &mut String,
+    kept: &KeptReceipts<'_>,
+) -> Result<(), AllocError>
     requires { MapsRise (state_of kept.now.rows.now) }
 {
     for ward in &kept.rows.wards {
@@ -69,7 +81,7 @@ pub(crate) fn journal_text(alloc: Global, rows: &Rows) -> Result<String, AllocEr
     requires { MapsRise (state_of rows.now) }
 {
     let places = places_of(alloc, &rows.receipts)?;
-    let kept = Kept {
+    let kept = KeptReceipts {
         rows,
         places: &places,
     };

@@ -22,7 +22,7 @@ const NO_JOURNAL: &str = "no journal: what was written does not make this office
 
 /// What an order came to.
 #[derive(Drop)]
-pub(crate) enum Outcome {
+pub(crate) enum LineOutcome {
     /// An office was made.
     Ready,
     /// An office was brought over, or was at this program's version already.
@@ -396,7 +396,7 @@ fn tell_noted<O: Sink, E: Sink>(
 /// goes to the error output begins with the number of that line.
 pub(crate) fn tell<O: Sink, E: Sink>(
     line: Option<usize>,
-    outcome: &Outcome,
+    outcome: &LineOutcome,
     out: &mut O,
     err: &mut E,
 ) -> u8
@@ -405,18 +405,18 @@ pub(crate) fn tell<O: Sink, E: Sink>(
     ensures { let outputs = outputs_of O.taken O.failed E.taken E.failed in Shows (outputs out.old err.old) (outputs out.new err.new) (fronted line (page_of outcome.now)) result }
 {
     match outcome {
-        Outcome::Ready => tell_text(&["office ready", "\n"], out, err),
-        Outcome::Migrated(migrated) => tell_text(&[migrated_text(*migrated), "\n"], out, err),
-        Outcome::Replied(reply) => tell_text(&[reply.as_str(), "\n"], out, err),
-        Outcome::Noted { reply, id } => tell_noted(line, reply.as_str(), id.as_str(), out, err),
-        Outcome::Printed(text) => tell_text(&[text.as_str()], out, err),
-        Outcome::CountFinished => tell_text(&["count finished", "\n"], out, err),
-        Outcome::LotNeeded(refusal) => tell_text(&[refusal.text(), "\n"], out, err),
-        Outcome::Refused(refusal) => tell_refusal(line, refusal, err),
-        Outcome::Unread(fault) => tell_file_fault(line, *fault, err),
-        Outcome::Failed(fault) => tell_failure_at(line, Failure::Office(*fault), err),
-        Outcome::Uncopied(fault) => tell_failure_at(line, failure_of(*fault), err),
-        Outcome::Unjournalled => tell_no_journal(line, err),
+        LineOutcome::Ready => tell_text(&["office ready", "\n"], out, err),
+        LineOutcome::Migrated(migrated) => tell_text(&[migrated_text(*migrated), "\n"], out, err),
+        LineOutcome::Replied(reply) => tell_text(&[reply.as_str(), "\n"], out, err),
+        LineOutcome::Noted { reply, id } => tell_noted(line, reply.as_str(), id.as_str(), out, err),
+        LineOutcome::Printed(text) => tell_text(&[text.as_str()], out, err),
+        LineOutcome::CountFinished => tell_text(&["count finished", "\n"], out, err),
+        LineOutcome::LotNeeded(refusal) => tell_text(&[refusal.text(), "\n"], out, err),
+        LineOutcome::Refused(refusal) => tell_refusal(line, refusal, err),
+        LineOutcome::Unread(fault) => tell_file_fault(line, *fault, err),
+        LineOutcome::Failed(fault) => tell_failure_at(line, Failure::Office(*fault), err),
+        LineOutcome::Uncopied(fault) => tell_failure_at(line, failure_of(*fault), err),
+        LineOutcome::Unjournalled => tell_no_journal(line, err),
     }
 }
 
@@ -428,7 +428,7 @@ pub(crate) fn tell_script_fault<E: Sink>(fault: &ScriptFault, err: &mut E) -> u8
 {
     match fault {
         ScriptFault::Memory => tell_failure(Failure::Office(Fault::Memory), err),
-        ScriptFault::Line(number, flaw) => tell_error(Some(*number), &[flaw.text()], 2, err),
+        ScriptFault::ScriptLine(number, flaw) => tell_error(Some(*number), &[flaw.text()], 2, err),
     }
 }
 

@@ -13,7 +13,7 @@ const PLACES: u32 = MAX_CANDIDATES as u32 + 1;
 
 /// The names of a ward's candidates, each at the place of his number; nothing at the places of other numbers.
 #[derive(Drop)]
-pub(crate) struct Names<'a> {
+pub(crate) struct NamesByNumber<'a> {
     places: Vec<&'a str>,
 }
 
@@ -39,18 +39,21 @@ pub(crate) fn name_of<'a>(candidates: &'a [Candidate], number: u32) -> &'a str
     }
 }
 
-impl<'a> Names<'a> {
+impl<'a> NamesByNumber<'a> {
     #[tactic(auto, unfolding(crate::specs::Names::names_of))]
     /// The names of candidates. Each number from 0 to 30 is looked for among them once, and a preference finds its name at
     /// its place.
-    pub(crate) fn new(alloc: Global, candidates: &'a [Candidate]) -> Result<Names<'a>, AllocError>
+    pub(crate) fn new(
+        alloc: Global,
+        candidates: &'a [Candidate],
+    ) -> Result<NamesByNumber<'a>, AllocError>
         ensures { IfOk result (λ names. names_told names ≡ names_of (map candidate_entry candidates.now)) }
     {
         let mut places = Vec::new(alloc);
         for number in 0..PLACES {
             places.push(name_of(candidates, number))?;
         }
-        Ok(Names { places })
+        Ok(NamesByNumber { places })
     }
 
     /// The name at the place of a number; nothing where the number has no place.

@@ -14,10 +14,10 @@ ghost use Rattle.desk.specs.Overviews.{batch_line, differences_line, receipt_lin
 ghost use Rattle.desk.specs.Overviews.{clerk_words, elected_words, keyed_word, open_words, seats_words, size_words, standing_word, twin_words, untaken_words};
 ghost use Rattle.desk.specs.Pages.{failed, line, page_of, page_stopped, printed};
 
-use crate::lines::{Failure, Outcome};
+use crate::lines::{Failure, LineOutcome};
 use crate::orders::Question;
 use crate::papers::{doubtful_lines, paper_lines};
-use crate::standing::phase_word;
+use crate::ward_status::phase_word;
 use office::{Office, Stop};
 use paper::Columns;
 use register::Receipt;
@@ -256,17 +256,17 @@ fn lines_of<T: Lined>(alloc: Global, found: &[T]) -> Result<String, AllocError>
 }
 
 /// What is printed where nothing was found.
-fn stopped(stop: Stop) -> Outcome
+fn stopped(stop: Stop) -> LineOutcome
     ensures { page_of result ≡ page_stopped stop }
 {
     match stop {
-        Stop::Refused(refusal) => Outcome::Refused(refusal),
-        Stop::Fault(fault) => Outcome::Failed(fault),
+        Stop::Refused(refusal) => LineOutcome::Refused(refusal),
+        Stop::Fault(fault) => LineOutcome::Failed(fault),
     }
 }
 
 /// What is printed of what was found, or why there is nothing; or that memory was wanting for the lines.
-fn outcome_of<T: Lined + Drop>(alloc: Global, found: Result<Vec<T>, Stop>) -> Outcome
+fn outcome_of<T: Lined + Drop>(alloc: Global, found: Result<Vec<T>, Stop>) -> LineOutcome
     ensures lines { IfOk found (λ all. (page_of result ≡ printed (flat_map (λ t. line (T.text t)) all.items)) ⊎ (page_of result ≡ failed (Failure.Office Fault.Memory))) }
     ensures stop { IfErr found (λ stop. page_of result ≡ page_stopped stop) }
 {
@@ -275,51 +275,51 @@ fn outcome_of<T: Lined + Drop>(alloc: Global, found: Result<Vec<T>, Stop>) -> Ou
         Err(stop) => return stopped(stop),
     };
     match lines_of(alloc, &found) {
-        Ok(text) => Outcome::Printed(text),
-        Err(AllocError) => Outcome::Failed(Fault::Memory),
+        Ok(text) => LineOutcome::Printed(text),
+        Err(AllocError) => LineOutcome::Failed(Fault::Memory),
     }
 }
 
 /// On which papers a batch differs, in a line; or why there is no such line.
-fn differences_of<S: Alter>(alloc: Global, office: &mut Office<S>, batch: u32) -> Outcome
+fn differences_of<S: Alter>(alloc: Global, office: &mut Office<S>, batch: u32) -> LineOutcome
     ensures found { WhenOpenAt (state S.Store) office.old office.new
         (λ s. IsAskedOf s (Question.Differences batch) (page_of result) office.new.closed (state S.Store office.old.held) (state S.Store office.new.held)) }
     ensures same { OnlyReads (state S.Store office.old.held) (state S.Store office.new.held) }
 {
     match office.differences(batch) {
         Ok(found) => match differences_line(alloc, &found) {
-            Ok(line) => Outcome::Replied(line),
-            Err(AllocError) => Outcome::Failed(Fault::Memory),
+            Ok(line) => LineOutcome::Replied(line),
+            Err(AllocError) => LineOutcome::Failed(Fault::Memory),
         },
         Err(stop) => stopped(stop),
     }
 }
 
 /// The doubtful papers of a ward, in lines; or why there are none.
-fn doubtful_of<S: Alter>(alloc: Global, office: &mut Office<S>, ward: u32) -> Outcome
+fn doubtful_of<S: Alter>(alloc: Global, office: &mut Office<S>, ward: u32) -> LineOutcome
     ensures found { WhenOpenAt (state S.Store) office.old office.new
         (λ s. IsAskedOf s (Question.Doubtful ward) (page_of result) office.new.closed (state S.Store office.old.held) (state S.Store office.new.held)) }
     ensures same { OnlyReads (state S.Store office.old.held) (state S.Store office.new.held) }
 {
     match office.doubtful(ward) {
         Ok(found) => match doubtful_lines(alloc, &found) {
-            Ok(text) => Outcome::Printed(text),
-            Err(AllocError) => Outcome::Failed(Fault::Memory),
+            Ok(text) => LineOutcome::Printed(text),
+            Err(AllocError) => LineOutcome::Failed(Fault::Memory),
         },
         Err(stop) => stopped(stop),
     }
 }
 
 /// The papers of a batch as they count, in lines; or why there are none.
-fn papers_of<S: Alter>(alloc: Global, office: &mut Office<S>, batch: u32) -> Outcome
+fn papers_of<S: Alter>(alloc: Global, office: &mut Office<S>, batch: u32) -> LineOutcome
     ensures found { WhenOpenAt (state S.Store) office.old office.new
         (λ s. IsAskedOf s (Question.Papers batch) (page_of result) office.new.closed (state S.Store office.old.held) (state S.Store office.new.held)) }
     ensures same { OnlyReads (state S.Store office.old.held) (state S.Store office.new.held) }
 {
     match office.papers(batch) {
         Ok(found) => match paper_lines(alloc, &found) {
-            Ok(text) => Outcome::Printed(text),
-            Err(AllocError) => Outcome::Failed(Fault::Memory),
+            Ok(text) => LineOutcome::Printed(text),
+            Err(AllocError) => LineOutcome::Failed(Fault::Memory),
         },
         Err(stop) => stopped(stop),
     }
@@ -330,7 +330,7 @@ pub(crate) fn answer_to<S: Alter>(
     alloc: Global,
     office: &mut Office<S>,
     question: Question,
-) -> Outcome
+) -> LineOutcome
     ensures found { WhenOpenAt (state S.Store) office.old office.new
         (λ s. IsAskedOf s question (page_of result) office.new.closed (state S.Store office.old.held) (state S.Store office.new.held)) }
     ensures same { OnlyReads (state S.Store office.old.held) (state S.Store office.new.held) }

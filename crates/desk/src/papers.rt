@@ -7,7 +7,7 @@ ghost use Rattle.desk.specs.Names.{names_told};
 ghost use Rattle.desk.specs.Overviews.{doubtful_line, doubtful_lines, judgement_words, lines_of, paper_line, paper_lines, parting, preference_words, preferences_from, rejection_words, verdict_words};
 ghost use Rattle.desk.specs.Pages.{line};
 
-use crate::names::Names;
+use crate::names::NamesByNumber;
 use register::{JudgedPaper, Judgement};
 use std::alloc::{AllocError, Global};
 use store::{CountedPaper, CountedPapers, DoubtfulPaper, DoubtfulPapers};
@@ -37,7 +37,11 @@ fn put_preference(
 }
 
 /// Preferences in their order: `1 Ann, 2 Cy`.
-fn preferences(alloc: Global, names: &Names, candidates: &[u8]) -> Result<String, AllocError>
+fn preferences(
+    alloc: Global,
+    names: &NamesByNumber,
+    candidates: &[u8],
+) -> Result<String, AllocError>
     ensures { IfOk result (λ text. string_bytes text ≡ preferences_from (names_told names.now) 1 candidates.now) }
 {
     let mut text = String::new(alloc);
@@ -63,7 +67,11 @@ fn rejection_words(code: u32) -> &'static str
 
 #[tactic(auto, unfolding(crate::specs::Overviews::judgement_words))]
 /// How a paper counts: its preferences, why it is rejected, or that it has no verdict yet.
-fn judgement_words(alloc: Global, names: &Names, judgement: Judgement) -> Result<String, AllocError>
+fn judgement_words(
+    alloc: Global,
+    names: &NamesByNumber,
+    judgement: Judgement,
+) -> Result<String, AllocError>
     ensures { IfOk result (λ text. string_bytes text ≡ judgement_words (names_told names.now) judgement) }
 {
     match judgement {
@@ -89,7 +97,11 @@ fn put_line(text: &mut String, told: &str) -> Result<(), AllocError>
 
 #[tactic(auto, unfolding(crate::specs::Overviews::paper_line))]
 /// Which paper it is, and how it counts.
-fn paper_line(alloc: Global, names: &Names, paper: &CountedPaper) -> Result<String, AllocError>
+fn paper_line(
+    alloc: Global,
+    names: &NamesByNumber,
+    paper: &CountedPaper,
+) -> Result<String, AllocError>
     ensures { IfOk result (λ text. string_bytes text ≡ paper_line (names_told names.now) (paper_view paper.now)) }
 {
     let (batch, number) = (paper.batch, paper.paper);
@@ -101,7 +113,7 @@ fn paper_line(alloc: Global, names: &Names, paper: &CountedPaper) -> Result<Stri
 fn put_paper(
     alloc: Global,
     text: &mut String,
-    names: &Names,
+    names: &NamesByNumber,
     paper: &CountedPaper,
 ) -> Result<(), AllocError>
     ensures { IfOk result (λ _. string_bytes text.new ≡ string_bytes text.old ++ line (paper_line (names_told names.now) (paper_view paper.now))) }
@@ -113,7 +125,7 @@ fn put_paper(
 /// Papers, each in a line of its own.
 fn lines_of_papers(
     alloc: Global,
-    names: &Names,
+    names: &NamesByNumber,
     papers: &[CountedPaper],
 ) -> Result<String, AllocError>
     ensures { IfOk result (λ text. string_bytes text ≡ lines_of (paper_line (names_told names.now)) (map paper_view papers.now)) }
@@ -130,7 +142,7 @@ fn lines_of_papers(
 pub(crate) fn paper_lines(alloc: Global, found: &CountedPapers) -> Result<String, AllocError>
     ensures { IfOk result (λ text. string_bytes text ≡ paper_lines (papers_view found.now)) }
 {
-    let names = Names::new(alloc, &found.candidates)?;
+    let names = NamesByNumber::new(alloc, &found.candidates)?;
     lines_of_papers(alloc, &names, &found.papers)
 }
 
@@ -140,7 +152,7 @@ pub(crate) fn paper_lines(alloc: Global, found: &CountedPapers) -> Result<String
 /// The verdict on a paper that counts so; with the marks that it is accepted with stands how it counts by them.
 fn verdict_words(
     alloc: Global,
-    names: &Names,
+    names: &NamesByNumber,
     judgement: Judgement,
     verdict: &Option<JudgedPaper>,
 ) -> Result<String, AllocError>
@@ -160,7 +172,11 @@ fn verdict_words(
 
 #[tactic(auto, unfolding(crate::specs::Overviews::doubtful_line))]
 /// Which paper it is, and the verdict on it.
-fn doubtful_line(alloc: Global, names: &Names, paper: &DoubtfulPaper) -> Result<String, AllocError>
+fn doubtful_line(
+    alloc: Global,
+    names: &NamesByNumber,
+    paper: &DoubtfulPaper,
+) -> Result<String, AllocError>
     ensures { IfOk result (λ text. string_bytes text ≡ doubtful_line (names_told names.now) (doubtful_view paper.now)) }
 {
     let (batch, number) = (paper.counted.batch, paper.counted.paper);
@@ -172,7 +188,7 @@ fn doubtful_line(alloc: Global, names: &Names, paper: &DoubtfulPaper) -> Result<
 fn put_doubtful(
     alloc: Global,
     text: &mut String,
-    names: &Names,
+    names: &NamesByNumber,
     paper: &DoubtfulPaper,
 ) -> Result<(), AllocError>
     ensures { IfOk result (λ _. string_bytes text.new ≡ string_bytes text.old ++ line (doubtful_line (names_told names.now) (doubtful_view paper.now))) }
@@ -184,7 +200,7 @@ fn put_doubtful(
 /// Doubtful papers, each in a line of its own.
 fn lines_of_doubtful(
     alloc: Global,
-    names: &Names,
+    names: &NamesByNumber,
     papers: &[DoubtfulPaper],
 ) -> Result<String, AllocError>
     ensures { IfOk result (λ text. string_bytes text ≡ lines_of (doubtful_line (names_told names.now)) (map doubtful_view papers.now)) }
@@ -201,6 +217,6 @@ fn lines_of_doubtful(
 pub(crate) fn doubtful_lines(alloc: Global, found: &DoubtfulPapers) -> Result<String, AllocError>
     ensures { IfOk result (λ text. string_bytes text ≡ doubtful_lines (doubtful_papers_view found.now)) }
 {
-    let names = Names::new(alloc, &found.candidates)?;
+    let names = NamesByNumber::new(alloc, &found.candidates)?;
     lines_of_doubtful(alloc, &names, &found.papers)
 }

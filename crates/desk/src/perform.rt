@@ -8,7 +8,7 @@ ghost use Rattle.desk.specs.Headline.{Headline};
 ghost use Rattle.desk.specs.Pages.{Tells, outputs_of};
 
 use crate::folders::Folder;
-use crate::lines::{Outcome, tell};
+use crate::lines::{LineOutcome, tell};
 use crate::orders::{Job, Task};
 use crate::replaying::follow;
 use office::Office;
@@ -35,7 +35,7 @@ fn in_office<S: Alter, F: Folder, O: Sink, E: Sink>(
             let status = follow(alloc, &mut office, job, folder, out, err);
             (status, office.into_connection())
         }
-        Err((fault, conn)) => (tell(None, &Outcome::Failed(fault), out, err), conn),
+        Err((fault, conn)) => (tell(None, &LineOutcome::Failed(fault), out, err), conn),
     }
 }
 
@@ -53,10 +53,10 @@ fn make_office<S: Alter, O: Sink, E: Sink>(
 {
     match Office::create(alloc, conn) {
         Ok(office) => (
-            tell(None, &Outcome::Ready, out, err),
+            tell(None, &LineOutcome::Ready, out, err),
             office.into_connection(),
         ),
-        Err((fault, conn)) => (tell(None, &Outcome::Failed(fault), out, err), conn),
+        Err((fault, conn)) => (tell(None, &LineOutcome::Failed(fault), out, err), conn),
     }
 }
 
@@ -73,8 +73,8 @@ fn migrate_office<S: Alter, O: Sink, E: Sink>(
         (λ cut page. HasCleanDisk (state S.Store result.1) → (folder : Held) → Headline folder Task.Migrate cut page result.0 (state S.Store conn) (state S.Store result.1)) }
 {
     match Office::migrate(alloc, &mut conn) {
-        Ok(migrated) => (tell(None, &Outcome::Migrated(migrated), out, err), conn),
-        Err(fault) => (tell(None, &Outcome::Failed(fault), out, err), conn),
+        Ok(migrated) => (tell(None, &LineOutcome::Migrated(migrated), out, err), conn),
+        Err(fault) => (tell(None, &LineOutcome::Failed(fault), out, err), conn),
     }
 }
 

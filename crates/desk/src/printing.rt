@@ -8,12 +8,12 @@ ghost use Rattle.office.specs.Answers.{WhenOpenAt};
 ghost use Rattle.desk.specs.Parts.{IsFound};
 ghost use Rattle.desk.specs.Pages.{page_of, printed};
 
-use crate::lines::Outcome;
+use crate::lines::LineOutcome;
 use office::{Office, Stop, Text};
 use sqlite::Alter;
 
 /// A text of a ward, or why it can't be had.
-pub(crate) fn text_of<S: Alter>(office: &mut Office<S>, ward: u32, text: Text) -> Outcome
+pub(crate) fn text_of<S: Alter>(office: &mut Office<S>, ward: u32, text: Text) -> LineOutcome
     ensures found { WhenOpenAt (state S.Store) office.old office.new
         (λ s. IsFound s printed (text_told text.entry s ward) (page_of result) office.new.closed (state S.Store office.old.held) (state S.Store office.new.held)) }
     ensures same { OnlyReads (state S.Store office.old.held) (state S.Store office.new.held) }
@@ -24,21 +24,21 @@ pub(crate) fn text_of<S: Alter>(office: &mut Office<S>, ward: u32, text: Text) -
         _ => office.text(ward, text),
     };
     match told {
-        Ok(text) => Outcome::Printed(text),
-        Err(Stop::Refused(refusal)) => Outcome::Refused(refusal),
-        Err(Stop::Fault(fault)) => Outcome::Failed(fault),
+        Ok(text) => LineOutcome::Printed(text),
+        Err(Stop::Refused(refusal)) => LineOutcome::Refused(refusal),
+        Err(Stop::Fault(fault)) => LineOutcome::Failed(fault),
     }
 }
 
 /// The page of all wards, or why it can't be had.
-pub(crate) fn index_of<S: Alter>(office: &mut Office<S>, title: &str) -> Outcome
+pub(crate) fn index_of<S: Alter>(office: &mut Office<S>, title: &str) -> LineOutcome
     ensures found { WhenOpenAt (state S.Store) office.old office.new
         (λ s. IsFound s printed (index_told title.now s) (page_of result) office.new.closed (state S.Store office.old.held) (state S.Store office.new.held)) }
     ensures same { OnlyReads (state S.Store office.old.held) (state S.Store office.new.held) }
 {
     match office.index(title) {
-        Ok(text) => Outcome::Printed(text),
-        Err(Stop::Refused(refusal)) => Outcome::Refused(refusal),
-        Err(Stop::Fault(fault)) => Outcome::Failed(fault),
+        Ok(text) => LineOutcome::Printed(text),
+        Err(Stop::Refused(refusal)) => LineOutcome::Refused(refusal),
+        Err(Stop::Fault(fault)) => LineOutcome::Failed(fault),
     }
 }

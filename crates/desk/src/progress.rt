@@ -37,24 +37,24 @@ impl<W: Write> Meter<W> {
 ///
 /// It takes what the output takes, and fails where that fails, never for the writer's sake.
 #[derive(Drop)]
-pub struct Progress<'a, O, W> {
+pub struct ProgressSink<'a, O, W> {
     out: &'a mut O,
     meter: Meter<W>,
 }
 
-impl<'a, O: Sink, W: Write> Progress<'a, O, W> {
+impl<'a, O: Sink, W: Write> ProgressSink<'a, O, W> {
     /// The output, of which no line is counted yet.
-    pub fn new(out: &'a mut O, told: W) -> Progress<'a, O, W>
+    pub fn new(out: &'a mut O, told: W) -> ProgressSink<'a, O, W>
         ensures { result.out.now ≡ out.old }
     {
-        Progress {
+        ProgressSink {
             out,
             meter: Meter { told, lines: 0 },
         }
     }
 }
 
-impl<O: Sink, W: Write> Sink for Progress<'_, O, W> {
+impl<O: Sink, W: Write> Sink for ProgressSink<'_, O, W> {
     ghost taken = { λ s. O.taken s.out.now };
 
     ghost failed = { λ s. O.failed s.out.now };

@@ -5,7 +5,7 @@ ghost use Rattle.sqlite.specs.State.{HasCleanDisk};
 ghost use Rattle.sqlite.specs.Held.{state};
 ghost use Rattle.store.specs.Offices.{Wears};
 ghost use Rattle.office.specs.Answers.{WhenOpenAt};
-ghost use Rattle.desk.specs.Cuttings.{IsReplayOf, line_entry, said_entry};
+ghost use Rattle.desk.specs.Lexing.{IsReplayOf, line_entry, typed_line_entry};
 ghost use Rattle.desk.specs.Folders.{HoldsText, IsFileAt};
 ghost use Rattle.desk.specs.Headline.{IsDone, IsPlayed};
 ghost use Rattle.desk.specs.Pages.{Tells, outputs_of, page_of};
@@ -16,15 +16,17 @@ ghost use Rattle.desk.specs.Scripts.{lines_of, numbered_from};
 use crate::counting::count_stages;
 use crate::folders::Folder;
 use crate::import::{UNOPENED, candidate_requests, keying_of};
-use crate::lines::{Outcome, tell, tell_script_fault};
+use crate::lines::{LineOutcome, tell, tell_script_fault};
 use crate::orders::{Errand, Job};
 use crate::overviews::answer_to;
 use crate::printing::{index_of, text_of};
 use crate::requests::advances;
-use crate::scripts::{Line, Said, ScriptFault, Turn, all_said, lines_in, turns_in};
+use crate::scripts::{
+    ScriptFault, ScriptLine, ScriptStep, TypedLine, all_said, lines_in, turns_in,
+};
 use crate::sending::{goes_on, send_all, status_behind};
-use crate::standing::standing_of;
 use crate::steps::next_of;
+use crate::ward_status::standing_of;
 use office::Office;
 use sqlite::Alter;
 use std::alloc::Global;
@@ -81,7 +83,7 @@ fn run<S: Alter, F: Folder, O: Sink, E: Sink>(
         },
         Errand::Count { ward, id } => match advances(alloc, *ward, id) {
             Ok(requests) => count_stages(office, line, &requests, out, err),
-            Err(_) => tell(line, &Outcome::Failed(Fault::Memory), out, err),
+            Err(_) => tell(line, &LineOutcome::Failed(Fault::Memory), out, err),
         },
         Errand::TellNext { ward } => tell(line, &next_of(alloc, office, *ward), out, err),
         Errand::TellStatus { ward } => tell(line, &standing_of(alloc, office, *ward), out, err),
@@ -98,7 +100,7 @@ fn send_turns<S: Alter, F: Folder, O: Sink, E: Sink>(
     alloc: Global,
     office: &mut Office<S>,
     keep_going: bool,
-    turns: &[Turn<'_>],
+    turns: &[ScriptStep<'_>],
     folder: &F,
     out: &mut O,
     err: &mut E,
@@ -137,7 +139,7 @@ fn send_lines<S: Alter, F: Folder, O: Sink, E: Sink>(
     alloc: Global,
     office: &mut Office<S>,
     keep_going: bool,
-    lines: &[Said<'_>],
+    lines: &[TypedLine<'_>],
     folder: &F,
     out: &mut O,
     err: &mut E,
@@ -146,7 +148,7 @@ fn send_lines<S: Alter, F: Folder, O: Sink, E: Sink>(
     requires err { E.failed err.old < 2 ^ 64 - 1 }
     ensures sent { let outputs = outputs_of O.taken O.failed E.taken E.failed in Tells (outputs out.old err.old) (outputs out.new err.new) result
         (λ cut page. WhenOpenAt (state S.Store) office.old office.new (λ s. ComesTo cut page (λ course.
-        IsReplayOf keep_going (F.held folder.now) s (map said_entry lines.now) course (state S.Store office.old.held) office.new.closed (state S.Store office.new.held)))) }
+        IsReplayOf keep_going (F.held folder.now) s (map typed_line_entry lines.now) course (state S.Store office.old.held) office.new.closed (state S.Store office.new.held)))) }
     ensures wears { Wears (state S.Store office.old.held) (state S.Store office.new.held) }
     ensures clean { HasCleanDisk (state S.Store office.new.held) → HasCleanDisk (state S.Store office.old.held) }
 {
@@ -157,23 +159,25 @@ fn send_lines<S: Alter, F: Folder, O: Sink, E: Sink>(
 }
 
 /// The bytes of a script's file; or why there are none. The file is None where it can't be opened.
-fn bytes_of<R: Read + Drop>(alloc: Global, file: Option<R>) -> Result<Vec<u8>, Outcome>
+fn bytes_of<R: Read + Drop>(alloc: Global, file: Option<R>) -> Result<Vec<u8>, LineOutcome>
     ensures read { IfOk result (λ bytes. HoldsText (option_map R.remaining file) (λ text. bytes.items ≡ text)) }
     ensures unread { IfErr result (λ outcome. IsUnreadScript (page_of outcome)) }
 {
     let Some(mut file) = file else {
-        return Err(Outcome::Unread(UNOPENED));
+        return Err(LineOutcome::Unread(UNOPENED));
     };
     let mut bytes = Vec::new(alloc);
     match file.read_to_end(&mut bytes) {
         Ok(_) => Ok(bytes),
-        Err(error) if error.kind() == ErrorKind::OutOfMemory => Err(Outcome::Failed(Fault::Memory)),
-        Err(_) => Err(Outcome::Unread(UNOPENED)),
+        Err(error) if error.kind() == ErrorKind::OutOfMemory => Err(LineOutcome::Failed(
+            Fault::Memory,
+        )),
+        Err(_) => Err(LineOutcome::Unread(UNOPENED)),
     }
 }
 
 /// The lines of a script's file; or why there are none.
-fn script_of<R: Read + Drop>(alloc: Global, file: Option<R>) -> Result<Vec<Line>, Outcome>
+fn script_of<R: Read + Drop>(alloc: Global, file: Option<R>) -> Result<Vec<ScriptLine>, LineOutcome>
     ensures read { IfOk result (λ lines. HoldsText (option_map R.remaining file) (λ text. map line_entry lines.items ≡ numbered_from 1 (lines_of text))) }
     ensures unread { IfErr result (λ outcome. IsUnreadScript (page_of outcome)) }
 {
@@ -183,7 +187,7 @@ fn script_of<R: Read + Drop>(alloc: Global, file: Option<R>) -> Result<Vec<Line>
     };
     match lines_in(alloc, &bytes) {
         Ok(lines) => Ok(lines),
-        Err(_) => Err(Outcome::Failed(Fault::Memory)),
+        Err(_) => Err(LineOutcome::Failed(Fault::Memory)),
     }
 }
 

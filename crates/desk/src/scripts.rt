@@ -1,10 +1,10 @@
 //! A script: orders in a text, a line each, read to errands.
 
 ghost use Rattle.std.specs.Prelude.{◌≡◌, false, map, IfErr, IfNone, IfOk, IfSome, Some};
-ghost use Rattle.desk.specs.Cuttings.{IsFaultOfLine, IsFaultOfLines, line_entry, said_entry, said_words};
+ghost use Rattle.desk.specs.Lexing.{IsFaultOfLine, IsFaultOfLines, line_entry, typed_line_entry, said_words};
 ghost use Rattle.desk.specs.Scripts.{AreTurns, IsFlawOfWords, IsTurn, Means, line_flaw_text, lines_of, numbered_from, stands_in_script, typed, typed_line};
 
-use crate::cutting;
+use crate::lexer;
 use crate::orders::{Errand, Job, Order, Task};
 use crate::words::{BAD_DIGEST, BAD_ORIGIN, WordsFault, order};
 use std::alloc::{AllocError, Global};
@@ -59,40 +59,40 @@ pub(crate) enum ScriptFault {
     /// Memory was wanting.
     Memory,
     /// This is wrong with the line of this number.
-    Line(usize, LineFlaw),
+    ScriptLine(usize, LineFlaw),
 }
 
 /// A line that isn't passed over: its number, from 1 on, and its words, None where a quote isn't closed.
 #[derive(Drop)]
-pub(crate) struct Line {
+pub(crate) struct ScriptLine {
     number: usize,
     words: Option<Vec<Vec<u8>>>,
 }
 
 /// A line as it would be typed behind the program's name.
 #[derive(Drop)]
-pub(crate) struct Said<'a> {
+pub(crate) struct TypedLine<'a> {
     number: usize,
     words: Result<Vec<&'a str>, Garbled>,
 }
 
 /// An errand whose turn comes, and the number of its line, where it is one of a script.
 #[derive(Drop)]
-pub(crate) struct Turn<'a> {
+pub(crate) struct ScriptStep<'a> {
     pub(crate) line: Option<usize>,
     pub(crate) errand: Errand<'a>,
 }
 
 /// The lines of a text that aren't passed over, of all its lines.
-fn numbered(alloc: Global, all: &[Vec<u8>]) -> Result<Vec<Line>, AllocError>
+fn numbered(alloc: Global, all: &[Vec<u8>]) -> Result<Vec<ScriptLine>, AllocError>
     ensures { IfOk result (λ lines. map line_entry lines.items ≡ numbered_from 1 (map (λ line. line.items) all.now)) }
 {
     let mut lines = Vec::new(alloc);
     for (i, line) in all.iter().enumerate() {
-        if !cutting::passes_over(line) {
-            lines.push(Line {
+        if !lexer::passes_over(line) {
+            lines.push(ScriptLine {
                 number: i + 1,
-                words: cutting::words_of(alloc, line)?,
+                words: lexer::words_of(alloc, line)?,
             })?;
         }
     }
@@ -100,10 +100,10 @@ fn numbered(alloc: Global, all: &[Vec<u8>]) -> Result<Vec<Line>, AllocError>
 }
 
 /// The lines of a text that aren't passed over.
-pub(crate) fn lines_in(alloc: Global, text: &[u8]) -> Result<Vec<Line>, AllocError>
+pub(crate) fn lines_in(alloc: Global, text: &[u8]) -> Result<Vec<ScriptLine>, AllocError>
     ensures { IfOk result (λ lines. map line_entry lines.items ≡ numbered_from 1 (lines_of text.now)) }
 {
-    numbered(alloc, &cutting::lines_of(alloc, text)?)
+    numbered(alloc, &lexer::lines_of(alloc, text)?)
 }
 
 /// Words as they would be typed, or that one isn't UTF-8.
@@ -124,22 +124,25 @@ fn texts_of<'a>(
 }
 
 /// A line as it would be typed.
-fn as_typed<'a>(alloc: Global, line: &'a Line) -> Result<Said<'a>, AllocError>
-    ensures { IfOk result (λ said. said_entry said ≡ typed_line (line_entry line.now)) }
+fn as_typed<'a>(alloc: Global, line: &'a ScriptLine) -> Result<TypedLine<'a>, AllocError>
+    ensures { IfOk result (λ said. typed_line_entry said ≡ typed_line (line_entry line.now)) }
 {
     let words = match &line.words {
         Some(words) => texts_of(alloc, words)?,
         None => Err(Garbled::Quote),
     };
-    Ok(Said {
+    Ok(TypedLine {
         number: line.number,
         words,
     })
 }
 
 /// Lines as they would be typed.
-pub(crate) fn all_said<'a>(alloc: Global, lines: &'a [Line]) -> Result<Vec<Said<'a>>, AllocError>
-    ensures { IfOk result (λ all. map said_entry all.items ≡ map typed_line (map line_entry lines.now)) }
+pub(crate) fn all_said<'a>(
+    alloc: Global,
+    lines: &'a [ScriptLine],
+) -> Result<Vec<TypedLine<'a>>, AllocError>
+    ensures { IfOk result (λ all. map typed_line_entry all.items ≡ map typed_line (map line_entry lines.now)) }
 {
     let mut all = Vec::new(alloc);
     for line in lines {
@@ -182,20 +185,20 @@ fn errand_in<'a>(alloc: Global, words: &'a [&'a str]) -> Result<Errand<'a>, Opti
 }
 
 /// The turn that a line is, or what is wrong with it.
-fn turn_in<'a, 'b>(alloc: Global, said: &'a Said<'b>) -> Result<Turn<'a>, ScriptFault>
-    ensures ok { IfOk result (λ turn. IsTurn (said_entry said.entry.now) turn) }
-    ensures err { IfErr result (λ fault. IsFaultOfLine (said_entry said.entry.now) fault) }
+fn turn_in<'a, 'b>(alloc: Global, said: &'a TypedLine<'b>) -> Result<ScriptStep<'a>, ScriptFault>
+    ensures ok { IfOk result (λ turn. IsTurn (typed_line_entry said.entry.now) turn) }
+    ensures err { IfErr result (λ fault. IsFaultOfLine (typed_line_entry said.entry.now) fault) }
 {
     let words = match &said.words {
         Ok(words) => words,
-        Err(why) => return Err(ScriptFault::Line(said.number, LineFlaw::NoWords(*why))),
+        Err(why) => return Err(ScriptFault::ScriptLine(said.number, LineFlaw::NoWords(*why))),
     };
     match errand_in(alloc, words) {
-        Ok(errand) => Ok(Turn {
+        Ok(errand) => Ok(ScriptStep {
             line: Some(said.number),
             errand,
         }),
-        Err(Some(flaw)) => Err(ScriptFault::Line(said.number, flaw)),
+        Err(Some(flaw)) => Err(ScriptFault::ScriptLine(said.number, flaw)),
         Err(None) => Err(ScriptFault::Memory),
     }
 }
@@ -203,10 +206,10 @@ fn turn_in<'a, 'b>(alloc: Global, said: &'a Said<'b>) -> Result<Turn<'a>, Script
 /// The turns of a script, one a line; or what is wrong with the first line that is none.
 pub(crate) fn turns_in<'a, 'b>(
     alloc: Global,
-    lines: &'a [Said<'b>],
-) -> Result<Vec<Turn<'a>>, ScriptFault>
-    ensures ok { IfOk result (λ turns. AreTurns (map said_entry lines.entry.now) turns.items) }
-    ensures err { IfErr result (λ fault. IsFaultOfLines (map said_entry lines.entry.now) fault) }
+    lines: &'a [TypedLine<'b>],
+) -> Result<Vec<ScriptStep<'a>>, ScriptFault>
+    ensures ok { IfOk result (λ turns. AreTurns (map typed_line_entry lines.entry.now) turns.items) }
+    ensures err { IfErr result (λ fault. IsFaultOfLines (map typed_line_entry lines.entry.now) fault) }
 {
     let mut turns = Vec::new(alloc);
     for line in lines {

@@ -11,7 +11,7 @@ ghost use Rattle.desk.specs.Headline.{IsAnswered, IsSent};
 ghost use Rattle.desk.specs.Pages.{Tells, goes_on, outputs_of, page_for, page_kept, page_of, status_behind};
 ghost use Rattle.desk.specs.Parts.{ComesTo, IsFound, IsOver};
 
-use crate::lines::{Outcome, tell};
+use crate::lines::{LineOutcome, tell};
 use office::{Answer, Office, Stop};
 use register::{Reply, Request};
 use sqlite::Alter;
@@ -35,35 +35,35 @@ pub(crate) fn status_behind(before: u8, status: u8) -> u8
 
 /// Returns what comes of a request that was kept before: its reply, with a note if what is kept differs from what the request says
 /// now. A fault of that read comes in place of the reply.
-fn kept_before<S: Alter>(office: &mut Office<S>, request: &Request, reply: Reply) -> Outcome
+fn kept_before<S: Alter>(office: &mut Office<S>, request: &Request, reply: Reply) -> LineOutcome
     ensures found { WhenOpenAt (state S.Store) office.old office.new
         (λ s. IsFound s (page_kept (string_bytes request.now.id) (string_bytes reply)) (Ok (is_kept_otherwise s request.now)) (page_of result)
         office.new.closed (state S.Store office.old.held) (state S.Store office.new.held)) }
     ensures same { OnlyReads (state S.Store office.old.held) (state S.Store office.new.held) }
 {
     match office.keeps_other(request) {
-        Ok(false) => Outcome::Replied(reply),
+        Ok(false) => LineOutcome::Replied(reply),
         Ok(true) => match request.id.clone() {
-            Ok(id) => Outcome::Noted { reply, id },
-            Err(_) => Outcome::Failed(Fault::Memory),
+            Ok(id) => LineOutcome::Noted { reply, id },
+            Err(_) => LineOutcome::Failed(Fault::Memory),
         },
-        Err(Stop::Refused(refusal)) => Outcome::Refused(refusal),
-        Err(Stop::Fault(fault)) => Outcome::Failed(fault),
+        Err(Stop::Refused(refusal)) => LineOutcome::Refused(refusal),
+        Err(Stop::Fault(fault)) => LineOutcome::Failed(fault),
     }
 }
 
 /// What comes of one request to an office.
-fn outcome_of<S: Alter>(office: &mut Office<S>, request: &Request) -> Outcome
+fn outcome_of<S: Alter>(office: &mut Office<S>, request: &Request) -> LineOutcome
     ensures told { WhenOpenAt (state S.Store) office.old office.new
         (λ s. (answered : ℕ) × IsAnswered (state S.Store office.old.held) office.new.closed (state S.Store office.new.held) page_for s request.now answered (page_of result)) }
     ensures wears { Wears (state S.Store office.old.held) (state S.Store office.new.held) }
     ensures clean { HasCleanDisk (state S.Store office.new.held) → HasCleanDisk (state S.Store office.old.held) }
 {
     match office.handle(request.actor, request.id.as_str(), &request.command) {
-        Ok(Answer::Done(reply)) => Outcome::Replied(reply),
+        Ok(Answer::Done(reply)) => LineOutcome::Replied(reply),
         Ok(Answer::Kept(reply)) => kept_before(office, request, reply),
-        Ok(Answer::Refused(refusal)) => Outcome::Refused(refusal),
-        Err(fault) => Outcome::Failed(fault),
+        Ok(Answer::Refused(refusal)) => LineOutcome::Refused(refusal),
+        Err(fault) => LineOutcome::Failed(fault),
     }
 }
 
@@ -83,7 +83,8 @@ pub(crate) fn send_all<S: Alter, O: Sink, E: Sink>(
     requires err { E.failed err.old < 2 ^ 64 - 1 }
     ensures sent { let outputs = outputs_of O.taken O.failed E.taken E.failed in Tells (outputs out.old err.old) (outputs out.new err.new) result
         (λ cut page. WhenOpenAt (state S.Store) office.old office.new (λ s. ComesTo cut page (λ course.
-        IsSent (state S.Store office.old.held) office.new.closed (state S.Store office.new.held) keep_going line page_for (IsOver office.new.closed (state S.Store office.new.held)) s requests.now course))) }
+        IsSent (state S.Store office.old.held) office.new.closed (state S.Store office.new.held) keep_going line page_for (IsOver office.new.closed
+        (state S.Store office.new.held)) s requests.now course))) }
     ensures wears { Wears (state S.Store office.old.held) (state S.Store office.new.held) }
     ensures clean { HasCleanDisk (state S.Store office.new.held) → HasCleanDisk (state S.Store office.old.held) }
 {

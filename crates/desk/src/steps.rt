@@ -12,7 +12,7 @@ ghost use Rattle.desk.specs.Parts.{IsFound};
 ghost use Rattle.desk.specs.Pages.{page_of, replied};
 ghost use Rattle.desk.specs.Steps.{action_words, all_named, due_words, lot_words, named, named_behind, nominations_words, papers_words, seal_words, step_text, step_words, taken_words};
 
-use crate::lines::Outcome;
+use crate::lines::LineOutcome;
 use crate::names::candidate_in;
 use count::{Action, Due, TiedFor};
 use office::{Office, Stop};
@@ -208,17 +208,17 @@ fn step_text(alloc: Global, ward: u32, step: &NextStep) -> Result<String, AllocE
 }
 
 /// What comes next in a ward, in words; or why that can't be had.
-pub(crate) fn next_of<S: Alter>(alloc: Global, office: &mut Office<S>, ward: u32) -> Outcome
+pub(crate) fn next_of<S: Alter>(alloc: Global, office: &mut Office<S>, ward: u32) -> LineOutcome
     ensures found { WhenOpenAt (state S.Store) office.old office.new
         (λ s. IsFound s (λ step. replied (step_text ward step)) (next_told s ward) (page_of result) office.new.closed (state S.Store office.old.held) (state S.Store office.new.held)) }
     ensures same { OnlyReads (state S.Store office.old.held) (state S.Store office.new.held) }
 {
     match office.next_step(ward) {
         Ok(step) => match step_text(alloc, ward, &step) {
-            Ok(text) => Outcome::Replied(text),
-            Err(_) => Outcome::Failed(Fault::Memory),
+            Ok(text) => LineOutcome::Replied(text),
+            Err(_) => LineOutcome::Failed(Fault::Memory),
         },
-        Err(Stop::Refused(refusal)) => Outcome::Refused(refusal),
-        Err(Stop::Fault(fault)) => Outcome::Failed(fault),
+        Err(Stop::Refused(refusal)) => LineOutcome::Refused(refusal),
+        Err(Stop::Fault(fault)) => LineOutcome::Failed(fault),
     }
 }

@@ -76,6 +76,15 @@ most_papers = 500
 abbrev pub keying : List ℕ → ℕ → ℕ → Format (List ℕ)
 keying columns batch clerk = record { header_flaw = keying_header_flaw columns batch clerk; most = most_papers; read = paper_in }
 
+-- what is wrong with a header that names neither batch nor clerk: `paper` and the columns are asked for, and nothing else is one
+abbrev pub plain_header_flaw : List ℕ → Record → Option Flaw
+plain_header_flaw columns [] = Some Header
+plain_header_flaw columns (first ∷ fields) = if bytes_eq first (codes "paper") && are_columns fields columns then None else Some Header
+
+-- the file of a keying whose header names neither
+abbrev pub plain_keying : List ℕ → Format (List ℕ)
+plain_keying columns = record { header_flaw = plain_header_flaw columns; most = most_papers; read = paper_in }
+
 -- the marks text of a paper with some columns is read as its mark fields say: as doubtful, or as the mark of each field
 -- beside its column
 abbrev pub AreReadAsKeyed : List ℕ → Type 0

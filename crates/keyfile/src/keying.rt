@@ -19,7 +19,7 @@ use std::alloc::{AllocError, Global};
 use std::io::Read;
 
 /// The most papers of a file, those of one batch.
-const MOST_PAPERS: u32 = 500;
+pub(crate) const MOST_PAPERS: u32 = 500;
 
 /// The marks texts of a clerk's keying of a batch, whose papers have some columns, in the order of the papers.
 ///
@@ -55,10 +55,10 @@ pub fn read_keying<R: Read + Drop>(
 
 /// The format of the file of a clerk's keying of a batch.
 #[derive(Drop)]
-struct KeyingFormat {
-    columns: Columns,
-    batch: u32,
-    clerk: u32,
+pub(crate) struct KeyingFormat {
+    pub(crate) columns: Columns,
+    pub(crate) batch: u32,
+    pub(crate) clerk: u32,
 }
 
 impl FileFormat for KeyingFormat {
@@ -97,7 +97,7 @@ impl FileFormat for KeyingFormat {
 }
 
 /// Whether texts write some numbers, one each.
-fn are_columns(texts: &[&str], columns: &[u8]) -> bool
+pub(crate) fn are_columns(texts: &[&str], columns: &[u8]) -> bool
     ensures { result ≡ are_columns (map (λ t. t.now) texts.now) columns.now }
 {
     let mut rest = texts;

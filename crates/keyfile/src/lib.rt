@@ -3,7 +3,8 @@
 //! [`read_candidates`] gives the [`CandidateRow`]s of a file, [`read_keying`] the marks text of each
 //! paper, as `paper` reads it. A [`FileFault`] names the first faulty record, counted from the header,
 //! which is record 0, and its first [`Flaw`]. No row is given before the whole file was read. Either
-//! may be asked for the file of a [`FileDigest`], and gives no row of any other.
+//! may be asked for the file of a [`FileDigest`], and gives no row of any other. [`plain`] has both without these
+//! options.
 //!
 //! ```text
 //! match read_keying(alloc, file, columns, 12, 4, None) {
@@ -20,6 +21,7 @@ mod fields;
 mod format;
 mod header;
 mod keying;
+pub mod plain;
 mod records;
 mod watched;
 

@@ -9,8 +9,8 @@ use Rattle.keying_page.specs.declared.script.keys.TheConstants.{KEYS}
 use Rattle.keying_page.specs.declared.script.requests.TheConstants.{REQUESTS}
 use Rattle.keying_page.specs.declared.script.rows.TheConstants.{ROWS}
 use Rattle.keying_page.specs.declared.script.sending.TheConstants.{SENDING}
-use Rattle.keying_page.specs.declared.script.views.TheConstants.{VIEWS}
-use Rattle.keying_page.specs.declared.style.TheConstants.{STYLE}
+use Rattle.keying_page.specs.declared.script.keyboard.TheConstants.{VIEWS}
+use Rattle.keying_page.specs.declared.stylesheet.TheConstants.{STYLE}
 
 -- the script of the page: what its parts declare, and the last one, which starts it
 unfoldable pub script : List ℕ

@@ -10,7 +10,7 @@
 mod markup;
 mod policy;
 mod script;
-mod style;
+mod stylesheet;
 
 ghost use Rattle.std.specs.Prelude.{◌≡◌, IfOk, string_bytes};
 ghost use Rattle.keying_page.specs.Page.{page_text};
@@ -19,7 +19,7 @@ use markup::page_around;
 pub use policy::policy_text;
 use script::script_text;
 use std::alloc::{AllocError, Global};
-use style::STYLE;
+use stylesheet::STYLE;
 
 /// Returns the page. The only error is that an allocation failed.
 pub fn page_text(alloc: Global) -> Result<String, AllocError>

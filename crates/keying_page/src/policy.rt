@@ -5,7 +5,7 @@ ghost use Rattle.keying_page.specs.Page.{policy_text};
 ghost use Rattle.keying_page.specs.Policies.{hash_source};
 
 use crate::script::script_text;
-use crate::style::STYLE;
+use crate::stylesheet::STYLE;
 use base64::engine::general_purpose::STANDARD;
 use sha2::{Digest, Sha256};
 use std::alloc::{AllocError, Global};

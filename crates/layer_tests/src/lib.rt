@@ -6,30 +6,30 @@
 #![tactic(auto)]
 
 #[cfg(test)]
-mod answers;
+mod checker_failures;
 #[cfg(test)]
-mod asked;
+mod checker_texts;
 #[cfg(test)]
-mod ballots;
+mod codes_and_wire;
 #[cfg(test)]
-mod counts;
+mod count_elections;
 #[cfg(test)]
-mod elsewhere;
+mod keyfile_imports;
 #[cfg(test)]
-mod gates;
+mod paper_marks;
 #[cfg(test)]
-mod imports;
+mod sheet_ballots;
 #[cfg(test)]
-mod pages;
+mod sheet_outputs;
 #[cfg(test)]
-mod papers;
+mod sheet_pages;
 #[cfg(test)]
-mod printed;
+mod sheet_spreadsheets;
 #[cfg(test)]
-mod recounts;
+mod sheet_texts;
 #[cfg(test)]
-mod sheets;
+mod votes_values;
 #[cfg(test)]
-mod spreadsheets;
+mod wire_origins;
 #[cfg(test)]
-mod values;
+mod wire_requests;

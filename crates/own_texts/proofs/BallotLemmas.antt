@@ -13,7 +13,7 @@ use Rattle.count.specs.Law.Contest.{AreForCandidates, In, IsContest}
 use Rattle.count.proofs.BundleLemmas.{bundles-with_papers}
 use Rattle.count.proofs.OrderLemmas.{bundled-length, lists-from}
 use Rattle.sheet.specs.Entries.{SheetEntry}
-use Rattle.recount.specs.ReadingBack.{AreCodes, AreOnce, AreSmall, CanBeReadBack, IsName}
+use Rattle.checker.specs.ReadingBack.{AreCodes, AreOnce, AreSmall, CanBeReadBack, IsName}
 use Rattle.register.specs.Ranges.{is_name, is_seat_number, is_ward_number}
 use Rattle.register.specs.Offices.{BatchEntry, CandidateEntry, LotEntry, OfficeState, WardEntry, batch_cmp, candidates_of, lot_cmp, lots_of, ward_at, ward_compared}
 use Rattle.register.specs.Marks.{columns_of}

@@ -22,9 +22,9 @@ use Rattle.count.specs.declared.stages.Stage.{Stage}
 use Rattle.count.proofs.Law.CountLemmas.{stages_right}
 use Rattle.count.proofs.Law.RightLemmas.{whole_count}
 use Rattle.sheet.specs.declared.ward.Poll.{Poll}
-use Rattle.recount.specs.Checks.{EndsAt, dues_of, is_drawn_by, is_lot, undrawn}
-use Rattle.recount.specs.ReadingBack.{AreSmall}
-use Rattle.recount.specs.Wards.{contest_in, numbers_of}
+use Rattle.checker.specs.Checks.{EndsAt, dues_of, is_drawn_by, is_lot, undrawn}
+use Rattle.checker.specs.ReadingBack.{AreSmall}
+use Rattle.checker.specs.Wards.{contest_in, numbers_of}
 use Rattle.register.specs.Marks.{columns_of}
 use Rattle.register.specs.Elections.{ElectionEntry, contest_of, due_of, elected_of, has_count, is_drawn_for, is_finished, is_tied, stages_of}
 use Rattle.register.proofs.BundledLemmas.{due-alike, fair-alike, other_order, stages-alike}

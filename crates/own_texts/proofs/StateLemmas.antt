@@ -11,10 +11,10 @@ use Rattle.count.specs.declared.stages.Due.TheVariants.{Act, Lot, Finished}
 use Rattle.sheet.specs.Entries.{SheetEntry}
 use Rattle.sheet.specs.Sheet.{declaration, sheet}
 use Rattle.sheet.specs.declared.ward.Poll.{Poll}
-use Rattle.recount.specs.Differences.{IsComparison}
-use Rattle.recount.specs.ReadingBack.{AreSmall}
-use Rattle.recount.specs.Wards.{numbers_of}
-use Rattle.recount.specs.declared.differences.Checked.{Checked}
+use Rattle.checker.specs.Differences.{IsComparison}
+use Rattle.checker.specs.ReadingBack.{AreSmall}
+use Rattle.checker.specs.Wards.{numbers_of}
+use Rattle.checker.specs.declared.differences.Checked.{Checked}
 use Rattle.register.specs.Marks.{columns_of}
 use Rattle.register.specs.Offices.{OfficeState, WardEntry, ward_at, ward_compared}
 use Rattle.register.specs.Elections.{ElectionEntry, contest_of, elected_of, election_of, has_count, is_counted}

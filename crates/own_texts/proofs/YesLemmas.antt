@@ -13,14 +13,14 @@ use Rattle.sheet.specs.Entries.{SheetEntry}
 use Rattle.sheet.specs.Lines.{line}
 use Rattle.sheet.specs.Sheet.{below_ward, declaration, elected_heading, elected_lines, sheet, ward_line}
 use Rattle.sheet.specs.declared.ward.Poll.{Poll}
-use Rattle.recount.specs.Checks.{IsCountProblem, IsCountedCheck, IsWardCheck, IsWardProblem}
-use Rattle.recount.specs.Differences.{IsComparison}
-use Rattle.recount.specs.ReadingBack.{AreCheckedAsTold, AreHinderedAsTold, AreReadBack, AreSmall, CanBeReadBack, IsReadBack}
-use Rattle.recount.specs.Wards.{contest_in, numbers_of}
-use Rattle.recount.specs.declared.differences.Checked.{Checked}
-use Rattle.recount.specs.declared.differences.Checked.TheVariants as checked
-use Rattle.recount.specs.declared.problem.Problem.{Problem}
-use Rattle.recount.specs.declared.problem.Problem.TheVariants as problem
+use Rattle.checker.specs.Checks.{IsCountProblem, IsCountedCheck, IsWardCheck, IsWardProblem}
+use Rattle.checker.specs.Differences.{IsComparison}
+use Rattle.checker.specs.ReadingBack.{AreCheckedAsTold, AreHinderedAsTold, AreReadBack, AreSmall, CanBeReadBack, IsReadBack}
+use Rattle.checker.specs.Wards.{contest_in, numbers_of}
+use Rattle.checker.specs.declared.differences.Checked.{Checked}
+use Rattle.checker.specs.declared.differences.Checked.TheVariants as checked
+use Rattle.checker.specs.declared.problem.Problem.{Problem}
+use Rattle.checker.specs.declared.problem.Problem.TheVariants as problem
 use Rattle.register.specs.Marks.{columns_of}
 use Rattle.register.specs.Elections.{ElectionEntry, contest_of, due_of, has_count, is_drawn_for, is_finished, stages_of}
 use Rattle.office.specs.Sheets.{candidate_shown, shown_with}

@@ -3,13 +3,13 @@ use Rattle.std.specs.Prelude.{◌≡◌, ℕ, true, List, Some, Ok}
 use Rattle.register.specs.Offices.{OfficeState, WardEntry, ward_at}
 use Rattle.register.specs.Items.{IsState}
 use Rattle.register.specs.Elections.{ElectionEntry, due_of, election_of, is_declared, is_finished}
-use Rattle.recount.specs.Checks.{IsChecked, IsProblem}
-use Rattle.recount.specs.Reading.{Reading, read}
-use Rattle.recount.specs.Wards.{ward_told}
-use Rattle.recount.specs.declared.differences.Checked.{Checked}
-use Rattle.recount.specs.declared.differences.Checked.TheVariants as checked
-use Rattle.recount.specs.declared.problem.Problem.{Problem}
-use Rattle.recount.specs.declared.problem.Problem.TheVariants.{Memory}
+use Rattle.checker.specs.Checks.{IsChecked, IsProblem}
+use Rattle.checker.specs.Reading.{ReaderEntry, read}
+use Rattle.checker.specs.Wards.{ward_told}
+use Rattle.checker.specs.declared.differences.Checked.{Checked}
+use Rattle.checker.specs.declared.differences.Checked.TheVariants as checked
+use Rattle.checker.specs.declared.problem.Problem.{Problem}
+use Rattle.checker.specs.declared.problem.Problem.TheVariants.{Memory}
 use Rattle.office.specs.Sheets.{bundles_shown, election_shown, lots_shown, text_told}
 use Rattle.office.specs.declared.sheets.Text.{Text}
 use Rattle.office.specs.declared.sheets.Text.TheVariants.{Ballots, Declaration, Sheet}
@@ -29,7 +29,7 @@ IsFinished e = is_finished (due_of e) ≡ true
 
 -- a file of ballots is read as an election: its ward with seats, candidates and poll, the bundles of its valid papers, and its lots
 pub record IsReadAs (file : List ℕ) (e : ElectionEntry) : Type 0 where
-  pub reading : Reading
+  pub reading : ReaderEntry
   pub understood : read file ≡ Ok reading
   pub ward_is : ward_told reading ≡ election_shown e
   pub bundles_are : reading.papers.bundles ≡ bundles_shown e

@@ -2,12 +2,12 @@
 
 ghost use Rattle.own_texts.specs.OwnTexts.{DeclaredAreFinished, OwnBallotsAreRead, OwnDeclarationsAreConfirmed, OwnSheetsAreConfirmed};
 
+use checker::ballots_read_back;
 use office::texts_are_there;
-use recount::ballots_read_back;
 use register::marks::columns_of;
 
 /// The law of an office's own texts. At each state the ballots that the office prints of a ward are read as that ward's election:
-/// its number, name, seats and candidates, its valid and rejected papers, and its lots. Beside them `recount`'s `check` says of
+/// its number, name, seats and candidates, its valid and rejected papers, and its lots. Beside them `checker`'s `check` says of
 /// the stage sheet of a finished count that it is the sheet, and of the declaration that it is the declaration. It says nothing
 /// else of them, and only want of memory keeps it from saying so. The count of a declared ward is finished.
 pub fn own_texts_are_confirmed()

@@ -11,6 +11,8 @@
 //! which stand side by side, are found by bisection (`runs`, `finding`). The batches alone are gone through for each ward in count,
 //! of which there are 99 at most; and the papers of one batch, 500 at most, for each verdict on one of them.
 //!
+//! The conditions have numbers too, as documents count them: `item1` to `item8`, each of which answers yes or no.
+//!
 //! `are_same` compares the rows of two offices, and `finding` has the rows of a key for whoever goes through an office.
 #![tactic(auto)]
 
@@ -25,6 +27,7 @@ mod sameness;
 // The conditions, and what they read: subjects of receipts, and numbers in them.
 mod batches;
 mod counts;
+mod items;
 mod keyings;
 mod nominations;
 mod plain;
@@ -44,3 +47,12 @@ pub use rows::Rows;
 pub use sameness::are_same;
 pub use tabulated::is_tabulated;
 pub use verdicts::all_judged;
+
+// The conditions by their numbers.
+pub use batches::all_given_out as item3;
+pub use items::{item7, item8};
+pub use keyings::all_keyed as item4;
+pub use nominations::all_nominated as item2;
+pub use polls::all_agreed as item6;
+pub use ranges::all_in_range as item1;
+pub use verdicts::all_judged as item5;

@@ -2,19 +2,19 @@
 use Rattle.std.proofs.Common.{◌≡◌, ◌⊎◌, inl, inr, ◌<◌, ◌≤◌, ℕ, Bool, List, None, Option, Some, Ok, Err, Result, length, refl, subst, suc, sym, true, arith, zero}
 use Rattle.std.specs.Prelude.{IfOk}
 use Rattle.votes.specs.declared.streams.Broken.{Broken}
-use Rattle.gathering.specs.declared.line.Came.{Came}
-use Rattle.gathering.specs.declared.line.Came.TheVariants.{Bytes, Nothing, End}
-use Rattle.gathering.specs.declared.doors.Admitted.{Admitted}
-use Rattle.gathering.specs.declared.doors.Admitted.TheVariants.{One, Nobody, NotNow, Full}
-use Rattle.gathering.specs.Lines.{Gives, Takes, failed_after, idle_after_read, idle_after_write}
-use Rattle.gathering.specs.Rooms.{IsFresh, IsWanted, MayCome, after_admit, after_look, after_ready, after_wait}
-use Rattle.gathering.specs.declared.client.Door.{Door}
-use Rattle.gathering.specs.declared.client.Door.TheVariants.{Clients, Orders}
-use Rattle.sockets.specs.Watches.{ComesByDoor, FitsDoor, IsAtDoor, unknown}
+use Rattle.connections.specs.declared.stream.Received.{Received}
+use Rattle.connections.specs.declared.stream.Received.TheVariants.{Bytes, Nothing, End}
+use Rattle.connections.specs.declared.network.AcceptOutcome.{AcceptOutcome}
+use Rattle.connections.specs.declared.network.AcceptOutcome.TheVariants.{One, Nobody, NotNow, Full}
+use Rattle.connections.specs.Streams.{Gives, Takes, failed_after, idle_after_read, idle_after_write}
+use Rattle.connections.specs.Tables.{IsFresh, IsWanted, MayCome, after_accept, after_look, after_ready, after_wait}
+use Rattle.connections.specs.declared.client.Listener.{Listener}
+use Rattle.connections.specs.declared.client.Listener.TheVariants.{Clients, Orders}
+use Rattle.sockets.specs.Pollers.{ComesByListener, FitsListener, IsAtListener, unknown}
 use Rattle.sockets.specs.declared.socket.Socket.{Socket}
 
 -- what was read is within the room
-pub gives_untold : {E : Type 0} (read : Result ℕ E) (room : List ℕ) (r : Result Came Broken) → IfOk read (λ n. n ≤ length room) → ((n : ℕ) → r ≡ Ok (Bytes n) → (0 < n) × (read ≡ Ok n))
+pub gives_untold : {E : Type 0} (read : Result ℕ E) (room : List ℕ) (r : Result Received Broken) → IfOk read (λ n. n ≤ length room) → ((n : ℕ) → r ≡ Ok (Bytes n) → (0 < n) × (read ≡ Ok n))
     → Gives None None room r
 gives_untold read room (Ok (Bytes n)) within told =
     let it = told n refl in
@@ -30,37 +30,37 @@ takes_untold written bytes (Ok n) within (inr is) = (subst (λ x. IfOk x (λ m. 
 takes_untold written bytes (Err broken) within told = refl
 
 -- whoever comes in over a line that tells nothing was told nothing
-pub fresh_untold : {L : Type 0} (a : Admitted L) → IsFresh (λ (l : L). None) a
-fresh_untold (One comer) = tt
+pub fresh_untold : {L : Type 0} (a : AcceptOutcome L) → IsFresh (λ (l : L). None) a
+fresh_untold (One accepted) = tt
 fresh_untold Nobody = tt
 fresh_untold NotNow = tt
 fresh_untold Full = tt
 
 -- orders may always come
-pub order_wanted : (clients_too : Bool) (a : Admitted Socket) → IsAtDoor Orders a → IsWanted clients_too a
-order_wanted clients_too (One comer) at = subst (MayCome clients_too) (sym at.0) tt
+pub order_wanted : (clients_too : Bool) (a : AcceptOutcome Socket) → IsAtListener Orders a → IsWanted clients_too a
+order_wanted clients_too (One accepted) at = subst (MayCome clients_too) (sym at.0) tt
 order_wanted clients_too Nobody at = tt
 order_wanted clients_too NotNow at = tt
 order_wanted clients_too Full at = tt
 
 -- and clients, where they are wanted
-pub client_wanted : (clients_too : Bool) (a : Admitted Socket) → IsAtDoor Clients a → clients_too ≡ true → IsWanted clients_too a
-client_wanted clients_too (One comer) at wanted = subst (MayCome clients_too) (sym at.0) wanted
+pub client_wanted : (clients_too : Bool) (a : AcceptOutcome Socket) → IsAtListener Clients a → clients_too ≡ true → IsWanted clients_too a
+client_wanted clients_too (One accepted) at wanted = subst (MayCome clients_too) (sym at.0) wanted
 client_wanted clients_too Nobody at wanted = tt
 client_wanted clients_too NotNow at wanted = tt
 client_wanted clients_too Full at wanted = tt
 
 -- whoever came at a door came over a socket of its kind
-pub comes_by_door : (door : Door) (a : Admitted Socket) → IsAtDoor door a → ComesByDoor a
-comes_by_door door (One comer) at = subst (λ d. FitsDoor d comer.line) (sym at.0) at.1
-comes_by_door door Nobody at = tt
-comes_by_door door NotNow at = tt
-comes_by_door door Full at = tt
+pub comes_by_door : (listener : Listener) (a : AcceptOutcome Socket) → IsAtListener listener a → ComesByListener a
+comes_by_door listener (One accepted) at = subst (λ d. FitsListener d accepted.stream) (sym at.0) at.1
+comes_by_door listener Nobody at = tt
+comes_by_door listener NotNow at = tt
+comes_by_door listener Full at = tt
 
 -- of what isn't known nothing is known later
 
-pub still_unknown_in : {L : Type 0} (a : Admitted L) → unknown ≡ after_admit a unknown
-still_unknown_in (One comer) = refl
+pub still_unknown_in : {L : Type 0} (a : AcceptOutcome L) → unknown ≡ after_accept a unknown
+still_unknown_in (One accepted) = refl
 still_unknown_in Nobody = refl
 still_unknown_in NotNow = refl
 still_unknown_in Full = refl
@@ -81,7 +81,7 @@ pub still_none : {A : Type 0} (result : Result A Broken) → None ≡ failed_aft
 still_none (Ok value) = refl
 still_none (Err broken) = refl
 
-pub still_idle_read : (result : Result Came Broken) → None ≡ idle_after_read result None
+pub still_idle_read : (result : Result Received Broken) → None ≡ idle_after_read result None
 still_idle_read (Ok (Bytes n)) = refl
 still_idle_read (Ok Nothing) = refl
 still_idle_read (Ok End) = refl

@@ -3,8 +3,8 @@ use Rattle.std.specs.Prelude.{◌==◌, ◌||◌, if◌then◌else◌, ℕ, ℤ,
 use Rattle.std.specs.IoError.{raw_os_error}
 use Rattle.std.specs.declared.io.Error.{Error}
 use Rattle.mio.specs.declared.net.listener.TcpListener.{TcpListener}
-use Rattle.gathering.specs.declared.doors.Admitted.{Admitted}
-use Rattle.gathering.specs.declared.doors.Admitted.TheVariants.{Nobody, NotNow, Full}
+use Rattle.connections.specs.declared.network.AcceptOutcome.{AcceptOutcome}
+use Rattle.connections.specs.declared.network.AcceptOutcome.TheVariants.{Nobody, NotNow, Full}
 use Rattle.sockets.specs.declared.socket.Socket.{Socket}
 use Rattle.sockets.specs.declared.loopback.Loopback.{Loopback}
 
@@ -13,7 +13,7 @@ abbrev pub number_in : Option ℤ → ℕ
 number_in None = 0
 number_in (Some code) = unsigned_abs code
 
--- the error's number by Linux
+-- the error's number on Linux
 abbrev pub errno_of : Error → ℕ
 errno_of error = number_in (raw_os_error error)
 
@@ -21,15 +21,15 @@ errno_of error = number_in (raw_os_error error)
 abbrev pub is_out_of_room : Error → Bool
 is_out_of_room error = errno_of error == 12 || errno_of error == 23 || errno_of error == 24 || errno_of error == 28 || errno_of error == 105
 
--- what a listener that gave no connection says by its error; EAGAIN is 11
-abbrev pub refusal_of : Error → Admitted Socket
-refusal_of error = if errno_of error == 11 then Nobody else (if is_out_of_room error then Full else NotNow)
+-- what the error of a listener means; EAGAIN is 11
+abbrev pub outcome_of : Error → AcceptOutcome Socket
+outcome_of error = if errno_of error == 11 then Nobody else (if is_out_of_room error then Full else NotNow)
 
 -- the machine has no [::1]: EAFNOSUPPORT, EADDRNOTAVAIL
 abbrev pub has_no_ipv6 : Error → Bool
 has_no_ipv6 error = errno_of error == 97 || errno_of error == 99
 
--- The listeners of a port, once 127.0.0.1 is bound, by what came of binding [::1]: both; 127.0.0.1 alone, if the machine has no [::1]; else none.
+-- The listeners of a port after 127.0.0.1 is bound, by the result of binding [::1]: both; 127.0.0.1 alone, if the machine has no [::1]; otherwise the error.
 abbrev pub loopback_of : TcpListener → Result TcpListener Error → Result Loopback Error
 loopback_of ipv4 (Ok ipv6) = Ok (record { ipv4 = ipv4; ipv6 = Some ipv6 })
 loopback_of ipv4 (Err error) = if has_no_ipv6 error then Ok (record { ipv4 = ipv4; ipv6 = None }) else Err error

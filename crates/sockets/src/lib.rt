@@ -1,17 +1,18 @@
-//! The sockets of this machine as lines, and the listeners where connections come in.
+//! The sockets of this machine as streams, and the listeners that accept connections.
 //!
-//! [`Loopback`](loopback) listens on both loopback addresses, a [`Socket`](socket) is one connection, and [`Watch`](watch) says which
-//! connections may continue and whether another waits. No clause can say what a socket reads or accepts, which address is bound, or
-//! what the system reports ([`Doorway`](doorway) adds a clock). So a connection that is named may have nothing to read, and a call on it then returns at once.
+//! [`Loopback`](loopback) listens on both loopback addresses, a [`Socket`](socket) is one connection, and [`Poller`](poller)
+//! reports which connections are ready and whether another is pending. Nothing guarantees what a socket reads or accepts, which
+//! address is bound, or what the system reports ([`SocketNetwork`](socket_network) adds a clock). So a connection that is reported
+//! as ready may have nothing to read, and a call on it then returns at once.
 #![tactic(auto)]
 
-mod doorway;
+mod accept_error;
 mod loopback;
-mod refusal;
+mod poller;
 mod socket;
-mod watch;
+mod socket_network;
 
-pub use doorway::Doorway;
 pub use loopback::Loopback;
+pub use poller::Poller;
 pub use socket::Socket;
-pub use watch::Watch;
+pub use socket_network::SocketNetwork;

@@ -3,9 +3,9 @@
 ghost use Rattle.std.specs.Prelude.{◌≡◌, Some, option_map};
 ghost use Rattle.sockets.specs.declared.loopback.Address.{Address};
 ghost use Rattle.sockets.specs.Errors.{has_no_ipv6, loopback_of};
-ghost use Rattle.sockets.specs.Watches.{other_address};
+ghost use Rattle.sockets.specs.Pollers.{other_address};
 
-use crate::refusal::{EADDRNOTAVAIL, EAFNOSUPPORT, errno};
+use crate::accept_error::{EADDRNOTAVAIL, EAFNOSUPPORT, errno};
 use mio::net::TcpListener;
 use std::io;
 use std::net::{Ipv4Addr, Ipv6Addr, Net, SocketAddr};
@@ -38,8 +38,8 @@ impl Address {
 
 /// Returns whether binding [::1] failed because the machine has no such address. Then nobody else can bind it either.
 ///
-/// Its kernel has no IPv6 (EAFNOSUPPORT), or its loopback interface has no address of it (EADDRNOTAVAIL). A service manager that keeps
-/// this program alone from IPv6 causes the first error too, and then somebody else can bind it: our service file doesn't.
+/// Its kernel has no IPv6 (EAFNOSUPPORT), or its loopback interface has no such address (EADDRNOTAVAIL). A service manager that
+/// denies IPv6 to this program alone causes the first error too, and then somebody else can bind it: our service file doesn't.
 fn has_no_ipv6(error: &io::Error) -> bool
     ensures { result ≡ has_no_ipv6 error.now }
 {
@@ -47,9 +47,10 @@ fn has_no_ipv6(error: &io::Error) -> bool
 }
 
 impl Loopback {
-    /// Returns the listeners of a port, of which 127.0.0.1 is bound, by the result of binding [::1].
+    /// Returns the listeners of a port at which 127.0.0.1 is bound, by the result of binding [::1].
     ///
-    /// If the machine has no such address, there is one listener. Any other error is returned, and the listener at 127.0.0.1 is closed.
+    /// If the machine has no such address, there is one listener. Any other error is returned, and the listener at 127.0.0.1 is
+    /// closed.
     pub fn new(ipv4: TcpListener, ipv6: io::Result<TcpListener>) -> io::Result<Loopback>
         ensures { result ≡ loopback_of ipv4 ipv6 }
     {
@@ -65,8 +66,8 @@ impl Loopback {
 
     /// Binds a port at both addresses. Fails if one of them is taken.
     ///
-    /// A browser that opens `http://localhost` may try either, and would send a clerk's code to whoever holds the other one. A socket
-    /// at [::1] accepts no connection of IPv4, so it needs no option.
+    /// A browser that opens `http://localhost` may try either, and would send a clerk's code to whoever holds the other one. A
+    /// socket at [::1] accepts no connection over IPv4, so it needs no option.
     pub fn bind(net: &impl Net, port: u16) -> io::Result<Loopback> {
         let ipv4 = TcpListener::bind(net, SocketAddr::from((Ipv4Addr::LOCALHOST, port)))?;
         let ipv6 = TcpListener::bind(net, SocketAddr::from((Ipv6Addr::LOCALHOST, port)));

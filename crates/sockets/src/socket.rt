@@ -1,8 +1,8 @@
-//! A socket as a line: no call on it blocks.
+//! A socket as a stream: no call on it blocks.
 
 ghost use Rattle.std.specs.Prelude.{◌≡◌, ◌⊎◌, ◌<◌, ℕ, None, Ok, IfOk};
 
-use gathering::{Came, Line};
+use connections::{Received, Stream};
 use mio::net::{TcpStream, UnixStream};
 use std::io;
 use std::io::{ErrorKind, Read, Write};
@@ -15,14 +15,14 @@ pub enum Socket {
     Order(UnixStream),
 }
 
-/// Returns what a read gave. A read that would block gave nothing yet.
-fn came(read: io::Result<usize>) -> Result<Came, Broken>
-    ensures { (n : ℕ) → result ≡ Ok (Came.Bytes n) → (0 < n) × (read ≡ Ok n) }
+/// Returns the result of a read. A read that would block has no bytes yet.
+fn came(read: io::Result<usize>) -> Result<Received, Broken>
+    ensures { (n : ℕ) → result ≡ Ok (Received.Bytes n) → (0 < n) × (read ≡ Ok n) }
 {
     match read {
-        Ok(0) => Ok(Came::End),
-        Ok(count) => Ok(Came::Bytes(count)),
-        Err(error) if error.kind() == ErrorKind::WouldBlock => Ok(Came::Nothing),
+        Ok(0) => Ok(Received::End),
+        Ok(count) => Ok(Received::Bytes(count)),
+        Err(error) if error.kind() == ErrorKind::WouldBlock => Ok(Received::Nothing),
         Err(_) => Err(Broken),
     }
 }
@@ -38,7 +38,7 @@ fn took(written: io::Result<usize>) -> Result<usize, Broken>
     }
 }
 
-impl Line for Socket {
+impl Stream for Socket {
     ghost held = { λ _. None };
 
     ghost taken = { λ _. None };
@@ -47,7 +47,7 @@ impl Line for Socket {
 
     ghost idle = { λ _. None };
 
-    fn fetch(&mut self, room: &mut [u8]) -> Result<Came, Broken> {
+    fn fetch(&mut self, room: &mut [u8]) -> Result<Received, Broken> {
         match self {
             Socket::Client(stream) => came(stream.read(room)),
             Socket::Order(stream) => came(stream.read(room)),

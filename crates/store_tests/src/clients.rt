@@ -1,12 +1,12 @@
-//! Clients over HTTP, and orders that are handed over, who come to doors; and what their lines give and take. Which bytes come of
-//! them is known, also to clauses.
+//! Clients over HTTP, and orders that are handed over, on a network of the tests; and what their streams give and accept. The bytes
+//! that they send are known, also to clauses.
 
 ghost use Rattle.std.specs.Prelude.{◌≡◌, None, Some, length, nat_lt};
-ghost use Rattle.gathering.specs.Rooms.{with_leaver};
-ghost use Rattle.sockets.specs.Watches.{unknown};
+ghost use Rattle.connections.specs.Tables.{with_removed};
+ghost use Rattle.sockets.specs.Pollers.{unknown};
 
-use gathering::{Admitted, Came, Comer, Door, Doors, Leaver, Line};
-use sockets::Doorway;
+use connections::{AcceptOutcome, Accepted, Listener, Network, Received, Removed, Stream};
+use sockets::SocketNetwork;
 use std::alloc::Global;
 use std::cell::{Cell, RefCell};
 use std::io::{ErrorKind, Write};
@@ -15,11 +15,11 @@ use std::time::{Clock, Duration};
 use std::{fmt, io};
 use votes::Broken;
 
-/// A client, or an order: what he sends, and whether he ends his side behind it. Then how many bytes come at once before nothing
-/// more has come, and how many he takes of his answer before he takes no more now. At last after how many that came reading him
-/// fails, and after how many that he took writing to him fails.
+/// A client, or an order: what it sends, and whether it ends its side afterwards. Then how many bytes arrive at once before no more
+/// has arrived, and how many of its response it accepts before it accepts no more now. Last the number of bytes after which reading
+/// fails, and the number after which writing fails.
 #[derive(Clone, Copy, Debug)]
-pub struct Client<'a> {
+pub struct TestClient<'a> {
     pub is_order: bool,
     pub sends: &'a [u8],
     pub ends: bool,
@@ -29,10 +29,10 @@ pub struct Client<'a> {
     pub takes: usize,
 }
 
-impl<'a> Client<'a> {
-    /// One who sends all of this at once, and takes his answer so. His line doesn't break.
-    pub fn whole(sends: &'a [u8]) -> Client<'a> {
-        Client {
+impl<'a> TestClient<'a> {
+    /// A client that sends all of this at once, and accepts its response at once. Its stream doesn't fail.
+    pub fn whole(sends: &'a [u8]) -> TestClient<'a> {
+        TestClient {
             is_order: false,
             sends,
             ends: true,
@@ -43,42 +43,43 @@ impl<'a> Client<'a> {
         }
     }
 
-    /// An order whose message is this, and who stays.
-    pub fn order(message: &'a [u8]) -> Client<'a> {
-        Client {
+    /// An order with this message, which doesn't end its side.
+    pub fn order(message: &'a [u8]) -> TestClient<'a> {
+        TestClient {
             is_order: true,
             ends: false,
-            ..Client::whole(message)
+            ..TestClient::whole(message)
         }
     }
 
-    /// One who sends so many bytes at once, and takes as many.
-    pub fn slow(sends: &'a [u8], at_once: usize) -> Client<'a> {
-        Client {
+    /// A client that sends so many bytes at once, and accepts as many.
+    pub fn slow(sends: &'a [u8], at_once: usize) -> TestClient<'a> {
+        TestClient {
             at_once,
             sips: at_once,
-            ..Client::whole(sends)
+            ..TestClient::whole(sends)
         }
     }
 
-    /// One who says nothing, and stays.
-    pub fn silent() -> Client<'a> {
-        Client {
+    /// A client that sends nothing, and doesn't end its side.
+    pub fn silent() -> TestClient<'a> {
+        TestClient {
             ends: false,
-            ..Client::whole(&[])
+            ..TestClient::whole(&[])
         }
     }
 }
 
-/// Clients who come in turn; or one who can't be let in when his turn comes, and isn't there any more later.
-pub type Comers<'a> = &'a [Option<Client<'a>>];
+/// Clients in their order; `None` is a connection that fails as it is accepted.
+pub type TestClients<'a> = &'a [Option<TestClient<'a>>];
 
-/// An office that serves: who comes, and of whom the doors say behind each wait that they may go on, all who were let in or those
-/// of these numbers, in their order. Then after how many serving ends, how many seconds later the clock is at each look, and
-/// after how many waits the doors fail. Last the text of a file of clerks' codes, if they are asked for.
+/// A server in a test: its clients, and which of them the network reports as ready after each wait, all that were accepted or those
+/// of these numbers, in their order. Then the number of clients after which serving ends, how many seconds pass between two looks
+/// at the clock, and the number of waits after which the network fails. Last the text of a file of clerks' codes, if there is a
+/// gate.
 #[derive(Clone, Copy, Debug)]
 pub struct Evening<'a> {
-    pub comers: Comers<'a>,
+    pub clients: TestClients<'a>,
     pub told: Option<&'a [usize]>,
     pub connections: Option<u64>,
     pub seconds: u64,
@@ -87,12 +88,12 @@ pub struct Evening<'a> {
 }
 
 impl<'a> Evening<'a> {
-    /// All who come are served, and no time passes.
-    pub fn of(comers: Comers<'a>) -> Evening<'a> {
+    /// All clients are served, and no time passes.
+    pub fn of(clients: TestClients<'a>) -> Evening<'a> {
         Evening {
-            comers,
+            clients,
             told: None,
-            connections: Some(comers.len() as u64),
+            connections: Some(clients.len() as u64),
             seconds: 0,
             waits: 10_000,
             codes: None,
@@ -100,19 +101,19 @@ impl<'a> Evening<'a> {
     }
 }
 
-/// The line of a client, and the page on which he writes what he takes.
+/// The stream of a client, and the page on which it writes what it accepts.
 #[derive(Drop)]
-pub struct Talk<'s, 'p> {
+pub struct TestStream<'s, 'p> {
     left: &'s [u8],
-    client: Client<'s>,
+    client: TestClient<'s>,
     page: &'p RefCell<Vec<u8>>,
     now: usize,
     sip: usize,
 }
 
-impl<'s, 'p> Talk<'s, 'p> {
-    fn new(client: Client<'s>, page: &'p RefCell<Vec<u8>>) -> Talk<'s, 'p> {
-        Talk {
+impl<'s, 'p> TestStream<'s, 'p> {
+    fn new(client: TestClient<'s>, page: &'p RefCell<Vec<u8>>) -> TestStream<'s, 'p> {
+        TestStream {
             left: client.sends,
             client,
             page,
@@ -122,7 +123,7 @@ impl<'s, 'p> Talk<'s, 'p> {
     }
 }
 
-impl Line for Talk<'_, '_> {
+impl Stream for TestStream<'_, '_> {
     ghost held = { λ t. Some t.left.now };
 
     ghost taken = { λ _. None };
@@ -131,29 +132,29 @@ impl Line for Talk<'_, '_> {
 
     ghost idle = { λ _. None };
 
-    fn fetch(&mut self, room: &mut [u8]) -> Result<Came, Broken> {
+    fn fetch(&mut self, room: &mut [u8]) -> Result<Received, Broken> {
         if self.client.heard == 0 {
             return Err(Broken);
         }
         if self.left.is_empty() {
             return Ok(if self.client.ends {
-                Came::End
+                Received::End
             } else {
-                Came::Nothing
+                Received::Nothing
             });
         }
         let most = self.now.min(self.client.heard);
         let count = room.len().min(self.left.len()).min(most);
         if count == 0 {
             self.now = self.client.at_once;
-            return Ok(Came::Nothing);
+            return Ok(Received::Nothing);
         }
         let (now, later) = self.left.split_at(count);
         room[..count].copy_from_slice(now);
         self.left = later;
         self.now -= count;
         self.client.heard -= count;
-        Ok(Came::Bytes(count))
+        Ok(Received::Bytes(count))
     }
 
     fn put(&mut self, bytes: &[u8]) -> Result<usize, Broken> {
@@ -179,9 +180,9 @@ impl Line for Talk<'_, '_> {
     }
 }
 
-/// The doors to which clients come, and how many they have named since the last wait.
+/// The network on which clients connect, and how many it has reported since the last wait.
 #[derive(Drop)]
-pub struct Coming<'c, 'p> {
+pub struct TestNetwork<'c, 'p> {
     evening: Evening<'c>,
     pages: &'p [RefCell<Vec<u8>>],
     clock: Jumping,
@@ -190,10 +191,10 @@ pub struct Coming<'c, 'p> {
     told: usize,
 }
 
-impl<'c, 'p> Coming<'c, 'p> {
-    /// Those of an evening, with a page for each.
-    pub fn new(evening: Evening<'c>, pages: &'p [RefCell<Vec<u8>>]) -> Coming<'c, 'p> {
-        Coming {
+impl<'c, 'p> TestNetwork<'c, 'p> {
+    /// The network of an evening, with a page for each client.
+    pub fn new(evening: Evening<'c>, pages: &'p [RefCell<Vec<u8>>]) -> TestNetwork<'c, 'p> {
+        TestNetwork {
             evening,
             pages,
             clock: Jumping::by(evening.seconds),
@@ -203,28 +204,28 @@ impl<'c, 'p> Coming<'c, 'p> {
         }
     }
 
-    /// The next comes in, under this number.
+    /// The next client is accepted, under this number.
     fn lets_in(&mut self, number: u64) {
         self.next = self.next.saturating_add(1);
         self.came = number.saturating_add(1);
     }
 }
 
-impl<'c, 'p> Doors for Coming<'c, 'p> {
-    type Line = Talk<'c, 'p>;
+impl<'c, 'p> Network for TestNetwork<'c, 'p> {
+    type Stream = TestStream<'c, 'p>;
 
     ghost known = { λ _. unknown };
 
-    ghost waited_at = { λ coming. nat_lt coming.next (length coming.evening.comers.now) };
+    ghost pending = { λ coming. nat_lt coming.next (length coming.evening.clients.now) };
 
     fn now(&mut self) -> Result<u64, Broken> {
         now_by(&self.clock)
     }
 
-    fn leave(&mut self, leaver: Leaver<Talk<'c, 'p>>)
-        ensures { unknown ≡ with_leaver unknown leaver.entry }
+    fn close(&mut self, removed: Removed<TestStream<'c, 'p>>)
+        ensures { unknown ≡ with_removed unknown removed.entry }
     {
-        drop(leaver);
+        drop(removed);
     }
 
     fn wait(&mut self, _most: Duration) -> Result<(), Broken> {
@@ -248,34 +249,34 @@ impl<'c, 'p> Doors for Coming<'c, 'p> {
         Some(number)
     }
 
-    fn admit(&mut self, number: u64, clients_too: bool) -> Admitted<Talk<'c, 'p>> {
-        let comers = self.evening.comers;
-        let (Some(next), Some(page)) = (comers.get(self.next), self.pages.get(self.next)) else {
-            return Admitted::Nobody;
+    fn accept(&mut self, number: u64, clients_too: bool) -> AcceptOutcome<TestStream<'c, 'p>> {
+        let clients = self.evening.clients;
+        let (Some(next), Some(page)) = (clients.get(self.next), self.pages.get(self.next)) else {
+            return AcceptOutcome::Nobody;
         };
         let Some(client) = next else {
             self.next = self.next.saturating_add(1);
-            return Admitted::NotNow;
+            return AcceptOutcome::NotNow;
         };
         if client.is_order {
             self.lets_in(number);
-            return Admitted::One(Comer {
-                door: Door::Orders,
-                line: Talk::new(*client, page),
+            return AcceptOutcome::One(Accepted {
+                listener: Listener::Orders,
+                stream: TestStream::new(*client, page),
             });
         }
         if clients_too {
             self.lets_in(number);
-            return Admitted::One(Comer {
-                door: Door::Clients,
-                line: Talk::new(*client, page),
+            return AcceptOutcome::One(Accepted {
+                listener: Listener::Clients,
+                stream: TestStream::new(*client, page),
             });
         }
-        Admitted::Nobody
+        AcceptOutcome::Nobody
     }
 
-    fn is_waited_at(&self) -> bool {
-        self.next < self.evening.comers.len()
+    fn has_pending(&self) -> bool {
+        self.next < self.evening.clients.len()
     }
 }
 
@@ -288,7 +289,7 @@ pub fn pages_of(alloc: Global, count: usize) -> Result<Vec<RefCell<Vec<u8>>>, Fa
     Ok(pages)
 }
 
-/// What stands on the pages, each of them behind a line feed but the first.
+/// Returns the pages, each but the first after a line feed.
 pub fn joined(alloc: Global, pages: Vec<RefCell<Vec<u8>>>) -> Result<String, Fail> {
     let mut all = Vec::new(alloc);
     for (place, page) in pages.into_iter().enumerate() {
@@ -301,10 +302,10 @@ pub fn joined(alloc: Global, pages: Vec<RefCell<Vec<u8>>>) -> Result<String, Fai
     Ok(String::from_utf8(all)?)
 }
 
-/// The doors at a port of this machine, and after how many clients serving ends.
+/// The network on a port of this machine, and the number of clients after which serving ends.
 #[derive(Drop)]
 pub struct Port {
-    pub doors: RefCell<Doorway<Jumping>>,
+    pub network: RefCell<SocketNetwork<Jumping>>,
     pub connections: u64,
 }
 
@@ -314,7 +315,7 @@ impl fmt::Debug for Port {
     }
 }
 
-/// A clock that is so many seconds later each time it is looked at.
+/// A clock on which so many seconds pass between two looks.
 #[derive(Drop)]
 pub struct Jumping {
     now: Cell<u64>,
@@ -350,30 +351,30 @@ impl Clock for Jumping {
     }
 }
 
-/// The bytes that were taken, up to a failure.
+/// The bytes that were accepted, up to a failure.
 #[derive(Drop)]
-pub struct Taking {
+pub struct LimitedWriter {
     taken: Vec<u8>,
     room: usize,
 }
 
-impl Taking {
-    /// A writer that takes so many bytes, and then fails.
-    pub fn new(alloc: Global, room: usize) -> Taking {
-        Taking {
+impl LimitedWriter {
+    /// A writer that accepts so many bytes, and then fails.
+    pub fn new(alloc: Global, room: usize) -> LimitedWriter {
+        LimitedWriter {
             taken: Vec::new(alloc),
             room,
         }
     }
 
-    /// What was taken.
+    /// Returns what was accepted.
     pub fn text(self) -> Result<String, Fail> {
-        let Taking { taken, .. } = self;
+        let LimitedWriter { taken, .. } = self;
         Ok(String::from_utf8(taken)?)
     }
 }
 
-impl Write for Taking {
+impl Write for LimitedWriter {
     fn write(&mut self, bytes: &[u8]) -> io::Result<usize> {
         let count = bytes.len().min(self.room);
         if count < bytes.len() && count == 0 {

@@ -4,7 +4,7 @@
 ghost use Rattle.std.specs.Prelude.{⊤};
 
 use super::machine::{File, Machine};
-use super::steps::{Said, Step, copied, play};
+use super::steps::{Step, StepPrinted, copied, play};
 use sqlite::{Alter, Connection, Error, ErrorCode, FileStore, Files, Options};
 use sqlite_disk::{Crash, Disk, Fuse, Memory};
 use std::alloc::Global;
@@ -42,7 +42,7 @@ fn copy_over<S: Alter + Drop>(
     alloc: Global,
     office: &mut Connection<S>,
     onto: Disks,
-) -> Result<(Option<Said>, Disks), Fail> {
+) -> Result<(Option<StepPrinted>, Disks), Fail> {
     let Disks { files } = onto;
     match opened(alloc, files) {
         Ok(mut made) => {
@@ -95,7 +95,7 @@ impl Machine for Disks {
         Disks { files }
     }
 
-    fn play(self, alloc: Global, script: &[Step<'_>]) -> Result<(Vec<Said>, Disks), Fail> {
+    fn play(self, alloc: Global, script: &[Step<'_>]) -> Result<(Vec<StepPrinted>, Disks), Fail> {
         let Disks { files } = self;
         match opened(alloc, files) {
             Ok(conn) => {
@@ -111,7 +111,11 @@ impl Machine for Disks {
         }
     }
 
-    fn copy_onto(self, alloc: Global, onto: Disks) -> Result<(Option<Said>, Disks, Disks), Fail> {
+    fn copy_onto(
+        self,
+        alloc: Global,
+        onto: Disks,
+    ) -> Result<(Option<StepPrinted>, Disks, Disks), Fail> {
         let Disks { files } = self;
         match opened(alloc, files) {
             Ok(mut conn) => {

@@ -2,7 +2,7 @@
 //! work of clerks for whom no client can ask.
 
 use super::begun::{BAD_REQUEST, BEGUN, KEYED, KEYING};
-use super::clients::{Client, Comers, Evening};
+use super::clients::{Evening, TestClient, TestClients};
 use super::disks::Disks;
 use super::machine::{Machine, hear, hear_unchanged, play_acts};
 use super::steps::Step;
@@ -94,17 +94,17 @@ fn have_their_turns<M: Machine + Drop>(
     rt: &(impl Abort + AllocGlobal),
     machine: M,
 ) -> Result<M, Fail> {
-    let comers = [
-        Some(Client::slow(FOUR, 7)),
-        Some(Client::slow(KEYING.as_bytes(), 40)),
-        Some(Client::slow(b"X\r\n\r\n", 1)),
-        Some(Client::whole(FOUR)),
-        Some(Client::slow(NINE, 1)),
-        Some(Client::slow(SHEET, 5)),
-        Some(Client {
+    let clients = [
+        Some(TestClient::slow(FOUR, 7)),
+        Some(TestClient::slow(KEYING.as_bytes(), 40)),
+        Some(TestClient::slow(b"X\r\n\r\n", 1)),
+        Some(TestClient::whole(FOUR)),
+        Some(TestClient::slow(NINE, 1)),
+        Some(TestClient::slow(SHEET, 5)),
+        Some(TestClient {
             sips: 3,
             ends: false,
-            ..Client::whole(NINE)
+            ..TestClient::whole(NINE)
         }),
     ];
     let texts = [
@@ -116,7 +116,7 @@ fn have_their_turns<M: Machine + Drop>(
         WRONG_PHASE,
         NINE_TO_KEY,
     ];
-    serve_all(rt, machine, Evening::of(&comers), &texts)
+    serve_all(rt, machine, Evening::of(&clients), &texts)
 }
 
 /// Lines break at each byte of the request, of which nothing is kept. They break at each byte of the answer, which the first of
@@ -125,11 +125,11 @@ fn break_at_each_byte<M: Machine + Drop>(
     rt: &(impl Abort + AllocGlobal),
     machine: M,
 ) -> Result<M, Fail> {
-    let keying = Client::whole(KEYING.as_bytes());
+    let keying = TestClient::whole(KEYING.as_bytes());
     let mut unheard = Vec::new(rt.alloc());
     let mut nothing = String::new(rt.alloc());
     for heard in 0..KEYING.len() {
-        unheard.push(Some(Client { heard, ..keying }))?;
+        unheard.push(Some(TestClient { heard, ..keying }))?;
         if heard > 0 {
             nothing.push('\n')?;
         }
@@ -137,7 +137,7 @@ fn break_at_each_byte<M: Machine + Drop>(
     let mut untold = Vec::new(rt.alloc());
     let mut fronts = Vec::new(rt.alloc());
     for takes in 0..KEYED.len() {
-        untold.push(Some(Client { takes, ..keying }))?;
+        untold.push(Some(TestClient { takes, ..keying }))?;
         fronts.push(KEYED.get(..takes).unwrap_or(""))?;
     }
     let unheard = Step::Serve(Evening::of(&unheard));
@@ -148,25 +148,25 @@ fn break_at_each_byte<M: Machine + Drop>(
 /// One who says nothing, one who sends a byte now and then, and one who takes nothing of his answer are let go by a clock
 /// that jumps by ten seconds. The others are answered all the while.
 fn are_let_go<M: Machine + Drop>(rt: &(impl Abort + AllocGlobal), machine: M) -> Result<M, Fail> {
-    let comers = [
-        Some(Client::silent()),
-        Some(Client::slow(FOUR, 1)),
-        Some(Client {
+    let clients = [
+        Some(TestClient::silent()),
+        Some(TestClient::slow(FOUR, 1)),
+        Some(TestClient {
             sips: 0,
-            ..Client::whole(FOUR)
+            ..TestClient::whole(FOUR)
         }),
-        Some(Client::whole(NINE)),
+        Some(TestClient::whole(NINE)),
     ];
     let evening = Evening {
         seconds: 10,
-        ..Evening::of(&comers)
+        ..Evening::of(&clients)
     };
     serve_all(rt, machine, evening, &["", "", "", NINE_TO_KEY])
 }
 
 /// Those who come, of whom so many are wanted; and how that must end.
 fn wanted<'a>(
-    comers: Comers<'a>,
+    clients: TestClients<'a>,
     connections: Option<u64>,
     texts: &'a [&'a str],
     end: &'a str,
@@ -174,7 +174,7 @@ fn wanted<'a>(
     let evening = Evening {
         connections,
         waits: 9,
-        ..Evening::of(comers)
+        ..Evening::of(clients)
     };
     Case {
         evening,
@@ -188,7 +188,7 @@ fn are_not_let_in<M: Machine + Drop>(
     rt: &(impl Abort + AllocGlobal),
     machine: M,
 ) -> Result<M, Fail> {
-    let work = Some(Client::whole(FOUR));
+    let work = Some(TestClient::whole(FOUR));
     let (one, late, between) = ([work], [None, work], [work, None, work]);
     let mut machine = machine;
     for case in [
@@ -213,19 +213,19 @@ const MOST: usize = 512;
 const ASKING: &[usize] = &[0, CROWD - MOST - 1, CROWD - MOST, MOST, CROWD - 1];
 
 /// A crowd of clients of whom the others are silent.
-fn crowd<'a>(alloc: Global) -> Result<Vec<Option<Client<'a>>>, Fail> {
-    let mut comers = Vec::new(alloc);
+fn crowd<'a>(alloc: Global) -> Result<Vec<Option<TestClient<'a>>>, Fail> {
+    let mut clients = Vec::new(alloc);
     for place in 0..CROWD {
-        comers.push(Some(if ASKING.contains(&place) {
-            Client {
+        clients.push(Some(if ASKING.contains(&place) {
+            TestClient {
                 at_once: 3,
-                ..Client::whole(FOUR)
+                ..TestClient::whole(FOUR)
             }
         } else {
-            Client::silent()
+            TestClient::silent()
         }))?;
     }
-    Ok(comers)
+    Ok(clients)
 }
 
 /// What a crowd takes of which these places are answered.
@@ -246,19 +246,19 @@ fn crowds_texts(alloc: Global, answered: &[usize]) -> Result<Vec<&'static str>, 
 /// is let go so before he has waited a second: where no time passes, whoever comes waits until somebody leaves.
 fn are_too_many<M: Machine + Drop>(rt: &(impl Abort + AllocGlobal), machine: M) -> Result<M, Fail> {
     let alloc = rt.alloc();
-    let comers = crowd(alloc)?;
+    let clients = crowd(alloc)?;
     let texts = crowds_texts(alloc, &[CROWD - MOST, MOST, CROWD - 1])?;
     let evening = Evening {
         told: Some(ASKING),
         seconds: 1,
-        ..Evening::of(&comers)
+        ..Evening::of(&clients)
     };
     let machine = serve_all(rt, machine, evening, &texts)?;
     let texts = crowds_texts(alloc, &[0, CROWD - MOST - 1, CROWD - MOST, MOST])?;
     let evening = Evening {
         told: Some(ASKING),
         waits: 40,
-        ..Evening::of(&comers)
+        ..Evening::of(&clients)
     };
     let end = "Err(Doors)";
     serve(
@@ -309,12 +309,12 @@ const AT_THE_GATE: [(&[u8], &str); 18] = [
 ];
 
 /// Those who come to the gate.
-fn knocking<'a>(alloc: Global) -> Result<Vec<Option<Client<'a>>>, AllocError> {
-    let mut comers = Vec::new(alloc);
+fn knocking<'a>(alloc: Global) -> Result<Vec<Option<TestClient<'a>>>, AllocError> {
+    let mut clients = Vec::new(alloc);
     for (sends, _) in &AT_THE_GATE {
-        comers.push(Some(Client::whole(*sends)))?;
+        clients.push(Some(TestClient::whole(*sends)))?;
     }
-    Ok(comers)
+    Ok(clients)
 }
 
 /// The answers that they get.
@@ -331,11 +331,11 @@ fn come_with_codes<M: Machine + Drop>(
     rt: &(impl Abort + AllocGlobal),
     machine: M,
 ) -> Result<M, Fail> {
-    let comers = knocking(rt.alloc())?;
+    let clients = knocking(rt.alloc())?;
     let texts = told_at_the_gate(rt.alloc())?;
     let evening = Evening {
         codes: Some(CODES),
-        ..Evening::of(&comers)
+        ..Evening::of(&clients)
     };
     serve_all(rt, machine, evening, &texts)
 }
@@ -350,21 +350,21 @@ fn hold_too_much<M: Machine + Drop>(
     let mut body = Vec::from_slice(alloc, head)?;
     body.resize(body.len() + (1 << 20), 0xff)?;
     let all_but_one = body.len().saturating_sub(1);
-    let comer = Client::slow(body.as_slice(), all_but_one);
+    let slow_client = TestClient::slow(body.as_slice(), all_but_one);
     // Most never send their last byte.
-    let waits = Client {
+    let waits = TestClient {
         sends: body.get(..all_but_one).unwrap_or(&[]),
         ends: false,
-        ..comer
+        ..slow_client
     };
-    let mut comers = [Some(waits); 64];
+    let mut clients = [Some(waits); 64];
     let mut texts = [""; 64];
-    comers[0] = Some(comer);
-    comers[1] = Some(comer);
-    comers[63] = Some(comer);
+    clients[0] = Some(slow_client);
+    clients[1] = Some(slow_client);
+    clients[63] = Some(slow_client);
     texts[1] = BAD_REQUEST;
     texts[63] = BAD_REQUEST;
-    serve(rt, machine, wanted(&comers, None, &texts, "Err(Doors)"))
+    serve(rt, machine, wanted(&clients, None, &texts, "Err(Doors)"))
 }
 
 /// What a client can't ask.

@@ -5,7 +5,7 @@ use super::begun::{
 };
 use super::disks::Disks;
 use super::machine::{Act, Machine, do_act, follow, hear, play_acts};
-use super::steps::{Said, Step};
+use super::steps::{Step, StepPrinted};
 use sqlite::{Alter, Connection};
 use std::alloc::Global;
 use std::fmt::Write;
@@ -62,13 +62,13 @@ pub fn loads<S: Alter + Drop>(
     alloc: Global,
     conn: Connection<S>,
     ward: u32,
-) -> Result<(Said, Connection<S>), Fail> {
+) -> Result<(StepPrinted, Connection<S>), Fail> {
     let Ok(mut store) = Store::open_from(alloc, conn) else {
         return Err(Fail::from("no store is opened"));
     };
     let text = told(alloc, &mut store, ward);
     let conn = store.into_connection();
-    Ok((Said::quietly(alloc, text?), conn))
+    Ok((StepPrinted::quietly(alloc, text?), conn))
 }
 
 /// The worked ward before its first stage, and after its second.

@@ -2,17 +2,17 @@
 //! one run into the end of another.
 
 use super::begun::{BEGUN, KEYED, KEYING};
-use super::clients::{Client, Evening};
+use super::clients::{Evening, TestClient};
 use super::disks::Disks;
 use super::machine::{Machine, hear, play_acts, rows};
-use super::steps::{Said, Step, TERMS};
+use super::steps::{SERVER_SETTINGS, Step, StepPrinted};
 use rand_core::utils::NextWord;
 use rand_pcg::Pcg32;
 use std::alloc::{AllocError, Global};
 use std::process::Abort;
 use std::test::Fail;
 use votes::Counted;
-use wire::{Asked, Denial, read_asked};
+use wire::{HttpRequest, RequestError, read_request};
 
 const CLIENTS: usize = 10_000;
 
@@ -33,7 +33,7 @@ const NINE: &str =
 fn keyed_by_both<M: Machine + Drop>(rt: &(impl Abort + AllocGlobal)) -> Result<M, Fail> {
     let mut machine: M = play_acts(rt, BEGUN)?;
     for keying in [KEYING, NINE] {
-        let client = [Some(Client::whole(keying.as_bytes()))];
+        let client = [Some(TestClient::whole(keying.as_bytes()))];
         machine = hear(
             rt,
             machine,
@@ -105,12 +105,12 @@ fn sent(alloc: Global, numbers: &mut Pcg32) -> Result<Vec<u8>, AllocError> {
 
 /// Whether a client who sends these bytes may be answered with this status.
 fn may_be_told(alloc: Global, bytes: &[u8], status: &str) -> bool {
-    match read_asked(alloc, TERMS.given, &mut Counted::new(bytes)) {
-        Ok(Asked::Denied(Denial::BadRequest)) => status == "400",
-        Ok(Asked::Denied(Denial::Forbidden)) => status == "403",
-        Ok(Asked::Denied(Denial::NotFound)) => status == "404",
-        Ok(Asked::Denied(Denial::MethodNotAllowed { .. })) => status == "405",
-        Ok(Asked::Denied(Denial::TooLarge)) => status == "413",
+    match read_request(alloc, SERVER_SETTINGS.http, &mut Counted::new(bytes)) {
+        Ok(HttpRequest::Denied(RequestError::BadRequest)) => status == "400",
+        Ok(HttpRequest::Denied(RequestError::Forbidden)) => status == "403",
+        Ok(HttpRequest::Denied(RequestError::NotFound)) => status == "404",
+        Ok(HttpRequest::Denied(RequestError::MethodNotAllowed { .. })) => status == "405",
+        Ok(HttpRequest::Denied(RequestError::TooLarge)) => status == "413",
         Ok(_) => status == "200" || status == "409",
         Err(_) => false,
     }
@@ -130,8 +130,8 @@ fn first_answer(page: &str) -> Option<(&str, &str)> {
 fn served<'a, M: Machine + Drop>(
     alloc: Global,
     machine: M,
-    clients: &'a [Option<Client<'a>>],
-) -> Result<(Vec<Said>, M), Fail> {
+    clients: &'a [Option<TestClient<'a>>],
+) -> Result<(Vec<StepPrinted>, M), Fail> {
     let evening = Evening::of(clients);
     machine.play(alloc, &[Step::Serve(evening)])
 }
@@ -145,9 +145,9 @@ fn clients_are_answered_as_they_ask<M: Machine + Drop>(
     for _ in 0..CLIENTS {
         all.push(sent(alloc, &mut numbers)?)?;
     }
-    let clients: Vec<Option<Client<'_>>> = all
+    let clients: Vec<Option<TestClient<'_>>> = all
         .iter()
-        .map(|bytes| Some(Client::whole(bytes)))
+        .map(|bytes| Some(TestClient::whole(bytes)))
         .collect(alloc)?;
     let (before, machine): (String, M) = rows(alloc, keyed_by_both(rt)?)?;
     let (said, machine) = served(alloc, machine, &clients)?;

@@ -2,10 +2,10 @@
 //! are for another file or from another program, or they are no orders at all.
 
 use super::begun::{BEGUN, KEYED, KEYING};
-use super::clients::{Client, Evening};
+use super::clients::{Evening, TestClient};
 use super::disks::Disks;
 use super::machine::{Machine, hear, hear_unchanged, play_acts};
-use super::steps::{Case, Step, TERMS};
+use super::steps::{Case, SERVER_SETTINGS, Step};
 use desk::version::VERSION;
 use std::alloc::Global;
 use std::process::Abort;
@@ -29,7 +29,7 @@ const INIT: &[&str] = &["DB", "init"];
 
 const MIGRATE: &[&str] = &["DB", "migrate"];
 
-const SERVE: &[&str] = &["DB", "serve", "8080", "0"];
+const SERVE: &[&str] = &["DB", "serve", "8080"];
 
 const COPY: &[&str] = &["DB", "copy", "NEW"];
 
@@ -47,19 +47,19 @@ const IMPORTED: &[&str] = &["batch 12 round 1 keyed", "\n"];
 
 /// An order, the file for which it is given, and the program that gives it.
 #[derive(Clone, Copy)]
-struct Given<'a> {
+struct HandedOrder<'a> {
     version: &'a str,
     inode: u64,
     words: &'a [&'a str],
     files: &'a [(&'a str, &'a [u8])],
 }
 
-impl<'a> Given<'a> {
+impl<'a> HandedOrder<'a> {
     /// An order as this program gives it, for the file that is served.
-    fn of(words: &'a [&'a str]) -> Given<'a> {
-        Given {
+    fn of(words: &'a [&'a str]) -> HandedOrder<'a> {
+        HandedOrder {
             version: VERSION,
-            inode: TERMS.file.inode,
+            inode: SERVER_SETTINGS.file.inode,
             words,
             files: &[],
         }
@@ -69,7 +69,7 @@ impl<'a> Given<'a> {
     fn message(&self, alloc: Global) -> Result<Vec<u8>, Fail> {
         let mut spelling = Vec::new(alloc);
         put_string(&mut spelling, self.version.as_bytes())?;
-        spelling.extend_from_slice(&TERMS.file.device.to_be_bytes())?;
+        spelling.extend_from_slice(&SERVER_SETTINGS.file.device.to_be_bytes())?;
         spelling.extend_from_slice(&self.inode.to_be_bytes())?;
         put_string(&mut spelling, b"/tmp")?;
         put_count(&mut spelling, self.words.len())?;
@@ -123,7 +123,7 @@ fn frames(alloc: Global, told: &[&str], status: u8, err: &str) -> Result<String,
 }
 
 /// A step in which orders come at once, and get this.
-fn told_of<'a>(orders: &'a [Option<Client<'a>>], told: &'a str) -> Case<'a> {
+fn told_of<'a>(orders: &'a [Option<TestClient<'a>>], told: &'a str) -> Case<'a> {
     let evening = Evening {
         connections: Some(0),
         ..Evening::of(orders)
@@ -135,7 +135,7 @@ fn told_of<'a>(orders: &'a [Option<Client<'a>>], told: &'a str) -> Case<'a> {
 fn are_told<'a, M: Machine + Drop>(
     rt: &(impl Abort + AllocGlobal),
     machine: M,
-    orders: &'a [Option<Client<'a>>],
+    orders: &'a [Option<TestClient<'a>>],
     told: &'a str,
 ) -> Result<M, Fail> {
     hear(rt, machine, &[told_of(orders, told)])
@@ -145,7 +145,7 @@ fn are_told<'a, M: Machine + Drop>(
 fn are_told_unchanged<'a, M: Machine + Drop>(
     rt: &(impl Abort + AllocGlobal),
     machine: M,
-    orders: &'a [Option<Client<'a>>],
+    orders: &'a [Option<TestClient<'a>>],
     told: &'a str,
 ) -> Result<M, Fail> {
     hear_unchanged(rt, machine, &[told_of(orders, told)])
@@ -155,27 +155,39 @@ fn are_told_unchanged<'a, M: Machine + Drop>(
 /// is served, and those that aren't understood. They change nothing.
 fn are_refused<M: Machine + Drop>(rt: &(impl Abort + AllocGlobal), machine: M) -> Result<M, Fail> {
     let alloc = rt.alloc();
-    let older = Given {
+    let older = HandedOrder {
         version: "1.2.0-older",
-        ..Given::of(STATUS)
+        ..HandedOrder::of(STATUS)
     };
-    let elsewhere = Given {
-        inode: TERMS.file.inode + 1,
-        ..Given::of(STATUS)
+    let elsewhere = HandedOrder {
+        inode: SERVER_SETTINGS.file.inode + 1,
+        ..HandedOrder::of(STATUS)
     };
     let mut messages = Vec::new(alloc);
     let mut told = String::new(alloc);
     for (given, status, err) in [
         (older, 3, "fault 102: store\n"),
         (elsewhere, 3, "fault 102: store\n"),
-        (Given::of(INIT), 3, "fault 111: office is being served\n"),
-        (Given::of(MIGRATE), 3, "fault 111: office is being served\n"),
-        (Given::of(SERVE), 3, "fault 111: office is being served\n"),
-        (Given::of(COPY), 3, "fault 110: copy not written\n"),
-        (Given::of(JUDGE), 2, "bad verdict word\n"),
-        (Given::of(ELSEWHERE), 1, "refused 5: no such ward\n"),
         (
-            Given::of(SCRIPT),
+            HandedOrder::of(INIT),
+            3,
+            "fault 111: office is being served\n",
+        ),
+        (
+            HandedOrder::of(MIGRATE),
+            3,
+            "fault 111: office is being served\n",
+        ),
+        (
+            HandedOrder::of(SERVE),
+            3,
+            "fault 111: office is being served\n",
+        ),
+        (HandedOrder::of(COPY), 3, "fault 110: copy not written\n"),
+        (HandedOrder::of(JUDGE), 2, "bad verdict word\n"),
+        (HandedOrder::of(ELSEWHERE), 1, "refused 5: no such ward\n"),
+        (
+            HandedOrder::of(SCRIPT),
             3,
             "file fault 8 at record 0: read failed\n",
         ),
@@ -186,9 +198,9 @@ fn are_refused<M: Machine + Drop>(rt: &(impl Abort + AllocGlobal), machine: M) -
         told.push_str(frames(alloc, &[], status, err)?.as_str())?;
         messages.push(given.message(alloc)?)?;
     }
-    let orders: Vec<Option<Client<'_>>> = messages
+    let orders: Vec<Option<TestClient<'_>>> = messages
         .iter()
-        .map(|message| Some(Client::order(message)))
+        .map(|message| Some(TestClient::order(message)))
         .collect(alloc)?;
     are_told_unchanged(rt, machine, &orders, told.as_str())
 }
@@ -198,13 +210,13 @@ fn are_refused<M: Machine + Drop>(rt: &(impl Abort + AllocGlobal), machine: M) -
 fn are_none<M: Machine + Drop>(rt: &(impl Abort + AllocGlobal), machine: M) -> Result<M, Fail> {
     let mut told = frames(rt.alloc(), &[], 3, "fault 102: store\n")?;
     told.push_str("\n\n")?;
-    let early = Client {
+    let early = TestClient {
         ends: true,
-        ..Client::order(b"\0\0\0\0\0\0\0\x04abc")
+        ..TestClient::order(b"\0\0\0\0\0\0\0\x04abc")
     };
     let orders = [
-        Some(Client::order(b"\0\0\0\0\0\0\0\x03abc")),
-        Some(Client::order(b"\0\0\0\0\x7f\0\0\0abc")),
+        Some(TestClient::order(b"\0\0\0\0\0\0\0\x03abc")),
+        Some(TestClient::order(b"\0\0\0\0\x7f\0\0\0abc")),
         Some(early),
     ];
     are_told_unchanged(rt, machine, &orders, told.as_str())
@@ -215,15 +227,15 @@ fn around_a_keying<'a>(
     before: &'a [u8],
     keying: &'a [u8],
     behind: &'a [u8],
-) -> [Option<Client<'a>>; 3] {
-    let slow = Client {
+) -> [Option<TestClient<'a>>; 3] {
+    let slow = TestClient {
         at_once: 3,
         sips: 3,
-        ..Client::order(behind)
+        ..TestClient::order(behind)
     };
     [
-        Some(Client::order(before)),
-        Some(Client::whole(keying)),
+        Some(TestClient::order(before)),
+        Some(TestClient::whole(keying)),
         Some(slow),
     ]
 }
@@ -232,12 +244,12 @@ fn around_a_keying<'a>(
 fn with_one_client<'a, M: Machine + Drop>(
     rt: &(impl Abort + AllocGlobal),
     machine: M,
-    comers: &'a [Option<Client<'a>>],
+    clients: &'a [Option<TestClient<'a>>],
     told: &'a str,
 ) -> Result<M, Fail> {
     let evening = Evening {
         connections: Some(1),
-        ..Evening::of(comers)
+        ..Evening::of(clients)
     };
     let step = Step::Serve(evening);
     hear(rt, machine, &[(step, (0, told, "Ok(())"))])
@@ -250,23 +262,23 @@ fn come_among_clients<M: Machine + Drop>(
     machine: M,
 ) -> Result<M, Fail> {
     let alloc = rt.alloc();
-    let status = Given::of(STATUS).message(alloc)?;
-    let import = Given {
+    let status = HandedOrder::of(STATUS).message(alloc)?;
+    let import = HandedOrder {
         files: KEYED_FILE,
-        ..Given::of(IMPORT)
+        ..HandedOrder::of(IMPORT)
     };
     let import = import.message(alloc)?;
     let before =
         "ward 7 keying: 3 candidates, 1 batches, 0 taken, 0 differing, 0 doubtful open, 0 stages";
     let told = frames(alloc, &[before, "\n"], 0, "")?;
     let keyed = frames(alloc, IMPORTED, 0, "")?;
-    let comers = around_a_keying(status.as_slice(), KEYING.as_bytes(), import.as_slice());
+    let clients = around_a_keying(status.as_slice(), KEYING.as_bytes(), import.as_slice());
     let mut out = told;
     out.push('\n')?;
     out.push_str(KEYED)?;
     out.push('\n')?;
     out.push_str(keyed.as_str())?;
-    with_one_client(rt, machine, &comers, out.as_str())
+    with_one_client(rt, machine, &clients, out.as_str())
 }
 
 /// A script has one turn. Its refusal is printed behind the number of its line, and what was done before stands.
@@ -274,13 +286,13 @@ fn follow_scripts<M: Machine + Drop>(
     rt: &(impl Abort + AllocGlobal),
     machine: M,
 ) -> Result<M, Fail> {
-    let given = Given {
+    let given = HandedOrder {
         files: SCRIPTED,
-        ..Given::of(SCRIPT)
+        ..HandedOrder::of(SCRIPT)
     };
     let message = given.message(rt.alloc())?;
     let told = frames(rt.alloc(), IMPORTED, 1, "line 2: refused 9: wrong phase\n")?;
-    let orders = [Some(Client::order(message.as_slice()))];
+    let orders = [Some(TestClient::order(message.as_slice()))];
     are_told(rt, machine, &orders, told.as_str())
 }
 
@@ -290,23 +302,23 @@ fn break_at_each_byte<M: Machine + Drop>(
     machine: M,
 ) -> Result<M, Fail> {
     let alloc = rt.alloc();
-    let given = Given {
+    let given = HandedOrder {
         files: KEYED_FILE,
-        ..Given::of(IMPORT)
+        ..HandedOrder::of(IMPORT)
     };
     let message = given.message(alloc)?;
     let whole = frames(alloc, IMPORTED, 0, "")?;
     let mut orders = Vec::new(alloc);
     let mut told = String::new(alloc);
     for takes in 0..whole.len() {
-        orders.push(Some(Client {
+        orders.push(Some(TestClient {
             takes,
-            ..Client::order(message.as_slice())
+            ..TestClient::order(message.as_slice())
         }))?;
         told.push_str(whole.get(..takes).unwrap_or(""))?;
         told.push('\n')?;
     }
-    orders.push(Some(Client::order(message.as_slice())))?;
+    orders.push(Some(TestClient::order(message.as_slice())))?;
     told.push_str(whole.as_str())?;
     are_told(rt, machine, &orders, told.as_str())
 }

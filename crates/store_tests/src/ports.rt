@@ -6,7 +6,7 @@ use super::disks::Disks;
 use super::machine::{Machine, hear, play_acts};
 use super::steps::Step;
 use mio::net::TcpListener;
-use sockets::{Doorway, Loopback, Watch};
+use sockets::{Loopback, Poller, SocketNetwork};
 use std::cell::RefCell;
 use std::io::{Read, Write};
 use std::net::{Ipv4Addr, SocketAddr, TcpStream};
@@ -44,8 +44,8 @@ fn connections_are_answered_side_by_side(rt: HostRuntime) -> Result<(), Fail> {
         ipv6: None,
     };
     let port = Port {
-        doors: RefCell::new(Doorway {
-            watch: Watch::new(&rt, rt.alloc(), clients, None)?,
+        network: RefCell::new(SocketNetwork {
+            poller: Poller::new(&rt, rt.alloc(), clients, None)?,
             clock: Jumping::by(31),
         }),
         connections: 3,

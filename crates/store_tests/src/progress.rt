@@ -1,7 +1,7 @@
 //! How far a long output has come is printed, and the output is as it would be without.
 
-use super::clients::Taking;
-use desk::Progress;
+use super::clients::LimitedWriter;
+use desk::ProgressSink;
 use std::test::Fail;
 use votes::{Counted, Sink, put_all};
 
@@ -14,11 +14,11 @@ fn the_progress_of_a_long_output_is_told(rt: HostRuntime) -> Result<(), Fail> {
     for line in 1..=LINES {
         writeln!(lines, "candidate {line} of ward 7 added")?;
     }
-    let mut out = Taking::new(rt.alloc(), usize::MAX);
-    let mut told = Taking::new(rt.alloc(), usize::MAX);
+    let mut out = LimitedWriter::new(rt.alloc(), usize::MAX);
+    let mut told = LimitedWriter::new(rt.alloc(), usize::MAX);
     {
         let mut out = Counted::new(&mut out);
-        let mut watched = Progress::new(&mut out, &mut told);
+        let mut watched = ProgressSink::new(&mut out, &mut told);
         if put_all(&mut watched, lines.as_bytes()).is_err() {
             return Err(Fail::from("an output broke"));
         }

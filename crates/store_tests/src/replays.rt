@@ -3,7 +3,7 @@
 
 use super::disks::Disks;
 use super::machine::{Act, File, Machine, hear, play_acts, rows};
-use super::steps::{Case, STOPPED, Shelf, Step};
+use super::steps::{Case, STOPPED, Step, TestFiles};
 use super::stops::CALLS;
 use super::transcripts::read;
 use std::process::Abort;
@@ -35,7 +35,7 @@ batch 12 round 1 keyed
 ";
 
 /// The files that it names.
-const STOPPED_SHELF: Shelf<'static> = &[
+const STOPPED_SHELF: TestFiles<'static> = &[
     ("names.csv", b"ward,candidate,name\n7,1,Ann\n7,2,Bob\n"),
     ("clerk.csv", b"paper,1,2\n1,1,2\n"),
 ];

@@ -2,20 +2,20 @@
 
 ghost use Rattle.std.specs.Prelude.{◌≡◌, ◌+◌, ◌-◌, ◌^◌, ◌<◌};
 
-use super::clients::{Coming, Evening, Port, Taking, joined, pages_of};
+use super::clients::{Evening, LimitedWriter, Port, TestNetwork, joined, pages_of};
 use super::loads::loads;
 use codes::Codes;
 use desk::perform::perform;
 use desk::{Failure, Folder, Order, copy_office, order, tell_failure, tell_words};
-use hall::{Aside, Ended, FileNumbers, Terms, serve_hall};
 use office::{Answer, Office, Run, Stop, Work};
 use register::Request;
+use server::{FileNumbers, ServeError, ServerSettings, SideJobs, serve_connections};
 use sqlite::{Alter, Connection};
 use std::alloc::{AllocError, Global};
 use std::test::Fail;
 use store::Fault;
 use votes::{Broken, Counted, Sink};
-use wire::{Gate, Given, Page};
+use wire::{Gate, HttpSettings, Page};
 
 /// One step of a script.
 #[derive(Clone, Copy, Debug)]
@@ -25,7 +25,7 @@ pub enum Step<'a> {
     /// The same, where the file that it names has these bytes.
     FileOrder(&'a [&'a str], &'a [u8]),
     /// The same of a script, where each file that it names has the bytes beside its path, and no other is there.
-    Script(&'a [u8], Shelf<'a>),
+    Script(&'a [u8], TestFiles<'a>),
     /// The same, where each of the two outputs takes no more than so many bytes.
     BreakingOrder(&'a [&'a str], &'a [u8], Rooms),
     /// A new office, and a list of requests handed to it; their answers stand as the output.
@@ -47,17 +47,17 @@ pub enum Step<'a> {
 }
 
 /// Files in memory: the path and the bytes of each.
-pub type Shelf<'a> = &'a [(&'a str, &'a [u8])];
+pub type TestFiles<'a> = &'a [(&'a str, &'a [u8])];
 
 /// What opens them, and the file that the words name.
 #[derive(Clone, Copy)]
-struct Shelved<'a> {
+struct OpenTestFiles<'a> {
     named: Option<&'a str>,
     file: Option<&'a [u8]>,
-    files: Shelf<'a>,
+    files: TestFiles<'a>,
 }
 
-impl<'a> Folder for Shelved<'a> {
+impl<'a> Folder for OpenTestFiles<'a> {
     type File = &'a [u8];
 
     fn open(&self, path: &str) -> Option<&'a [u8]> {
@@ -90,13 +90,13 @@ const AMPLE: Rooms = Rooms {
 };
 
 /// A status, and what was printed to the output and the error output.
-pub type Told<'a> = (u8, &'a str, &'a str);
+pub type StepExpected<'a> = (u8, &'a str, &'a str);
 
 /// A step, and what must come of it.
-pub type Case<'a> = (Step<'a>, Told<'a>);
+pub type Case<'a> = (Step<'a>, StepExpected<'a>);
 
 /// What an order prints where the store stopped, and never that memory was wanting.
-pub const STOPPED: Told<'static> = (3, "", "fault 102: store\n");
+pub const STOPPED: StepExpected<'static> = (3, "", "fault 102: store\n");
 
 /// What a client gets then.
 pub const STOPPED_ANSWER: &str =
@@ -104,15 +104,15 @@ pub const STOPPED_ANSWER: &str =
 
 /// What a step printed.
 #[derive(Debug, Drop)]
-pub struct Said {
+pub struct StepPrinted {
     status: u8,
     out: String,
     err: String,
 }
 
-impl Said {
-    pub fn quietly(alloc: Global, out: String) -> Said {
-        Said {
+impl StepPrinted {
+    pub fn quietly(alloc: Global, out: String) -> StepPrinted {
+        StepPrinted {
             status: 0,
             out,
             err: String::new(alloc),
@@ -129,7 +129,7 @@ impl Said {
         self.told() == STOPPED || self.out.as_str() == STOPPED_ANSWER
     }
 
-    pub fn told(&self) -> Told<'_> {
+    pub fn told(&self) -> StepExpected<'_> {
         (self.status, self.out.as_str(), self.err.as_str())
     }
 }
@@ -140,7 +140,7 @@ fn give<S: Alter + Drop, O: Sink, E: Sink>(
     conn: Connection<S>,
     words: &[&str],
     file: Option<&[u8]>,
-    shelf: Shelf<'_>,
+    shelf: TestFiles<'_>,
     out: &mut O,
     err: &mut E,
 ) -> (u8, Connection<S>)
@@ -149,7 +149,7 @@ fn give<S: Alter + Drop, O: Sink, E: Sink>(
 {
     match order(alloc, words) {
         Ok(Order::Perform(task)) => {
-            let folder = Shelved {
+            let folder = OpenTestFiles {
                 named: task.file(),
                 file,
                 files: shelf,
@@ -183,13 +183,13 @@ fn list<S: Alter + Drop>(
     alloc: Global,
     conn: Connection<S>,
     requests: &[Request],
-) -> Result<(Said, Connection<S>), Fail> {
+) -> Result<(StepPrinted, Connection<S>), Fail> {
     let Ok(mut office) = Office::create(alloc, conn) else {
         return Err(Fail::from("no office is made"));
     };
     let run = office.run(requests);
     let conn = office.into_connection();
-    Ok((Said::quietly(alloc, answered(alloc, &run)?), conn))
+    Ok((StepPrinted::quietly(alloc, answered(alloc, &run)?), conn))
 }
 
 /// A line for each batch of a clerk's work.
@@ -214,7 +214,7 @@ fn work<S: Alter + Drop>(
     alloc: Global,
     conn: Connection<S>,
     clerk: u32,
-) -> Result<(Said, Connection<S>), Fail> {
+) -> Result<(StepPrinted, Connection<S>), Fail> {
     let Ok(mut office) = Office::open_from(alloc, conn) else {
         return Err(Fail::from("no office is opened"));
     };
@@ -227,12 +227,12 @@ fn work<S: Alter + Drop>(
         }
         Err(Stop::Fault(_)) => return Err(Fail::from("no work is told")),
     };
-    Ok((Said::quietly(alloc, text), conn))
+    Ok((StepPrinted::quietly(alloc, text), conn))
 }
 
 /// The file that is served, no proxy, and no codes.
-pub const TERMS: Terms<'static> = Terms {
-    given: Given {
+pub const SERVER_SETTINGS: ServerSettings<'static> = ServerSettings {
+    http: HttpSettings {
         origin: None,
         gate: None,
     },
@@ -254,7 +254,7 @@ fn codes_of(alloc: Global, evening: Evening<'_>) -> Result<Option<Codes>, Fail> 
 }
 
 /// What the office is served by, with these codes.
-fn terms_of(held: &Option<Codes>) -> Terms<'_> {
+fn terms_of(held: &Option<Codes>) -> ServerSettings<'_> {
     let gate = match held {
         Some(codes) => Some(Gate {
             codes,
@@ -265,9 +265,9 @@ fn terms_of(held: &Option<Codes>) -> Terms<'_> {
         }),
         None => None,
     };
-    Terms {
-        given: Given { origin: None, gate },
-        file: TERMS.file,
+    ServerSettings {
+        http: HttpSettings { origin: None, gate },
+        file: SERVER_SETTINGS.file,
     }
 }
 
@@ -275,7 +275,7 @@ fn terms_of(held: &Option<Codes>) -> Terms<'_> {
 #[derive(Clone, Copy)]
 struct Unaided;
 
-impl Aside for Unaided {
+impl SideJobs for Unaided {
     fn is_whole(&self) -> bool {
         true
     }
@@ -306,8 +306,8 @@ fn serve<S: Alter + Drop>(
     alloc: Global,
     conn: Connection<S>,
     evening: Evening<'_>,
-) -> Result<(Said, Connection<S>), Fail> {
-    let pages = pages_of(alloc, evening.comers.len())?;
+) -> Result<(StepPrinted, Connection<S>), Fail> {
+    let pages = pages_of(alloc, evening.clients.len())?;
     let held = codes_of(alloc, evening)?;
     let mut office = match Office::open_from(alloc, conn) {
         Ok(office) => office,
@@ -315,7 +315,7 @@ fn serve<S: Alter + Drop>(
             let out = String::new(alloc);
             let err = format!(in alloc; "fault {}: {}\n", fault.number(), fault.text())?;
             return Ok((
-                Said {
+                StepPrinted {
                     status: 3,
                     out,
                     err,
@@ -325,8 +325,8 @@ fn serve<S: Alter + Drop>(
         }
     };
     let served = {
-        let mut coming = Coming::new(evening, &pages);
-        serve_hall(
+        let mut coming = TestNetwork::new(evening, &pages);
+        serve_connections(
             alloc,
             &mut coming,
             terms_of(&held),
@@ -339,7 +339,7 @@ fn serve<S: Alter + Drop>(
     let out = joined(alloc, pages)?;
     let err = format!(in alloc; "{served:?}")?;
     Ok((
-        Said {
+        StepPrinted {
             status: 0,
             out,
             err,
@@ -352,18 +352,25 @@ fn listen<S: Alter + Drop>(
     alloc: Global,
     conn: Connection<S>,
     port: &Port,
-) -> Result<(Said, Connection<S>), Fail> {
+) -> Result<(StepPrinted, Connection<S>), Fail> {
     let Ok(mut office) = Office::open_from(alloc, conn) else {
         return Err(Fail::from("no office is opened"));
     };
     let most = Some(port.connections);
-    let served = match port.doors.try_borrow_mut() {
-        Ok(mut doors) => serve_hall(alloc, &mut *doors, TERMS, &Unaided, most, &mut office),
-        Err(_) => Err(Ended::Doors),
+    let served = match port.network.try_borrow_mut() {
+        Ok(mut network) => serve_connections(
+            alloc,
+            &mut *network,
+            SERVER_SETTINGS,
+            &Unaided,
+            most,
+            &mut office,
+        ),
+        Err(_) => Err(ServeError::Network),
     };
     let conn = office.into_connection();
     let text = format!(in alloc; "{served:?}")?;
-    Ok((Said::quietly(alloc, text), conn))
+    Ok((StepPrinted::quietly(alloc, text), conn))
 }
 
 const TABLES: &str = "SELECT name FROM sqlite_schema WHERE type = 'table' ORDER BY name";
@@ -387,18 +394,18 @@ fn ordered<S: Alter + Drop>(
     conn: Connection<S>,
     words: &[&str],
     file: Option<&[u8]>,
-    shelf: Shelf<'_>,
+    shelf: TestFiles<'_>,
     rooms: Rooms,
-) -> Result<(Said, Connection<S>), Fail> {
-    let mut out = Taking::new(alloc, rooms.out);
-    let mut err = Taking::new(alloc, rooms.err);
+) -> Result<(StepPrinted, Connection<S>), Fail> {
+    let mut out = LimitedWriter::new(alloc, rooms.out);
+    let mut err = LimitedWriter::new(alloc, rooms.err);
     let (status, conn) = {
         let mut out = Counted::new(&mut out);
         let mut err = Counted::new(&mut err);
         give(alloc, conn, words, file, shelf, &mut out, &mut err)
     };
     let (out, err) = (out.text()?, err.text()?);
-    Ok((Said { status, out, err }, conn))
+    Ok((StepPrinted { status, out, err }, conn))
 }
 
 /// Copies the office of a connection over another.
@@ -406,23 +413,23 @@ pub fn copied<S: Alter + Drop, T: Alter + Drop>(
     alloc: Global,
     conn: &mut Connection<S>,
     copy: &mut Connection<T>,
-) -> Result<Said, Fail> {
-    let mut out = Taking::new(alloc, usize::MAX);
-    let mut err = Taking::new(alloc, usize::MAX);
+) -> Result<StepPrinted, Fail> {
+    let mut out = LimitedWriter::new(alloc, usize::MAX);
+    let mut err = LimitedWriter::new(alloc, usize::MAX);
     let status = {
         let mut out = Counted::new(&mut out);
         let mut err = Counted::new(&mut err);
         copy_office(alloc, conn, copy, &mut out, &mut err).0
     };
     let (out, err) = (out.text()?, err.text()?);
-    Ok(Said { status, out, err })
+    Ok(StepPrinted { status, out, err })
 }
 
 fn done<S: Alter + Drop>(
     alloc: Global,
     mut conn: Connection<S>,
     step: Step<'_>,
-) -> Result<(Said, Connection<S>), Fail> {
+) -> Result<(StepPrinted, Connection<S>), Fail> {
     match step {
         Step::Order(words) => ordered(alloc, conn, words, None, &[], AMPLE),
         Step::FileOrder(words, file) => ordered(alloc, conn, words, Some(file), &[], AMPLE),
@@ -437,11 +444,11 @@ fn done<S: Alter + Drop>(
         Step::Listen(port) => listen(alloc, conn, port),
         Step::Change(statements) => {
             conn.execute_batch(statements)?;
-            Ok((Said::quietly(alloc, String::new(alloc)), conn))
+            Ok((StepPrinted::quietly(alloc, String::new(alloc)), conn))
         }
         Step::Contents => {
             let text = contents(alloc, &mut conn)?;
-            Ok((Said::quietly(alloc, text), conn))
+            Ok((StepPrinted::quietly(alloc, text), conn))
         }
     }
 }
@@ -451,7 +458,7 @@ pub fn play<S: Alter + Drop>(
     alloc: Global,
     mut conn: Connection<S>,
     script: &[Step<'_>],
-) -> Result<(Vec<Said>, Connection<S>), Fail> {
+) -> Result<(Vec<StepPrinted>, Connection<S>), Fail> {
     let mut said = Vec::new(alloc);
     for step in script {
         let (last, back) = done(alloc, conn, *step)?;

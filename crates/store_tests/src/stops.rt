@@ -4,10 +4,10 @@
 mod counts;
 
 use super::begun::{BEGUN, KEYED, KEYING, NOMINATED};
-use super::clients::{Client, Evening};
+use super::clients::{Evening, TestClient};
 use super::disks::Disks;
 use super::machine::{Act, File, Machine, hear, hear_unchanged, play_acts, rows};
-use super::steps::{Case, STOPPED, STOPPED_ANSWER, Step, Told};
+use super::steps::{Case, STOPPED, STOPPED_ANSWER, Step, StepExpected};
 use super::transcripts::read;
 use std::process::Abort;
 use std::test::Fail;
@@ -19,13 +19,13 @@ pub const CALLS: u64 = 2000;
 const PAPERS: u32 = 500;
 
 /// What `init` prints where the office is there already.
-const MADE: Told<'static> = (3, "", "fault 105: wrong database\n");
+const MADE: StepExpected<'static> = (3, "", "fault 105: wrong database\n");
 
 /// What `migrate` prints where the office is at this version.
-const MIGRATED: Told<'static> = (0, "office is at version 2\n", "");
+const MIGRATED: StepExpected<'static> = (0, "office is at version 2\n", "");
 
 /// What an order prints that is given again, where all that it makes was found.
-fn told_again<'a>(case: Case<'a>, whole: bool) -> Told<'a> {
+fn told_again<'a>(case: Case<'a>, whole: bool) -> StepExpected<'a> {
     match case {
         (Step::Order(["DB", "init"]), _) if whole => MADE,
         (Step::Order(["DB", "migrate"]), _) if whole => MIGRATED,
@@ -204,7 +204,7 @@ batch 12 round 2 open
 
 /// Stops a keying over HTTP at each call of one file.
 fn stop_client<M: Machine + Drop>(rt: &(impl Abort + AllocGlobal), file: File) -> Result<(), Fail> {
-    let client = [Some(Client::whole(KEYING.as_bytes()))];
+    let client = [Some(TestClient::whole(KEYING.as_bytes()))];
     let case = (Step::Serve(Evening::of(&client)), (0, KEYED, "Ok(())"));
     let machine: M = play_acts(rt, BEGUN)?;
     stop_each(rt, machine, case, file)?;
@@ -300,7 +300,7 @@ const CLOSED_ANSWER: &str =
     "\nHTTP/1.1 503 Service Unavailable\r\nContent-Type: application/json\r\nContent-Length: 13\r\nConnection: close\r\n\r\n{\"fault\":104}";
 
 /// Where a store stopped under two clients who key in turn.
-enum Stop {
+enum StoreStop {
     AtTheOpening,
     AtTheFirst,
     BehindTheFirst,
@@ -312,24 +312,24 @@ fn stop_twice<M: Machine + Drop>(
     rt: &(impl Abort + AllocGlobal),
     machine: &M,
     calls: u64,
-) -> Result<Stop, Fail> {
-    let keying = Client::whole(KEYING.as_bytes());
+) -> Result<StoreStop, Fail> {
+    let keying = TestClient::whole(KEYING.as_bytes());
     let stopping = machine.copied(rt.alloc(), File::Log, calls)?;
     let clients = [Some(keying), Some(keying)];
     let (said, _) = stopping.play(rt.alloc(), &[Step::Serve(Evening::of(&clients))])?;
     let Some(said) = said.first() else {
-        return Ok(Stop::AtTheOpening);
+        return Ok(StoreStop::AtTheOpening);
     };
     let (_, out, _) = said.told();
     if out.starts_with(KEYED) {
-        return Ok(Stop::BehindTheFirst);
+        return Ok(StoreStop::BehindTheFirst);
     }
     let Some(second) = out.strip_prefix(STOPPED_ANSWER) else {
         assert_eq!(rt; said.told(), STOPPED);
-        return Ok(Stop::AtTheOpening);
+        return Ok(StoreStop::AtTheOpening);
     };
     assert_eq!(rt; second, CLOSED_ANSWER);
-    Ok(Stop::AtTheFirst)
+    Ok(StoreStop::AtTheFirst)
 }
 
 fn closed_says_so<M: Machine + Drop>(rt: &(impl Abort + AllocGlobal)) -> Result<(), Fail> {
@@ -337,9 +337,9 @@ fn closed_says_so<M: Machine + Drop>(rt: &(impl Abort + AllocGlobal)) -> Result<
     let mut closed = false;
     for calls in 0..CALLS {
         match stop_twice(rt, &machine, calls)? {
-            Stop::AtTheOpening => {}
-            Stop::AtTheFirst => closed = true,
-            Stop::BehindTheFirst => break,
+            StoreStop::AtTheOpening => {}
+            StoreStop::AtTheFirst => closed = true,
+            StoreStop::BehindTheFirst => break,
         }
     }
     assert!(rt; closed, "the store never stopped under a client");

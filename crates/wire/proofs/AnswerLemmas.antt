@@ -13,13 +13,13 @@ use Rattle.office.specs.declared.answers.Answer.{Answer}
 use Rattle.office.specs.declared.answers.Stop.{Stop}
 use Rattle.office.specs.declared.answers.Stop.TheVariants.{Refused, Fault as Failed}
 use Rattle.wire.proofs.OutcomeLemmas.{IsOutcome-handed}
-use Rattle.wire.specs.Asking.{AskedEntry, keying, reading}
+use Rattle.wire.specs.Requests.{HttpRequestEntry, keying, reading}
 use Rattle.wire.specs.Bodies.{KeyingEntry}
 use Rattle.wire.specs.Responses.{ResponseEntry, fault_response}
 use Rattle.wire.specs.Serving.{IsHandedOn, IsReadTold, Readies, read_response, reading_response, told_response}
 use Rattle.wire.specs.Told.{IsTold}
 use Rattle.wire.specs.declared.response.Response.{Response}
-use Rattle.wire.specs.declared.target.Reading.{Reading}
+use Rattle.wire.specs.declared.target.Resource.{Resource}
 
 -- a keying that the office answered
 pub Readies-answered : (s : OfficeState) (clerk batch : ℕ) (entry : KeyingEntry) (request : Request) (a : Answer) (response : Response) (closed : Bool) (st : State) → IsHandedOn clerk batch entry request
@@ -38,7 +38,7 @@ Readies-faulted s clerk batch entry request f response closed st is handled tell
     (fault_response (fault_number f), tells, inr (f, refl, (step_of s request, IsOutcome-handed s clerk batch entry request is, handled)))
 
 -- what was read
-pub Readies-read : {X Y : Type 0} (s : OfficeState) (what : Reading) (entry : X → ResponseEntry) (view : Y → X) (reads : Result X Reason) (r : Result Y Stop) (response : Response) (closed : Bool) (st : State)
+pub Readies-read : {X Y : Type 0} (s : OfficeState) (what : Resource) (entry : X → ResponseEntry) (view : Y → X) (reads : Result X Reason) (r : Result Y Stop) (response : Response) (closed : Bool) (st : State)
     → reading_response s what ≡ read_response entry reads → Read view s reads r closed st → IsReadTold entry view r response → Readies s (reading what) response closed st
 Readies-read s what entry view reads (Ok y) response closed st same read tells = (
   entry (view y),
@@ -53,5 +53,5 @@ Readies-read s what entry view reads (Err (Refused why)) response closed st same
 Readies-read s what entry view reads (Err (Failed f)) response closed st same read tells = (fault_response (fault_number f), tells, inr (f, refl, read))
 
 -- the same that is asked
-pub Readies-same : (s : OfficeState) (one other : AskedEntry) (response : Response) (closed : Bool) (st : State) → one ≡ other → Readies s one response closed st → Readies s other response closed st
+pub Readies-same : (s : OfficeState) (one other : HttpRequestEntry) (response : Response) (closed : Bool) (st : State) → one ≡ other → Readies s one response closed st → Readies s other response closed st
 Readies-same s one other response closed st same ready = subst (λ asked. Readies s asked response closed st) same ready

@@ -8,7 +8,7 @@ use Rattle.std.proofs.lemmas.Bool.{cases_lt, le-leb, lt-leb}
 use Rattle.std.proofs.lemmas.List.{append-nil, length-append, length-take, length-take-le, nil_from_length, take-append-le, take-append-drop, take_all}
 use borrow.Rule.Slice.PartMut.{put_mid}
 use Rattle.std.proofs.lemmas.Slice.{take-put_mid}
-use Rattle.wire.specs.Asking.{HasRead}
+use Rattle.wire.specs.Requests.{HasRead}
 use Rattle.wire.specs.Bodies.{body_in}
 
 -- a buffer whose back was filled, as it stands in its `Vec` again

@@ -7,17 +7,17 @@ use Rattle.std.proofs.lemmas.Bool.{and_parts}
 use Rattle.std.proofs.Math.Seq.{take-append_seam}
 use Rattle.httparse.specs.Spans.{name_and_value}
 use Rattle.codes.specs.Codes.{is_of}
-use Rattle.wire.specs.Asking.{AsksByHolder, HoldsCode, asked_by, asked_for, asked_in, asked_of, clerk_asked, let_in, verb_of, verb_text, wanted_by}
+use Rattle.wire.specs.Requests.{AsksByHolder, HoldsCode, asked_by, asked_for, asked_in, asked_of, clerk_asked, let_in, verb_of, verb_text, wanted_by}
 use Rattle.wire.specs.Bodies.{KeyingEntry, body_in, keying_of}
-use Rattle.wire.specs.Gates.{GateEntry, GivenEntry, clerk_under, kept_out, kept_out_by, number_before, reader_of, sent_codes, served_at}
+use Rattle.wire.specs.Gates.{GateEntry, HttpSettingsEntry, clerk_under, kept_out, kept_out_by, number_before, reader_of, sent_codes, served_at}
 use Rattle.wire.specs.Lengths.{NamedValue, body_length}
 use Rattle.wire.specs.Origins.{is_foreign}
 use Rattle.wire.specs.Targets.{IsTargetOf, is_number, most_digits, named_by, number_in}
-use Rattle.wire.specs.declared.denial.Denial.{Denial}
-use Rattle.wire.specs.declared.target.Reading.TheVariants.{Candidates, Declaration, Sheet, Work}
+use Rattle.wire.specs.declared.request_error.RequestError.{RequestError}
+use Rattle.wire.specs.declared.target.Resource.TheVariants.{Candidates, Declaration, Sheet, Work}
 use Rattle.wire.specs.declared.target.Target.{Target}
-use Rattle.wire.specs.declared.target.Target.TheVariants.{Keying, Leave, Page, Reading}
-use Rattle.wire.proofs.AskingLemmas.{AsksOneThing-all}
+use Rattle.wire.specs.declared.target.Target.TheVariants.{Keying, Leave, Page, Resource}
+use Rattle.wire.proofs.RequestLemmas.{AsksOneThing-all}
 use Rattle.wire.proofs.PartLemmas.{chosen-true}
 use Rattle.wire.proofs.PathLemmas.{NamesItsOwn-all}
 
@@ -54,17 +54,17 @@ abbrev owner_of : Target → Option ℕ
 owner_of (Keying clerk batch) = Some clerk
 owner_of (Page clerk) = Some clerk
 owner_of (Leave clerk) = Some clerk
-owner_of (Reading what) = reader_of what
+owner_of (Resource what) = reader_of what
 
 under-own : (target : List ℕ) (there : Target) (clerk : ℕ) → IsTargetOf there target → owner_of there ≡ Some clerk → clerk_under target ≡ Some clerk
 under-own target (Keying c batch) clerk (part, b, is, own, other) same = ap clerk_under is ∙ under-path part (codes "batches/" ++ (b ++ codes "/keying")) c own ∙ same
 under-own target (Page c) clerk (part, is, own) same = ap clerk_under is ∙ under-path part [] c own ∙ same
 under-own target (Leave c) clerk (part, is, own) same = ap clerk_under is ∙ under-path part (codes "leave") c own ∙ same
-under-own target (Reading (Work c)) clerk (part, is, own) same = ap clerk_under is ∙ under-path part (codes "work") c own ∙ same
-under-own target (Reading (Candidates c batch)) clerk (part, b, is, own, other) same =
+under-own target (Resource (Work c)) clerk (part, is, own) same = ap clerk_under is ∙ under-path part (codes "work") c own ∙ same
+under-own target (Resource (Candidates c batch)) clerk (part, b, is, own, other) same =
     ap clerk_under is ∙ under-path part (codes "batches/" ++ (b ++ codes "/candidates")) c own ∙ same
-under-own target (Reading (Sheet w)) clerk is same = let no : ⊥ = cc in absurd no
-under-own target (Reading (Declaration w)) clerk is same = let no : ⊥ = cc in absurd no
+under-own target (Resource (Sheet w)) clerk is same = let no : ⊥ = cc in absurd no
+under-own target (Resource (Declaration w)) clerk is same = let no : ⊥ = cc in absurd no
 
 -- ---- who isn't kept out
 
@@ -85,15 +85,15 @@ keying-his : (c batch : ℕ) (entry : Option KeyingEntry) (clerk : ℕ) → cler
 keying-his c batch None clerk is = let no : ⊥ = cc in absurd no
 keying-his c batch (Some entry) clerk is = cc
 
-his : (gate : GateEntry) (there : Target) (size : Result ℕ Denial) (behind : List ℕ) (clerk : ℕ) → clerk_asked (asked_of (Some gate) (Ok there) size behind) ≡ Some clerk → owner_of there ≡ Some clerk
+his : (gate : GateEntry) (there : Target) (size : Result ℕ RequestError) (behind : List ℕ) (clerk : ℕ) → clerk_asked (asked_of (Some gate) (Ok there) size behind) ≡ Some clerk → owner_of there ≡ Some clerk
 his gate (Keying c batch) (Ok n) behind clerk is = ap Some (keying-his c batch (option_and_then keying_of (body_in n behind)) clerk is)
 his gate (Keying c batch) (Err why) behind clerk is = let no : ⊥ = cc in absurd no
 his gate (Page c) size behind clerk is = is
 his gate (Leave c) size behind clerk is = is
-his gate (Reading what) size behind clerk is = is
+his gate (Resource what) size behind clerk is = is
 
 -- behind a gate, by what was found there
-module _ (gate : GateEntry) (fields : List NamedValue) (method target : List ℕ) (size : Result ℕ Denial) (behind : List ℕ) (clerk : ℕ) where
+module _ (gate : GateEntry) (fields : List NamedValue) (method target : List ℕ) (size : Result ℕ RequestError) (behind : List ℕ) (clerk : ℕ) where
   asked_there : (there : Option Target) → named_by target ≡ there → clerk_asked (asked_of (Some gate) (asked_for method (served_at (Some gate) there)) size behind) ≡ Some clerk
       → clerk_under target ≡ Some clerk
   asked_there None named is = let no : ⊥ = cc in absurd no
@@ -106,7 +106,7 @@ module _ (gate : GateEntry) (fields : List NamedValue) (method target : List ℕ
           let no : ⊥ = cc in
           absurd no
 
-  let_in-held : (why : Option Denial) → kept_out (Some gate) (clerk_under target) fields ≡ why
+  let_in-held : (why : Option RequestError) → kept_out (Some gate) (clerk_under target) fields ≡ why
       → clerk_asked (asked_of (Some gate) (let_in why method (served_at (Some gate) (named_by target))) size behind) ≡ Some clerk → HoldsCode gate clerk fields
   let_in-held (Some why) kept is = let no : ⊥ = cc in absurd no
   let_in-held None kept is =
@@ -118,10 +118,10 @@ module _ (gate : GateEntry) (fields : List NamedValue) (method target : List ℕ
   wanted-held false is = let_in-held (kept_out (Some gate) (clerk_under target) fields) refl is
 
 -- the clerk of what is asked holds his code
-pub AsksByHolder-all : (given : GivenEntry) (bytes : List ℕ) → AsksByHolder given bytes
-AsksByHolder-all given bytes head behind begins asked asks clerk is gate there =
+pub AsksByHolder-all : (settings : HttpSettingsEntry) (bytes : List ℕ) → AsksByHolder settings bytes
+AsksByHolder-all settings bytes head behind begins asked asks clerk is gate there =
     let fields = map name_and_value head.fields in
-    let one = AsksOneThing-all given bytes asked (asked_by given head behind) asks (inr (head, behind, begins, refl)) in
-    let own : clerk_asked (asked_by given head behind) ≡ Some clerk = ap clerk_asked (sym one) ∙ is in
-    wanted-held gate fields head.method head.target (body_length fields) behind clerk (is_foreign given.origin fields)
-    (subst (λ (g : Option GateEntry). clerk_asked (asked_of g (wanted_by (is_foreign given.origin fields) g fields head.method head.target) (body_length fields) behind) ≡ Some clerk) there own)
+    let one = AsksOneThing-all settings bytes asked (asked_by settings head behind) asks (inr (head, behind, begins, refl)) in
+    let own : clerk_asked (asked_by settings head behind) ≡ Some clerk = ap clerk_asked (sym one) ∙ is in
+    wanted-held gate fields head.method head.target (body_length fields) behind clerk (is_foreign settings.origin fields)
+    (subst (λ (g : Option GateEntry). clerk_asked (asked_of g (wanted_by (is_foreign settings.origin fields) g fields head.method head.target) (body_length fields) behind) ≡ Some clerk) there own)

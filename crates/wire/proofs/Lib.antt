@@ -8,10 +8,10 @@ pub mod RowLemmas
 pub mod PartLemmas
 pub mod PathLemmas
 pub mod LengthLemmas
-pub mod AskingLemmas
+pub mod RequestLemmas
 pub mod GateLemmas
-pub mod KnockLemmas
-pub mod LackingLemmas
+pub mod AuthenticationLemmas
+pub mod CompletenessLemmas
 pub mod ReplyLemmas
 pub mod ResponseLemmas
 pub mod OutcomeLemmas

@@ -13,11 +13,11 @@ use Rattle.matchit.specs.Seek.{first, segment, step}
 use Rattle.matchit.specs.Route.{scan}
 use Rattle.wire.proofs.RowLemmas.{Fits, Gives, GoBySlash, HasNoSlash, seek-end, seek-gives, seek-part, seek-word, steps}
 use Rattle.wire.specs.Targets.{IsTargetOf, NamesItsOwn, named_at, named_by, number_in, office_routes}
-use Rattle.wire.specs.declared.target.Place.{Place}
-use Rattle.wire.specs.declared.target.Place.TheVariants as place
-use Rattle.wire.specs.declared.target.Reading.TheVariants.{Candidates, Declaration, Sheet, Work}
+use Rattle.wire.specs.declared.target.RouteTarget.{RouteTarget}
+use Rattle.wire.specs.declared.target.RouteTarget.TheVariants as place
+use Rattle.wire.specs.declared.target.Resource.TheVariants.{Candidates, Declaration, Sheet, Work}
 use Rattle.wire.specs.declared.target.Target.{Target}
-use Rattle.wire.specs.declared.target.Target.TheVariants.{Keying, Leave, Page, Reading}
+use Rattle.wire.specs.declared.target.Target.TheVariants.{Keying, Leave, Page, Resource}
 use Rattle.wire.proofs.PartLemmas.{IsNumeric, numeric, one-part, one-taken, two-parts, walk-part, with_taken}
 
 -- ---- a target of one of the routes names something
@@ -28,14 +28,14 @@ pub record OneRoute : Type 0 where
   pub rest : List ℕ
   pub text : List ℕ
   pub name : ℕ × ℕ
-  pub to : Place
+  pub to : RouteTarget
   pub kind : ℕ → Target
 
 -- its path for a part
 abbrev path_of : OneRoute → List ℕ → List ℕ
 path_of r part = r.word ++ (part ++ (47 ∷ r.rest))
 
-abbrev route_of_one : OneRoute → RouteOf Place
+abbrev route_of_one : OneRoute → RouteOf RouteTarget
 route_of_one r = record { pattern = r.word ++ (param_token ∷ (47 ∷ r.rest)); text = r.text; names = r.name ∷ []; value = r.to }
 
 -- what is computed of such a route
@@ -49,7 +49,7 @@ pub record IsOneRoute (r : OneRoute) : Type 0 where
   pub own : (target part : List ℕ) (n : ℕ) → target ≡ path_of r part → number_in part ≡ Some n → IsTargetOf (r.kind n) target
 
 -- what a route names of a target is something whose path the target is
-abbrev NamesOwn : List ℕ → RouteOf Place → Type 0
+abbrev NamesOwn : List ℕ → RouteOf RouteTarget → Type 0
 NamesOwn target route = (there : Target) → named_at route.value (walk route.pattern route.text target route.names 0 0) ≡ Some there → IsTargetOf there target
 
 read-back : (target part : List ℕ) (kind : ℕ → Target) (there : Target) → ((n : ℕ) → number_in part ≡ Some n → IsTargetOf (kind n) target) → option_map kind (number_in part) ≡ Some there
@@ -69,7 +69,7 @@ one-own r is target fits = λ there named.
 low-path : (word part end : List ℕ) → list_all is_ascii word ≡ true → list_all is_ascii part ≡ true → list_all is_ascii end ≡ true → list_all is_ascii (word ++ (part ++ end)) ≡ true
 low-path word part end one two three = list_all-append is_ascii word (part ++ end) ∙ rw (one, list_all-append is_ascii part end, two, three) refl
 
-named-found : (target : List ℕ) (route : RouteOf Place) → list_all is_ascii target ≡ true → first office_routes target ≡ Some route
+named-found : (target : List ℕ) (route : RouteOf RouteTarget) → list_all is_ascii target ≡ true → first office_routes target ≡ Some route
     → named_by target ≡ named_at route.value (walk route.pattern route.text target route.names 0 0)
 named-found target route low found = rw (low, found) refl
 
@@ -84,7 +84,7 @@ one-named r is part n own found =
 -- ---- our routes
 
 work : OneRoute
-work = record { word = codes "/clerks/"; rest = codes "work"; text = codes "/clerks/{c}/work"; name = (9, 10); to = place.Work; kind = λ n. Reading (Work n) }
+work = record { word = codes "/clerks/"; rest = codes "work"; text = codes "/clerks/{c}/work"; name = (9, 10); to = place.Work; kind = λ n. Resource (Work n) }
 
 page : OneRoute
 page = record { word = codes "/clerks/"; rest = []; text = codes "/clerks/{c}/"; name = (9, 10); to = place.Page; kind = λ n. Page n }
@@ -93,10 +93,10 @@ leaving : OneRoute
 leaving = record { word = codes "/clerks/"; rest = codes "leave"; text = codes "/clerks/{c}/leave"; name = (9, 10); to = place.Leave; kind = λ n. Leave n }
 
 sheet : OneRoute
-sheet = record { word = codes "/wards/"; rest = codes "sheet"; text = codes "/wards/{w}/sheet"; name = (8, 9); to = place.Sheet; kind = λ n. Reading (Sheet n) }
+sheet = record { word = codes "/wards/"; rest = codes "sheet"; text = codes "/wards/{w}/sheet"; name = (8, 9); to = place.Sheet; kind = λ n. Resource (Sheet n) }
 
 declaration : OneRoute
-declaration = record { word = codes "/wards/"; rest = codes "result"; text = codes "/wards/{w}/result"; name = (8, 9); to = place.Declaration; kind = λ n. Reading (Declaration n) }
+declaration = record { word = codes "/wards/"; rest = codes "result"; text = codes "/wards/{w}/result"; name = (8, 9); to = place.Declaration; kind = λ n. Resource (Declaration n) }
 
 is-work : IsOneRoute work
 unfolding work
@@ -124,7 +124,7 @@ is-declaration = record { word_bytes = refl; rest_bytes = refl; word_low = refl;
 pub record TwoRoute : Type 0 where
   pub end : List ℕ
   pub text : List ℕ
-  pub to : Place
+  pub to : RouteTarget
   pub kind : ℕ → ℕ → Target
 
 abbrev pattern_of : TwoRoute → List ℕ
@@ -133,7 +133,7 @@ pattern_of r = codes "/clerks/" ++ (param_token ∷ (codes "/batches/" ++ (param
 abbrev two_path : TwoRoute → List ℕ → List ℕ → List ℕ
 two_path r c b = codes "/clerks/" ++ (c ++ (codes "/batches/" ++ (b ++ (47 ∷ r.end))))
 
-abbrev route_of_two : TwoRoute → RouteOf Place
+abbrev route_of_two : TwoRoute → RouteOf RouteTarget
 route_of_two r = record { pattern = pattern_of r; text = r.text; names = (9, 10) ∷ (21, 22) ∷ []; value = r.to }
 
 -- what two numbers name
@@ -178,7 +178,7 @@ keyings : TwoRoute
 keyings = record { end = codes "keying"; text = codes "/clerks/{c}/batches/{b}/keying"; to = place.Keying; kind = λ c b. Keying c b }
 
 candidates : TwoRoute
-candidates = record { end = codes "candidates"; text = codes "/clerks/{c}/batches/{b}/candidates"; to = place.Candidates; kind = λ c b. Reading (Candidates c b) }
+candidates = record { end = codes "candidates"; text = codes "/clerks/{c}/batches/{b}/candidates"; to = place.Candidates; kind = λ c b. Resource (Candidates c b) }
 
 is-keyings : IsTwoRoute keyings
 unfolding keyings
@@ -218,13 +218,13 @@ two-named r is c b clerk batch own other found =
 
 -- ---- what the routes find
 
-clerk_rows : RowsOf (RouteOf Place)
+clerk_rows : RowsOf (RouteOf RouteTarget)
 clerk_rows = steps (codes "/clerks/") office_routes
 
-batch_rows : RowsOf (RouteOf Place)
+batch_rows : RowsOf (RouteOf RouteTarget)
 batch_rows = steps (codes "/batches/") (step param_token clerk_rows)
 
-ward_rows : RowsOf (RouteOf Place)
+ward_rows : RowsOf (RouteOf RouteTarget)
 ward_rows = steps (codes "/wards/") office_routes
 
 clerks-go : GoBySlash clerk_rows
@@ -310,8 +310,8 @@ routes-own target = (
 named-own : (target : List ℕ) (there : Target) → named_by target ≡ Some there → IsTargetOf there target
 named-own target there named = by (list_all is_ascii target) (first office_routes target) (seek-gives (NamesOwn target) 0 office_routes target (routes-own target)) named
   where
-    by : (low : Bool) (found : Option (RouteOf Place)) → IfSome found (NamesOwn target)
-        → option_and_then (λ (route : RouteOf Place). named_at route.value (walk route.pattern route.text target route.names 0 0)) (if low then found else None) ≡ Some there → IsTargetOf there target
+    by : (low : Bool) (found : Option (RouteOf RouteTarget)) → IfSome found (NamesOwn target)
+        → option_and_then (λ (route : RouteOf RouteTarget). named_at route.value (walk route.pattern route.text target route.names 0 0)) (if low then found else None) ≡ Some there → IsTargetOf there target
     by false found own named = let no : ⊥ = cc in absurd no
     by true None own named = let no : ⊥ = cc in absurd no
     by true (Some route) own named = own there named
@@ -320,10 +320,10 @@ own-named : (target : List ℕ) (there : Target) → IsTargetOf there target →
 unfolding work page leaving sheet declaration keyings candidates
 own-named target (Page n) (part, is, own) = ap named_by is ∙ one-named page is-page part n own (page-found part (numeric part n own))
 own-named target (Leave n) (part, is, own) = ap named_by is ∙ one-named leaving is-leaving part n own (leaving-found part (numeric part n own))
-own-named target (Reading (Work n)) (part, is, own) = ap named_by is ∙ one-named work is-work part n own (work-found part (numeric part n own))
-own-named target (Reading (Sheet n)) (part, is, own) = ap named_by is ∙ one-named sheet is-sheet part n own (sheet-found part (numeric part n own))
-own-named target (Reading (Declaration n)) (part, is, own) = ap named_by is ∙ one-named declaration is-declaration part n own (declaration-found part (numeric part n own))
-own-named target (Reading (Candidates clerk batch)) (c, b, is, own, other) =
+own-named target (Resource (Work n)) (part, is, own) = ap named_by is ∙ one-named work is-work part n own (work-found part (numeric part n own))
+own-named target (Resource (Sheet n)) (part, is, own) = ap named_by is ∙ one-named sheet is-sheet part n own (sheet-found part (numeric part n own))
+own-named target (Resource (Declaration n)) (part, is, own) = ap named_by is ∙ one-named declaration is-declaration part n own (declaration-found part (numeric part n own))
+own-named target (Resource (Candidates clerk batch)) (c, b, is, own, other) =
     ap named_by is ∙ two-named candidates is-candidates c b clerk batch own other (candidates-found c b (numeric c clerk own) (numeric b batch other))
 own-named target (Keying clerk batch) (c, b, is, own, other) =
     ap named_by is ∙ two-named keyings is-keyings c b clerk batch own other (keyings-found c b (numeric c clerk own) (numeric b batch other))

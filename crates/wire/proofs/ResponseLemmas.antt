@@ -1,11 +1,11 @@
 -- The answers that stand fixed, letter by letter.
 use Rattle.std.proofs.Common.{◌≡◌, Some, ap, refl, ℕ}
 use Rattle.std.specs.Fmt.{digits}
-use Rattle.wire.specs.Asking.{has_left}
+use Rattle.wire.specs.Requests.{has_left}
 use Rattle.wire.specs.Responses.{clerk_kept_out, denied_response, fault_response, lines_and_body, response_bytes, shown_response, unauthorized_response, waits_response}
-use Rattle.wire.specs.declared.denial.Denial.{Denial}
-use Rattle.wire.specs.declared.denial.Denial.TheVariants.{BadRequest, Forbidden, MethodNotAllowed, NotFound, TooLarge, Unauthorized, WrongCode}
-use Rattle.wire.specs.declared.denial.Verb.TheVariants.{Get, Post}
+use Rattle.wire.specs.declared.request_error.RequestError.{RequestError}
+use Rattle.wire.specs.declared.request_error.RequestError.TheVariants.{BadRequest, Forbidden, MethodNotAllowed, NotFound, TooLarge, Unauthorized, WrongCode}
+use Rattle.wire.specs.declared.request_error.Verb.TheVariants.{Get, Post}
 use Rattle.wire.specs.declared.response.TheConstants.{BAD_REQUEST, FORBIDDEN, GONE, LEFT, NOT_FOUND, NO_MEMORY, ONLY_GET, ONLY_POST, TOO_LARGE, WAITS}
 
 pub bad_request-told : BAD_REQUEST.now ≡ response_bytes (denied_response BadRequest)
@@ -49,7 +49,7 @@ unfolding digits lines_and_body
 left-told = refl
 
 -- a denial by which a clerk's code is asked for
-pub unauthorized-told : (why : Denial) (clerk : ℕ) → clerk_kept_out why ≡ Some clerk → denied_response why ≡ unauthorized_response clerk
+pub unauthorized-told : (why : RequestError) (clerk : ℕ) → clerk_kept_out why ≡ Some clerk → denied_response why ≡ unauthorized_response clerk
 unauthorized-told (Unauthorized c) clerk is = let same : c ≡ clerk = cc in ap unauthorized_response same
 unauthorized-told (WrongCode c) clerk is = let same : c ≡ clerk = cc in ap unauthorized_response same
 unauthorized-told BadRequest clerk is = let no : ⊥ = cc in absurd no

@@ -13,7 +13,7 @@ use Rattle.matchit.specs.Rows.{RowsOf, param_token, catch_all_token}
 use Rattle.matchit.specs.Seek.{first, has_slash, longest_suffix, or_else, own, param_step, same_text, seek, segment, step, with_suffix}
 use Rattle.matchit.proofs.OnLiterals.{matchit_on_literals}
 use Rattle.wire.specs.Targets.{named_at, named_by, office_routes}
-use Rattle.wire.specs.declared.target.Place.{Place}
+use Rattle.wire.specs.declared.target.RouteTarget.{RouteTarget}
 
 -- ---- the route found is one of the rows
 
@@ -94,7 +94,7 @@ walk-text pattern text path (name ∷ names) token at own_text own_path = (
 )
 
 -- a route whose own text is ASCII
-abbrev pub HasAsciiText : RouteOf Place → Type 0
+abbrev pub HasAsciiText : RouteOf RouteTarget → Type 0
 HasAsciiText route = list_all is_ascii route.text ≡ true
 
 pub office_routes-ascii : AllRoutes HasAsciiText office_routes
@@ -102,18 +102,18 @@ unfolding matchit_on_literals
 office_routes-ascii = (refl, (refl, (refl, (refl, (refl, (refl, (refl, tt)))))))
 
 -- what the parameters of the route found took
-pub taken-text : (target : List ℕ) (route : RouteOf Place) → IsAscii target → first office_routes target ≡ Some route → AllText (walk route.pattern route.text target route.names 0 0)
+pub taken-text : (target : List ℕ) (route : RouteOf RouteTarget) → IsAscii target → first office_routes target ≡ Some route → AllText (walk route.pattern route.text target route.names 0 0)
 taken-text target route own_target found =
     let text : HasAsciiText route = subst (λ o. IfSome o HasAsciiText) found (seek-kind HasAsciiText 0 office_routes target office_routes-ascii) in
     walk-text route.pattern route.text target route.names 0 0 (IsAscii-told route.text text) own_target
 
 -- what a target names by the route found
-pub named_by-found : (target : List ℕ) (route : RouteOf Place) → IsAscii target → first office_routes target ≡ Some route
+pub named_by-found : (target : List ℕ) (route : RouteOf RouteTarget) → IsAscii target → first office_routes target ≡ Some route
     → named_by target ≡ named_at route.value (walk route.pattern route.text target route.names 0 0)
 named_by-found target route own_target found = rw (ascii_told target own_target, found) refl
 
 -- what our routes found: the text of the parameters, and what the target names
-pub route-found : (routes : RowsOf (RouteOf Place)) (target text path : List ℕ) (route : RouteOf Place) → IsAscii target → text ≡ target → path ≡ text → routes ≡ office_routes
+pub route-found : (routes : RowsOf (RouteOf RouteTarget)) (target text path : List ℕ) (route : RouteOf RouteTarget) → IsAscii target → text ≡ target → path ≡ text → routes ≡ office_routes
     → first routes text ≡ Some route
     → AllText (walk route.pattern route.text path route.names 0 0) × (named_by target ≡ named_at route.value (walk route.pattern route.text path route.names 0 0))
 route-found routes target text path route own_target same there ours found =

@@ -6,17 +6,17 @@ use Rattle.serde_json.specs.Find.{as_array, as_number, as_object, as_str, as_u64
 use Rattle.serde_json.specs.Read.{read}
 use Rattle.wire.specs.declared.body.KeyingBody.{KeyingBody}
 
--- what a body says: under which id the keying is sent, in which round, and the marks text of each paper
+-- what a body has: the id of the keying, its round, and the marks text of each paper
 pub record KeyingEntry : Type 0 where
   pub id : List ℕ
   pub round : ℕ
   pub papers : List (List ℕ)
 
--- what a body that was read says
+-- what a body has that was parsed
 abbrev pub body_entry : KeyingBody → KeyingEntry
 body_entry body = record { id = string_bytes body.id; round = body.round; papers = map string_bytes body.papers.items }
 
--- texts alone
+-- all of the values are texts
 abbrev pub texts_in : Items → Option (List (List ℕ))
 texts_in no_items = Some []
 texts_in (item first others) = option_and_then (λ text. option_map (λ texts. text ∷ texts) (texts_in others)) (as_str first)
@@ -29,7 +29,7 @@ papers_in value = option_and_then texts_in (as_array value)
 abbrev pub round_in : Data → Option ℕ
 round_in value = option_and_then (λ n. if nat_le n 4294967295 then Some n else None) (option_and_then as_u64 (as_number value))
 
--- the values of exactly these three members, which stand in the order of their names
+-- the values of exactly these three members, in the order of their names
 abbrev pub key_members : Members → Option (Data × Data × Data)
 key_members (member a id (member b papers (member c round no_members))) =
     if bytes_eq a (codes "id") && (bytes_eq b (codes "papers") && bytes_eq c (codes "round")) then Some (id, papers, round) else None
@@ -38,12 +38,12 @@ key_members (member a id (member b papers no_members)) = None
 key_members (member a id no_members) = None
 key_members no_members = None
 
--- what three values say
+-- the keying that three values give
 abbrev pub said_by : Data × Data × Data → Option KeyingEntry
 said_by (id, papers, round) =
     option_and_then (λ i. option_and_then (λ ps. option_map (λ r. record { id = i; round = r; papers = ps }) (round_in round)) (papers_in papers)) (as_str id)
 
--- what a value says
+-- the keying that a value gives
 abbrev pub keying_in : Data → Option KeyingEntry
 keying_in value = option_and_then said_by (option_and_then key_members (as_object value))
 
@@ -55,6 +55,6 @@ body_in n behind = if nat_le n (length behind) then Some (take n behind) else No
 abbrev pub json_in : List ℕ → Option Data
 json_in text = if is_utf8 text then read text else None
 
--- what a body says
+-- the keying that a body gives
 abbrev pub keying_of : List ℕ → Option KeyingEntry
 keying_of body = option_and_then keying_in (json_in body)

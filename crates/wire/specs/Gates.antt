@@ -1,4 +1,4 @@
--- Clerks' targets where codes are asked for: who is let in under a clerk's number, and who knocks there.
+-- Targets under a clerk's number at a gate: what is let in there, and the authentication of a request.
 use Rattle.std.specs.Prelude.{◌≡◌, ◌==◌, ◌∷◌, Bool, List, [], None, Option, Some, codes, drop, false, if◌then◌else◌, map, nat_eq, option_map, slice_index, take, true, ℕ}
 use Rattle.std.specs.Char.{is_ascii_digit}
 use Rattle.std.specs.List.{prefix_len, starts_with}
@@ -9,20 +9,20 @@ use Rattle.wire.specs.Heads.{BeginsWith, HasNoHead}
 use Rattle.wire.specs.Lengths.{NamedValue, values_of}
 use Rattle.wire.specs.Origins.{given_by, is_foreign}
 use Rattle.wire.specs.Targets.{number_in}
-use Rattle.wire.specs.declared.denial.Denial.{Denial}
-use Rattle.wire.specs.declared.denial.Denial.TheVariants.{Unauthorized, WrongCode}
-use Rattle.wire.specs.declared.given.Gate.{Gate}
-use Rattle.wire.specs.declared.given.Given.{Given}
-use Rattle.wire.specs.declared.given.Page.{Page}
-use Rattle.wire.specs.declared.knock.Knock.{Knock}
-use Rattle.wire.specs.declared.target.Reading.{Reading}
-use Rattle.wire.specs.declared.target.Reading.TheVariants as what
+use Rattle.wire.specs.declared.request_error.RequestError.{RequestError}
+use Rattle.wire.specs.declared.request_error.RequestError.TheVariants.{Unauthorized, WrongCode}
+use Rattle.wire.specs.declared.settings.Gate.{Gate}
+use Rattle.wire.specs.declared.settings.HttpSettings.{HttpSettings}
+use Rattle.wire.specs.declared.settings.Page.{Page}
+use Rattle.wire.specs.declared.authentication.Authentication.{Authentication}
+use Rattle.wire.specs.declared.target.Resource.{Resource}
+use Rattle.wire.specs.declared.target.Resource.TheVariants as what
 use Rattle.wire.specs.declared.target.Target.{Target}
 use Rattle.wire.specs.declared.target.Target.TheVariants as target
 
--- ---- what an office that serves was given
+-- ---- the settings of HTTP
 
--- the page on which clerks key, and what a browser lets it do
+-- the page on which clerks key, and its policy, which says what a browser lets it do
 pub record PageEntry : Type 0 where
   pub text : List ℕ
   pub policy : List ℕ
@@ -30,7 +30,7 @@ pub record PageEntry : Type 0 where
 abbrev pub page_entry : Page → PageEntry
 page_entry page = record { text = page.text.now; policy = page.policy.now }
 
--- where codes are asked for: who holds them, and the page
+-- a gate, which asks for clerks' codes: who holds them, and the page
 pub record GateEntry : Type 0 where
   pub holders : List Holder
   pub page : PageEntry
@@ -38,56 +38,60 @@ pub record GateEntry : Type 0 where
 abbrev pub gate_entry : Gate → GateEntry
 gate_entry gate = record { holders = holders_of gate.codes.now; page = page_entry gate.page }
 
--- the origin of a proxy in front, if there is one; and the gate, where codes are asked for
-pub record GivenEntry : Type 0 where
+-- the origin of a proxy in front, and the gate, if any
+pub record HttpSettingsEntry : Type 0 where
   pub origin : Option (List ℕ)
   pub gate : Option GateEntry
 
-abbrev pub given_entry : Given → GivenEntry
-given_entry given = record { origin = given_by given.origin; gate = option_map gate_entry given.gate }
+abbrev pub settings_entry : HttpSettings → HttpSettingsEntry
+settings_entry settings = record { origin = given_by settings.origin; gate = option_map gate_entry settings.gate }
 
--- ---- whose a target is
+-- neither of them
+abbrev pub given_nothing : HttpSettingsEntry
+given_nothing = record { origin = None; gate = None }
 
--- the number that stands before a slash, of so many bytes
+-- ---- the clerk of a target
+
+-- the number before a slash, of so many bytes
 abbrev pub number_before : ℕ → List ℕ → Option ℕ
 number_before n text = if slice_index text n == 47 then number_in (take n text) else None
 
--- the clerk under whose number a target stands, as `/clerks/4/..`, whether something is served there or not
+-- the clerk whose number is in a target such as `/clerks/4/..`, whether something is served there or not
 abbrev pub clerk_under : List ℕ → Option ℕ
 clerk_under target =
     if starts_with nat_eq target (codes "/clerks/") then number_before (prefix_len is_ascii_digit (drop 8 target)) (drop 8 target) else None
 
--- the clerk of what may be read, if it is a clerk's
-abbrev pub reader_of : Reading → Option ℕ
+-- the clerk of what may be read, if it is for a clerk
+abbrev pub reader_of : Resource → Option ℕ
 reader_of (what.Work clerk) = Some clerk
 reader_of (what.Candidates clerk batch) = Some clerk
 reader_of (what.Sheet ward) = None
 reader_of (what.Declaration ward) = None
 
--- the candidates of a batch are served at a gate alone
-abbrev pub reading_needs_gate : Reading → Bool
+-- the candidates of a batch are served at a gate only
+abbrev pub reading_needs_gate : Resource → Bool
 reading_needs_gate (what.Work clerk) = false
 reading_needs_gate (what.Candidates clerk batch) = true
 reading_needs_gate (what.Sheet ward) = false
 reading_needs_gate (what.Declaration ward) = false
 
--- and so are the page, and leaving
+-- and so are the page, and signing out
 abbrev pub needs_gate : Target → Bool
 needs_gate (target.Keying clerk batch) = false
 needs_gate (target.Page clerk) = true
 needs_gate (target.Leave clerk) = true
-needs_gate (target.Reading reading) = reading_needs_gate reading
+needs_gate (target.Resource reading) = reading_needs_gate reading
 
--- what is served at a gate, or where there is none
+-- what is served, at a gate or without one
 abbrev pub served_at : Option GateEntry → Option Target → Option Target
 served_at gate None = None
 served_at None (Some there) = if needs_gate there then None else Some there
 served_at (Some gate) (Some there) = Some there
 
--- ---- who is let in
+-- ---- what is let in
 
--- who isn't let in under a clerk's number, by the values of `Authorization`: one is let in, who sends it once, and whose it is
-abbrev pub kept_out_by : List Holder → ℕ → List (List ℕ) → Option Denial
+-- Why authentication of a clerk failed, by the values of `Authorization`. It succeeds with exactly one value, which is that clerk's.
+abbrev pub kept_out_by : List Holder → ℕ → List (List ℕ) → Option RequestError
 kept_out_by holders clerk [] = Some (Unauthorized clerk)
 kept_out_by holders clerk (value ∷ []) = if is_of holders clerk value then None else Some (WrongCode clerk)
 kept_out_by holders clerk (value ∷ other ∷ more) = Some (WrongCode clerk)
@@ -96,39 +100,39 @@ kept_out_by holders clerk (value ∷ other ∷ more) = Some (WrongCode clerk)
 abbrev pub sent_codes : List NamedValue → List (List ℕ)
 sent_codes fields = values_of (codes "authorization") fields
 
--- who isn't let in, by the clerk under whose number a target stands, if under any
-abbrev pub kept_out : Option GateEntry → Option ℕ → List NamedValue → Option Denial
+-- why authentication failed, by the clerk whose number is in the target, if one is
+abbrev pub kept_out : Option GateEntry → Option ℕ → List NamedValue → Option RequestError
 kept_out None clerk fields = None
 kept_out (Some gate) None fields = None
 kept_out (Some gate) (Some clerk) fields = kept_out_by gate.holders clerk (sent_codes fields)
 
--- ---- who knocks
+-- ---- authentication
 
 -- under which clerk's number, and whether with a wrong code
-pub record KnockEntry : Type 0 where
+pub record AuthenticationEntry : Type 0 where
   pub clerk : ℕ
   pub is_wrong : Bool
 
-abbrev pub knock_entry : Knock → KnockEntry
-knock_entry knock = record { clerk = knock.clerk; is_wrong = knock.is_wrong }
+abbrev pub authentication_entry : Authentication → AuthenticationEntry
+authentication_entry authentication = record { clerk = authentication.clerk; is_wrong = authentication.is_wrong }
 
--- a code was sent, and it is wrong
-abbrev pub is_wrong_code : Option Denial → Bool
+-- a code was sent, and is wrong
+abbrev pub is_wrong_code : Option RequestError → Bool
 is_wrong_code None = false
 is_wrong_code (Some (WrongCode clerk)) = true
 is_wrong_code (Some other) = false
 
--- the knock of a request under a clerk's number, where codes are asked for
-abbrev pub knock_by : Option GateEntry → Option ℕ → List NamedValue → Option KnockEntry
-knock_by None clerk fields = None
-knock_by (Some gate) None fields = None
-knock_by (Some gate) (Some clerk) fields = Some (record { clerk = clerk; is_wrong = is_wrong_code (kept_out_by gate.holders clerk (sent_codes fields)) })
+-- the authentication of a request under a clerk's number, at a gate
+abbrev pub authentication_by : Option GateEntry → Option ℕ → List NamedValue → Option AuthenticationEntry
+authentication_by None clerk fields = None
+authentication_by (Some gate) None fields = None
+authentication_by (Some gate) (Some clerk) fields = Some (record { clerk = clerk; is_wrong = is_wrong_code (kept_out_by gate.holders clerk (sent_codes fields)) })
 
--- the same of a request with these header fields and this target; a foreign one doesn't knock
-abbrev pub knock_at : GivenEntry → List NamedValue → List ℕ → Option KnockEntry
-knock_at given fields target = if is_foreign given.origin fields then None else knock_by given.gate (clerk_under target) fields
+-- the same for a request with these header fields and this target; a foreign one has none
+abbrev pub authentication_at : HttpSettingsEntry → List NamedValue → List ℕ → Option AuthenticationEntry
+authentication_at settings fields target = if is_foreign settings.origin fields then None else authentication_by settings.gate (clerk_under target) fields
 
--- how the bytes knock that a client sends: as their head does; without a head they don't
-pub record IsKnock (given : GivenEntry) (bytes : List ℕ) (found : Option KnockEntry) : Type 0 where
-  pub headed : (head : RequestHead) (behind : List ℕ) → BeginsWith bytes head behind → found ≡ knock_at given (map name_and_value head.fields) head.target
+-- the authentication of the bytes that a client sends: that of their head; without a head there is none
+pub record IsAuthentication (settings : HttpSettingsEntry) (bytes : List ℕ) (found : Option AuthenticationEntry) : Type 0 where
+  pub headed : (head : RequestHead) (behind : List ℕ) → BeginsWith bytes head behind → found ≡ authentication_at settings (map name_and_value head.fields) head.target
   pub headless : HasNoHead bytes → found ≡ None

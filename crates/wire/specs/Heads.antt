@@ -21,7 +21,7 @@ pub record BeginsWith (bytes : List ℕ) (head : RequestHead) (behind : List ℕ
 abbrev pub HasNoHead : List ℕ → Type 0
 HasNoHead bytes = (head : RequestHead) (behind : List ℕ) → ¬ (BeginsWith bytes head behind)
 
--- what was read has no whole head yet, may still become one (as `httparse` says), and isn't as long as a head may be
+-- what was read has no complete head yet, may still become one (according to `httparse`), and isn't as long as a head may be
 pub record IsHeadWanting (got : List ℕ) : Type 0 where
   pub none : HasNoHead got
   pub may : MayBecomeRequest got

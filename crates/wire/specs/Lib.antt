@@ -5,8 +5,8 @@ pub mod Lengths
 pub mod Origins
 pub mod Bodies
 pub mod Gates
-pub mod Asking
-pub mod Lacking
+pub mod Requests
+pub mod Completeness
 pub mod Replies
 pub mod Responses
 pub mod Told

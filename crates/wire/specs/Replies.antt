@@ -1,4 +1,4 @@
--- The JSON of answers: each body letter by letter, and the value that it is written for.
+-- The JSON of responses: each body letter by letter, and the value that it is written for.
 use Rattle.std.specs.Prelude.{List, ◌++◌, codes, decimal, map, ℕ}
 use Rattle.json.specs.Print.{quoted}
 use Rattle.serde_json.specs.Data.{Data, array, boolean, member, no_members, number, object, string, unsigned}
@@ -58,7 +58,7 @@ work_body clerk work = compact_text (clerk_data clerk work)
 abbrev pub candidate_data : CandidateEntry → Data
 candidate_data c = object (member (codes "candidate") (number_data c.number) (member (codes "name") (string c.name) no_members))
 
--- what stands on the papers of a batch: its ward with its name, and the candidates there
+-- what is on the papers of a batch: its ward with its name, and the candidates there
 abbrev pub paper_data : ℕ → BallotPaperEntry → Data
 paper_data batch p = object
     (member (codes "batch") (number_data batch)

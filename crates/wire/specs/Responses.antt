@@ -1,15 +1,15 @@
--- The bytes of an answer over HTTP.
+-- The bytes of a response over HTTP.
 use Rattle.std.specs.Prelude.{◌∷◌, List, [], ◌++◌, Option, Some, None, codes, decimal, length, unwrap_or, ℕ}
 use Rattle.http.specs.StatusCode.{reason_phrase}
-use Rattle.wire.specs.Asking.{ShowEntry, has_left, page, verb_text}
+use Rattle.wire.specs.Requests.{ShowEntry, has_left, page, verb_text}
 use Rattle.wire.specs.Replies.{fault_body, refusal_body, reply_body}
-use Rattle.wire.specs.declared.denial.Denial.{Denial}
-use Rattle.wire.specs.declared.denial.Denial.TheVariants.{BadRequest, Forbidden, MethodNotAllowed, NotFound, TooLarge, Unauthorized, WrongCode}
-use Rattle.wire.specs.declared.denial.Verb.{Verb}
+use Rattle.wire.specs.declared.request_error.RequestError.{RequestError}
+use Rattle.wire.specs.declared.request_error.RequestError.TheVariants.{BadRequest, Forbidden, MethodNotAllowed, NotFound, TooLarge, Unauthorized, WrongCode}
+use Rattle.wire.specs.declared.request_error.Verb.{Verb}
 use Rattle.wire.specs.declared.response.Content.{Content}
 use Rattle.wire.specs.declared.response.Content.TheVariants.{Html, Json, Text}
 
--- What a line of an answer says beside its body: nothing; the verb that is served; that a clerk's code is asked for; or that he is to wait a minute. Or it says
+-- What the further header lines of a response say: nothing; the verb that is served; that a clerk's code is asked for; or that the client must wait a minute. Or they say
 -- what a browser may do with a page, by its policy; or that it is to forget a code.
 pub data More : Type 0 where
   nothing : More
@@ -19,14 +19,14 @@ pub data More : Type 0 where
   guards : List ℕ → More
   forgets : More
 
--- an answer: its status; what it says beside; and its body, with what kind of text that is
+-- a response: its status, its further header lines, and its body with its media type
 pub record ResponseEntry : Type 0 where
   pub status : ℕ
   pub more : More
   pub content : Content
   pub body : List ℕ
 
--- ---- how an answer is written
+-- ---- how a response is written
 
 -- the end of a line
 abbrev pub line_end : List ℕ
@@ -42,11 +42,11 @@ media_type Text = codes "text/plain; charset=utf-8"
 media_type Json = codes "application/json"
 media_type Html = codes "text/html; charset=utf-8"
 
--- the line that asks for a clerk's code; its realm names the clerk, so that no browser sends another one's
+-- the line that asks for a clerk's code; its realm names the clerk, so that no browser sends another clerk's
 unfoldable pub code_line : ℕ → List ℕ
 code_line clerk = codes "WWW-Authenticate: Basic realm=\"clerk " ++ (decimal clerk ++ (codes "\", charset=\"UTF-8\"" ++ line_end))
 
--- the lines that keep a page as it is: by its policy; in no frame; taken for nothing else; apart from windows and pages of other servers; kept nowhere
+-- the lines that guard a page: its policy; in no frame; no other media type; separate from windows and pages of other servers; not stored
 unfoldable pub guard_lines : List ℕ → List ℕ
 guard_lines policy =
     codes "Content-Security-Policy: " ++ (policy ++ (line_end
@@ -57,7 +57,7 @@ guard_lines policy =
     ++ (codes "Cross-Origin-Resource-Policy: same-origin" ++ (line_end
     ++ (codes "Cache-Control: no-store" ++ line_end)))))))))))))
 
--- the lines of what is said beside
+-- the further header lines
 abbrev pub more_lines : More → List ℕ
 more_lines nothing = []
 more_lines (allows verb) = codes "Allow: " ++ (verb_text verb ++ line_end)
@@ -66,7 +66,7 @@ more_lines waits = codes "Retry-After: 60" ++ line_end
 more_lines (guards policy) = guard_lines policy
 more_lines forgets = codes "Clear-Site-Data: \"cookies\"" ++ (line_end ++ (codes "Cache-Control: no-store" ++ line_end))
 
--- the lines of an answer, an empty line, and the body
+-- the header lines of a response, an empty line, and the body
 unfoldable pub lines_and_body : ℕ → List ℕ → List ℕ → ℕ → List ℕ → List ℕ → List ℕ
 lines_and_body status its_phrase its_type size beside body =
     codes "HTTP/1.1 " ++ (decimal status ++ (codes " " ++ (its_phrase ++ (line_end
@@ -77,13 +77,13 @@ lines_and_body status its_phrase its_type size beside body =
     ++ (line_end
     ++ body))))))))))))))
 
--- the bytes of an answer
+-- the bytes of a response
 abbrev pub response_bytes : ResponseEntry → List ℕ
 response_bytes r = lines_and_body r.status (phrase r.status) (media_type r.content) (length r.body) (more_lines r.more) r.body
 
--- ---- the answers
+-- ---- the responses
 
--- an answer whose body is JSON
+-- a response whose body is JSON
 abbrev pub json_response : ℕ → List ℕ → ResponseEntry
 json_response status body = record { status = status; more = nothing; content = Json; body = body }
 
@@ -95,13 +95,13 @@ text_response text = record { status = 200; more = nothing; content = Text; body
 abbrev pub unauthorized_response : ℕ → ResponseEntry
 unauthorized_response clerk = record { status = 401; more = asks_code clerk; content = Json; body = codes "{\"error\":\"unauthorized\"}" }
 
--- the clerk whose code is asked for by a denial, if one's is
-abbrev pub clerk_kept_out : Denial → Option ℕ
+-- the clerk whose code is asked for, if the error is about one's
+abbrev pub clerk_kept_out : RequestError → Option ℕ
 clerk_kept_out (Unauthorized clerk) = Some clerk
 clerk_kept_out (WrongCode clerk) = Some clerk
 clerk_kept_out other = None
 
--- that a clerk is to wait
+-- that the client must wait
 abbrev pub waits_response : ResponseEntry
 waits_response = record { status = 429; more = waits; content = Json; body = codes "{\"error\":\"too many wrong codes\"}" }
 
@@ -110,8 +110,8 @@ abbrev pub shown_response : ShowEntry → ResponseEntry
 shown_response (page its) = record { status = 200; more = guards its.policy; content = Html; body = its.text }
 shown_response has_left = record { status = 200; more = forgets; content = Json; body = codes "{\"left\":true}" }
 
--- why a request is denied
-abbrev pub denied_response : Denial → ResponseEntry
+-- why a request is rejected
+abbrev pub denied_response : RequestError → ResponseEntry
 denied_response BadRequest = json_response 400 (codes "{\"error\":\"bad request\"}")
 denied_response Forbidden = json_response 403 (codes "{\"error\":\"forbidden\"}")
 denied_response NotFound = json_response 404 (codes "{\"error\":\"not found\"}")

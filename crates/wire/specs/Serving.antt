@@ -1,4 +1,4 @@
--- What is answered at a state of the office, and what a connection leaves.
+-- The response at a state of the office, and what a connection leaves.
 use Rattle.std.specs.Prelude.{◌≡◌, ◌⊎◌, ◌∷◌, ⊤, Bool, List, [], Option, Result, Ok, Err, IfSome, map, string_bytes, ℕ}
 use Rattle.std.specs.Io.KnownBytes.{Appends}
 use Rattle.sqlite.specs.State.{State}
@@ -20,24 +20,24 @@ use Rattle.office.specs.Sheets.{text_told}
 use Rattle.office.specs.declared.answers.Stop.{Stop}
 use Rattle.office.specs.declared.answers.Stop.TheVariants.{Refused, Fault as Failed}
 use Rattle.office.specs.declared.sheets.Text.TheVariants as text
-use Rattle.wire.specs.Asking.{AskedEntry, Asks, ShowEntry, denied, keying, reading, shown}
+use Rattle.wire.specs.Requests.{HttpRequestEntry, Asks, ShowEntry, denied, keying, reading, shown}
 use Rattle.wire.specs.Bodies.{KeyingEntry}
-use Rattle.wire.specs.Gates.{GivenEntry}
+use Rattle.wire.specs.Gates.{HttpSettingsEntry}
 use Rattle.wire.specs.Replies.{paper_body, work_body}
 use Rattle.wire.specs.Responses.{ResponseEntry, denied_response, fault_response, json_response, refusal_response, reply_response, shown_response, text_response}
 use Rattle.wire.specs.Told.{IsTold, IsWritten, told_bytes}
-use Rattle.wire.specs.declared.denial.Denial.{Denial}
+use Rattle.wire.specs.declared.request_error.RequestError.{RequestError}
 use Rattle.wire.specs.declared.response.Response.{Response}
 use Rattle.wire.specs.declared.serving.Served.{Served}
 use Rattle.wire.specs.declared.serving.Served.TheVariants.{Answered, ReadFailed, WriteFailed}
-use Rattle.wire.specs.declared.target.Reading.{Reading}
-use Rattle.wire.specs.declared.target.Reading.TheVariants.{Candidates, Declaration, Sheet, Work}
+use Rattle.wire.specs.declared.target.Resource.{Resource}
+use Rattle.wire.specs.declared.target.Resource.TheVariants.{Candidates, Declaration, Sheet, Work}
 
 -- the refusal for a reason
 abbrev pub refused_for : Reason → ResponseEntry
 refused_for why = refusal_response (reason_number why) (reason_text why)
 
--- the answer for what the office said to a keying
+-- the response for the office's answer to a keying
 abbrev pub told_response : Told → ResponseEntry
 told_response (done reply) = reply_response reply
 told_response (again reply) = reply_response reply
@@ -56,14 +56,14 @@ work_response clerk work = json_response 200 (work_body clerk work)
 abbrev pub paper_response : ℕ → BallotPaperEntry → ResponseEntry
 paper_response batch paper = json_response 200 (paper_body batch paper)
 
--- the answer to a reading at a state
-abbrev pub reading_response : OfficeState → Reading → ResponseEntry
+-- the response to a read at a state
+abbrev pub reading_response : OfficeState → Resource → ResponseEntry
 reading_response s (Work clerk) = read_response (work_response clerk) (work_told s clerk)
 reading_response s (Candidates clerk batch) = read_response (paper_response batch) (paper_told s clerk batch)
 reading_response s (Sheet ward) = read_response text_response (text_told text.Sheet s ward)
 reading_response s (Declaration ward) = read_response text_response (text_told text.Declaration s ward)
 
--- the request that a clerk's keying of a batch is handed on as
+-- the request as which a clerk's keying of a batch is sent to the office
 pub record IsHandedOn (clerk batch : ℕ) (entry : KeyingEntry) (request : Request) : Type 0 where
   pub actor : request.actor ≡ clerk
   pub id : string_bytes request.id ≡ entry.id
@@ -73,14 +73,14 @@ pub record IsHandedOn (clerk batch : ℕ) (entry : KeyingEntry) (request : Reque
   pub round : handed.round ≡ entry.round
   pub papers : map string_bytes handed.papers.items ≡ entry.papers
 
--- the outcome of a clerk's keying at a state: that of each request as which the keying may be handed on
+-- the outcome of a clerk's keying at a state: that of each request as which the keying may be sent to the office
 pub record IsOutcome (s : OfficeState) (clerk batch : ℕ) (entry : KeyingEntry) (outcome : Outcome) : Type 0 where
   pub request : Request
   pub is : IsHandedOn clerk batch entry request
   pub each : (other : Request) → IsHandedOn clerk batch entry other → outcome ≡ step_of s other
 
--- the answer to what is asked at a state, and the state after it
-abbrev pub IsAnswer : OfficeState → AskedEntry → OfficeState → ResponseEntry → Type 0
+-- the response to what is asked at a state, and the state after it
+abbrev pub IsAnswer : OfficeState → HttpRequestEntry → OfficeState → ResponseEntry → Type 0
 IsAnswer s (denied why) next answer = (next ≡ s) × (answer ≡ denied_response why)
 IsAnswer s (shown clerk show) next answer = (next ≡ s) × (answer ≡ shown_response show)
 IsAnswer s (reading what) next answer = (next ≡ s) × (answer ≡ reading_response s what)
@@ -90,134 +90,134 @@ IsAnswer s (keying clerk batch entry) next answer =
 -- ---- what each exit leaves
 
 -- the office is open at the state after what was asked
-pub record IsAnswered (s : OfficeState) (asked : AskedEntry) (answer : ResponseEntry) (closed : Bool) (st : State) : Type 0 where
+pub record IsAnswered (s : OfficeState) (asked : HttpRequestEntry) (answer : ResponseEntry) (closed : Bool) (st : State) : Type 0 where
   pub next : OfficeState
   pub is : IsAnswer s asked next answer
   pub open_at : IsOpenAt next closed st
 
--- what a fault of the office leaves: the office as it was, or closed; then a stop leaves the state before, or, of a keying that is
--- accepted, the one after
-abbrev pub FaultLeaves : OfficeState → AskedEntry → Fault → Bool → State → Type 0
+-- What a fault of the office leaves: the office as it was, or closed. Then a stop leaves the state before, or, for a keying that is accepted, the one after.
+abbrev pub FaultLeaves : OfficeState → HttpRequestEntry → Fault → Bool → State → Type 0
 FaultLeaves s (denied why) f closed st = ⊥
 FaultLeaves s (shown clerk show) f closed st = ⊥
 FaultLeaves s (reading what) f closed st = IsKeptOpen s f closed st ⊎ IsClosedReading s f closed st
 FaultLeaves s (keying clerk batch entry) f closed st =
     (outcome : Outcome) × IsOutcome s clerk batch entry outcome × (IsKeptOpen s f closed st ⊎ IsClosedIn s outcome f closed st)
 
--- an answer to what is asked and what it leaves, or the fault that the office met
-abbrev pub Leaves : OfficeState → AskedEntry → ResponseEntry → Bool → State → Type 0
+-- the response to what is asked and what it leaves, or the fault that the office met
+abbrev pub Leaves : OfficeState → HttpRequestEntry → ResponseEntry → Bool → State → Type 0
 Leaves s asked answer closed st =
     IsAnswered s asked answer closed st ⊎ ((f : Fault) × (answer ≡ fault_response (fault_number f)) × FaultLeaves s asked f closed st)
 
--- the same of an answer that is ready to be written, for which memory may be wanting
-abbrev pub Readies : OfficeState → AskedEntry → Response → Bool → State → Type 0
+-- the same for a response that is ready to be written, for which an allocation may fail
+abbrev pub Readies : OfficeState → HttpRequestEntry → Response → Bool → State → Type 0
 Readies s asked response closed st = (answer : ResponseEntry) × IsTold answer response × Leaves s asked answer closed st
 
--- an answer that is ready has what a read gave, by a view of it
+-- a response that is ready has the result of a read, seen through a view
 abbrev pub IsReadTold : {X Y : Type 0} → (X → ResponseEntry) → (Y → X) → Result Y Stop → Response → Type 0
 IsReadTold entry view (Ok y) response = IsTold (entry (view y)) response
 IsReadTold entry view (Err (Refused why)) response = IsTold (refused_for why) response
 IsReadTold entry view (Err (Failed f)) response = IsTold (fault_response (fault_number f)) response
 
--- ---- what is answered, and what is handed on for it
+-- ---- the response, and what the office is sent for it
 
--- the requests that are handed on for what is asked at a state, and the answer: a clerk's keying is handed on, and the answer is what the office says to it
-abbrev pub TellsAsked : OfficeState → AskedEntry → Response → List Request → Type 0
+-- The requests that the office is sent for what is asked at a state, and the response. A clerk's keying is sent, and the response is the office's answer to it.
+abbrev pub TellsAsked : OfficeState → HttpRequestEntry → Response → List Request → Type 0
 TellsAsked s (denied why) response sent = IsTold (denied_response why) response × (sent ≡ [])
 TellsAsked s (shown clerk show) response sent = IsTold (shown_response show) response × (sent ≡ [])
 TellsAsked s (reading what) response sent = IsTold (reading_response s what) response × (sent ≡ [])
 TellsAsked s (keying clerk batch entry) response sent =
     (request : Request) × IsHandedOn clerk batch entry request × IsTold (told_response (told_of (step_of s request))) response × (sent ≡ request ∷ [])
 
--- the answer is a fault (503): the store failed, or memory was wanting
+-- the response is a fault (503): the store or an allocation failed
 abbrev pub TellsFault : Response → Type 0
 TellsFault response = IsTold (fault_response (fault_number Store)) response
 
--- the answer is the one to what is asked; or memory was wanting, and nothing was handed on, or what was is as if it had never come
-abbrev pub TellsFor : GivenEntry → Option (List ℕ) → OfficeState → List Request → Response → Type 0
-TellsFor given bytes s sent response = ((asked : AskedEntry) × IfSome bytes (λ xs. Asks given xs asked) × TellsAsked s asked response sent) ⊎ (IsWritten (fault_response 101) response × (sent ≡ []))
+-- The response is the one to what is asked. Or an allocation failed, and the office was sent nothing, or what it was sent is as if it had never come.
+abbrev pub TellsFor : HttpSettingsEntry → Option (List ℕ) → OfficeState → List Request → Response → Type 0
+TellsFor settings bytes s sent response = ((asked : HttpRequestEntry) × IfSome bytes (λ xs. Asks settings xs asked)
+    × TellsAsked s asked response sent) ⊎ (IsWritten (fault_response 101) response × (sent ≡ []))
 
 -- ---- a closed office
 
--- its answer to what is asked: what is denied is denied, what is shown whatever the state is is shown, and everything else meets the fault that it is closed
-abbrev pub closed_response : AskedEntry → ResponseEntry
+-- Its response to what is asked. What is rejected is rejected, what is shown whatever the state is is shown, and everything else meets the fault that the office is closed.
+abbrev pub closed_response : HttpRequestEntry → ResponseEntry
 closed_response (denied why) = denied_response why
 closed_response (shown clerk show) = shown_response show
 closed_response (reading what) = fault_response (fault_number Closed)
 closed_response (keying clerk batch entry) = fault_response (fault_number Closed)
 
--- a request that is denied, as a page's from elsewhere, is answered the same at every state, and by a closed office too; it changes nothing
-abbrev pub IsDeniedAlike : Denial → Type 0
+-- The response to a rejected request, such as one of a page from elsewhere, is the same at every state, and for a closed office too. It changes nothing.
+abbrev pub IsDeniedAlike : RequestError → Type 0
 IsDeniedAlike why =
     (s t next : OfficeState) (answer : ResponseEntry) → IsAnswer s (denied why) next answer → (next ≡ s) × IsAnswer t (denied why) t answer × (answer ≡ closed_response (denied why))
 
--- so is what is shown whatever the state is
+-- the same for what is shown whatever the state is
 abbrev pub IsShownAlike : ShowEntry → Type 0
 IsShownAlike show =
     (clerk : ℕ) (s t next : OfficeState) (answer : ResponseEntry) → IsAnswer s (shown clerk show) next answer
     → (next ≡ s) × IsAnswer t (shown clerk show) t answer × (answer ≡ closed_response (shown clerk show))
 
--- this answer is ready to be written, and where the client's bytes are known, they ask just that
-pub record TellsClosed (given : GivenEntry) (bytes : Option (List ℕ)) (response : Response) : Type 0 where
-  pub asked : AskedEntry
-  pub asks : IfSome bytes (λ xs. Asks given xs asked)
+-- this response is ready to be written, and if the client's bytes are known, they ask exactly that
+pub record TellsClosed (settings : HttpSettingsEntry) (bytes : Option (List ℕ)) (response : Response) : Type 0 where
+  pub asked : HttpRequestEntry
+  pub asks : IfSome bytes (λ xs. Asks settings xs asked)
   pub tells : IsTold (closed_response asked) response
 
--- that; or memory was wanting to read what he asks
-abbrev pub ReadiesClosed : GivenEntry → Option (List ℕ) → Response → Type 0
-ReadiesClosed given bytes response = TellsClosed given bytes response ⊎ IsWritten (fault_response 101) response
+-- that; or the allocation for reading the request failed
+abbrev pub ReadiesClosed : HttpSettingsEntry → Option (List ℕ) → Response → Type 0
+ReadiesClosed settings bytes response = TellsClosed settings bytes response ⊎ IsWritten (fault_response 101) response
 
 -- ---- one connection
 
--- the answer to what a client asks is ready, with what it leaves, and where his bytes are known, they ask just that
-pub record ReadiesAsked (given : GivenEntry) (bytes : Option (List ℕ)) (s : OfficeState) (response : Response) (closed : Bool) (st : State) : Type 0 where
-  pub asked : AskedEntry
-  pub asks : IfSome bytes (λ xs. Asks given xs asked)
+-- the response to what a client asks is ready, with what it leaves; if the client's bytes are known, they ask exactly that
+pub record ReadiesAsked (settings : HttpSettingsEntry) (bytes : Option (List ℕ)) (s : OfficeState) (response : Response) (closed : Bool) (st : State) : Type 0 where
+  pub asked : HttpRequestEntry
+  pub asks : IfSome bytes (λ xs. Asks settings xs asked)
   pub readies : Readies s asked response closed st
 
--- that; or memory was wanting to read what he asks, and nothing was handed on
-abbrev pub ReadiesFor : GivenEntry → Option (List ℕ) → OfficeState → Response → Bool → State → Type 0
-ReadiesFor given bytes s response closed st = ReadiesAsked given bytes s response closed st ⊎ (IsWritten (fault_response 101) response × IsOpenAt s closed st)
+-- that; or the allocation for reading the request failed, and the office was sent nothing
+abbrev pub ReadiesFor : HttpSettingsEntry → Option (List ℕ) → OfficeState → Response → Bool → State → Type 0
+ReadiesFor settings bytes s response closed st = ReadiesAsked settings bytes s response closed st ⊎ (IsWritten (fault_response 101) response × IsOpenAt s closed st)
 
--- an answer was written whole, or, where the writer failed, a beginning of it
+-- a response was written whole; or a beginning of it, if the writer failed
 abbrev pub IsPut : Option (List ℕ) → Option (List ℕ) → Response → Served → Type 0
 IsPut old new response (Answered status) = (status ≡ response.status) × Appends old new (told_bytes response.bytes)
 IsPut old new response ReadFailed = ⊥
 IsPut old new response WriteFailed = AppendsBeginning old new (told_bytes response.bytes)
 
--- an answer that was ready, and what was written of it
+-- a response that was ready, and what was written of it
 pub record IsServed (IsReady : Response → Type 0) (old new : Option (List ℕ)) (served : Served) : Type 0 where
   pub response : Response
   pub ready : IsReady response
   pub put : IsPut old new response served
 
--- how a connection ended: an answer that was ready was put; or the reader failed
+-- how a connection ended: a response that was ready was written; or the reader failed
 abbrev pub EndsWith : (Response → Type 0) → Type 0 → Option (List ℕ) → Option (List ℕ) → Served → Type 0
-EndsWith IsReady Unread old new (Answered status) = IsServed IsReady old new (Answered status)
-EndsWith IsReady Unread old new ReadFailed = Unread
-EndsWith IsReady Unread old new WriteFailed = IsServed IsReady old new WriteFailed
+EndsWith IsReady ReadFailure old new (Answered status) = IsServed IsReady old new (Answered status)
+EndsWith IsReady ReadFailure old new ReadFailed = ReadFailure
+EndsWith IsReady ReadFailure old new WriteFailed = IsServed IsReady old new WriteFailed
 
--- what each end of a connection gives and leaves: where the reader failed, nothing was handed on
-abbrev pub Serves : GivenEntry → Option (List ℕ) → Option (List ℕ) → Option (List ℕ) → OfficeState → Served → Bool → State → Type 0
-Serves given bytes old new s served closed st = EndsWith (λ response. ReadiesFor given bytes s response closed st) (IsOpenAt s closed st) old new served
+-- what each end of a connection gives and leaves; if the reader failed, the office was sent nothing
+abbrev pub Serves : HttpSettingsEntry → Option (List ℕ) → Option (List ℕ) → Option (List ℕ) → OfficeState → Served → Bool → State → Type 0
+Serves settings bytes old new s served closed st = EndsWith (λ response. ReadiesFor settings bytes s response closed st) (IsOpenAt s closed st) old new served
 
--- what each end of a connection gives where the office is closed: where the reader failed, nothing was written
-abbrev pub ServesClosed : GivenEntry → Option (List ℕ) → Option (List ℕ) → Option (List ℕ) → Served → Type 0
-ServesClosed given bytes old new served = EndsWith (ReadiesClosed given bytes) (new ≡ old) old new served
+-- what each end of a connection gives if the office is closed; if the reader failed, nothing was written
+abbrev pub ServesClosed : HttpSettingsEntry → Option (List ℕ) → Option (List ℕ) → Option (List ℕ) → Served → Type 0
+ServesClosed settings bytes old new served = EndsWith (ReadiesClosed settings bytes) (new ≡ old) old new served
 
--- P, where an answer was written whole
+-- P, if a response was written whole
 abbrev pub OnAnswered : Served → Type 0 → Type 0
 OnAnswered (Answered status) P = P
 OnAnswered ReadFailed P = ⊤
 OnAnswered WriteFailed P = ⊤
 
--- P, where the reader failed
+-- P, if the reader failed
 abbrev pub OnReadFailed : Served → Type 0 → Type 0
 OnReadFailed (Answered status) P = ⊤
 OnReadFailed ReadFailed P = P
 OnReadFailed WriteFailed P = ⊤
 
--- P, where the writer failed
+-- P, if the writer failed
 abbrev pub OnWriteFailed : Served → Type 0 → Type 0
 OnWriteFailed (Answered status) P = ⊤
 OnWriteFailed ReadFailed P = ⊤

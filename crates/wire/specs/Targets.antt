@@ -11,11 +11,11 @@ use Rattle.matchit.specs.Rows.{RowsOf}
 use Rattle.matchit.specs.Seek.{first}
 use Rattle.matchit.specs.declared.error.InsertError.{InsertError}
 use Rattle.matchit.specs.declared.params.Params.{Params}
-use Rattle.wire.specs.declared.target.Place.{Place}
-use Rattle.wire.specs.declared.target.Place.TheVariants as place
-use Rattle.wire.specs.declared.target.Reading.TheVariants.{Candidates, Declaration, Sheet, Work}
+use Rattle.wire.specs.declared.target.RouteTarget.{RouteTarget}
+use Rattle.wire.specs.declared.target.RouteTarget.TheVariants as place
+use Rattle.wire.specs.declared.target.Resource.TheVariants.{Candidates, Declaration, Sheet, Work}
 use Rattle.wire.specs.declared.target.Target.{Target}
-use Rattle.wire.specs.declared.target.Target.TheVariants.{Keying, Leave, Page, Reading}
+use Rattle.wire.specs.declared.target.Target.TheVariants.{Keying, Leave, Page, Resource}
 
 -- the most digits of a number
 abbrev pub most_digits : ℕ
@@ -26,20 +26,20 @@ abbrev pub is_number : List ℕ → Bool
 is_number [] = false
 is_number (b ∷ bs) = not (b == 48) && (nat_le (length (b ∷ bs)) most_digits && list_all is_ascii_digit (b ∷ bs))
 
--- the number that a parameter writes
+-- the number that a parameter gives
 abbrev pub number_in : List ℕ → Option ℕ
 number_in text = if is_number text then Some (digits_value 10 text) else None
 
 -- the routes with one more
-abbrev pub with_scanned : Result Scan InsertError → Place → RowsOf (RouteOf Place) → RowsOf (RouteOf Place)
+abbrev pub with_scanned : Result Scan InsertError → RouteTarget → RowsOf (RouteOf RouteTarget) → RowsOf (RouteOf RouteTarget)
 with_scanned (Ok scan) value routes = placed (scan.pattern, route_from scan value) routes
 with_scanned (Err e) value routes = routes
 
-abbrev pub with_route : List ℕ → Place → RowsOf (RouteOf Place) → RowsOf (RouteOf Place)
+abbrev pub with_route : List ℕ → RouteTarget → RowsOf (RouteOf RouteTarget) → RowsOf (RouteOf RouteTarget)
 with_route text value routes = with_scanned (parse_route text) value routes
 
 -- the seven routes
-abbrev pub office_routes : RowsOf (RouteOf Place)
+abbrev pub office_routes : RowsOf (RouteOf RouteTarget)
 office_routes =
     with_route (codes "/wards/{w}/result") place.Declaration
     (with_route (codes "/wards/{w}/sheet") place.Sheet
@@ -49,51 +49,51 @@ office_routes =
     (with_route (codes "/clerks/{c}/work") place.Work
     (with_route (codes "/clerks/{c}/batches/{b}/keying") place.Keying []))))))
 
--- what the parameters of a route took of a target, each with its name
+-- the parameters of a route in a target, each with its name
 abbrev pub Taken : Type 0
 Taken = List (List ℕ × List ℕ)
 
 abbrev pub taken_by : Params → Taken
 taken_by params = walk params.pattern.now params.text.now params.path.now params.names.now 0 0
 
--- the number that the parameter of a name writes
+-- the number that the parameter with a name gives
 abbrev pub parameter : List ℕ → Taken → Option ℕ
 parameter name taken = option_and_then number_in (named name taken)
 
--- what a target names, by where its route leads and by what the parameters took
-abbrev pub named_at : Place → Taken → Option Target
+-- what a target names, by where its route leads and by its parameters
+abbrev pub named_at : RouteTarget → Taken → Option Target
 named_at place.Keying taken =
     option_and_then (λ clerk. option_map (λ batch. Keying clerk batch) (parameter (codes "b") taken)) (parameter (codes "c") taken)
 named_at place.Candidates taken =
-    option_and_then (λ clerk. option_map (λ batch. Reading (Candidates clerk batch)) (parameter (codes "b") taken)) (parameter (codes "c") taken)
+    option_and_then (λ clerk. option_map (λ batch. Resource (Candidates clerk batch)) (parameter (codes "b") taken)) (parameter (codes "c") taken)
 named_at place.Page taken = option_map (λ clerk. Page clerk) (parameter (codes "c") taken)
 named_at place.Leave taken = option_map (λ clerk. Leave clerk) (parameter (codes "c") taken)
-named_at place.Work taken = option_map (λ clerk. Reading (Work clerk)) (parameter (codes "c") taken)
-named_at place.Sheet taken = option_map (λ ward. Reading (Sheet ward)) (parameter (codes "w") taken)
-named_at place.Declaration taken = option_map (λ ward. Reading (Declaration ward)) (parameter (codes "w") taken)
+named_at place.Work taken = option_map (λ clerk. Resource (Work clerk)) (parameter (codes "c") taken)
+named_at place.Sheet taken = option_map (λ ward. Resource (Sheet ward)) (parameter (codes "w") taken)
+named_at place.Declaration taken = option_map (λ ward. Resource (Declaration ward)) (parameter (codes "w") taken)
 
 -- the route of a target; the routes are ASCII, and so is every target of theirs
-abbrev pub route_of : List ℕ → Option (RouteOf Place)
+abbrev pub route_of : List ℕ → Option (RouteOf RouteTarget)
 route_of target = if list_all is_ascii target then first office_routes target else None
 
 -- what a target names
 abbrev pub named_by : List ℕ → Option Target
-named_by target = option_and_then (λ (route : RouteOf Place). named_at route.value (walk route.pattern route.text target route.names 0 0)) (route_of target)
+named_by target = option_and_then (λ (route : RouteOf RouteTarget). named_at route.value (walk route.pattern route.text target route.names 0 0)) (route_of target)
 
 -- ---- the same in plain words
 
--- the target of something that is served: its path, in which each number is written in 1 to 5 digits, the first not 0
+-- the target of something that is served: its path, with each number in 1 to 5 digits, the first not 0
 abbrev pub IsTargetOf : Target → List ℕ → Type 0
 IsTargetOf (Keying clerk batch) target =
     (c b : List ℕ) × (target ≡ codes "/clerks/" ++ (c ++ (codes "/batches/" ++ (b ++ codes "/keying")))) × (number_in c ≡ Some clerk) × (number_in b ≡ Some batch)
-IsTargetOf (Reading (Candidates clerk batch)) target =
+IsTargetOf (Resource (Candidates clerk batch)) target =
     (c b : List ℕ) × (target ≡ codes "/clerks/" ++ (c ++ (codes "/batches/" ++ (b ++ codes "/candidates")))) × (number_in c ≡ Some clerk) × (number_in b ≡ Some batch)
 IsTargetOf (Page clerk) target = (c : List ℕ) × (target ≡ codes "/clerks/" ++ (c ++ codes "/")) × (number_in c ≡ Some clerk)
 IsTargetOf (Leave clerk) target = (c : List ℕ) × (target ≡ codes "/clerks/" ++ (c ++ codes "/leave")) × (number_in c ≡ Some clerk)
-IsTargetOf (Reading (Work clerk)) target = (c : List ℕ) × (target ≡ codes "/clerks/" ++ (c ++ codes "/work")) × (number_in c ≡ Some clerk)
-IsTargetOf (Reading (Sheet ward)) target = (w : List ℕ) × (target ≡ codes "/wards/" ++ (w ++ codes "/sheet")) × (number_in w ≡ Some ward)
-IsTargetOf (Reading (Declaration ward)) target = (w : List ℕ) × (target ≡ codes "/wards/" ++ (w ++ codes "/result")) × (number_in w ≡ Some ward)
+IsTargetOf (Resource (Work clerk)) target = (c : List ℕ) × (target ≡ codes "/clerks/" ++ (c ++ codes "/work")) × (number_in c ≡ Some clerk)
+IsTargetOf (Resource (Sheet ward)) target = (w : List ℕ) × (target ≡ codes "/wards/" ++ (w ++ codes "/sheet")) × (number_in w ≡ Some ward)
+IsTargetOf (Resource (Declaration ward)) target = (w : List ℕ) × (target ≡ codes "/wards/" ++ (w ++ codes "/result")) × (number_in w ≡ Some ward)
 
--- a target names just what it is the path of, and so none names anything else
+-- a target names exactly that of which it is the path, and so no other target names it
 abbrev pub NamesItsOwn : List ℕ → Type 0
 NamesItsOwn target = (there : Target) → (named_by target ≡ Some there) ↔ IsTargetOf there target

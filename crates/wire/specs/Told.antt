@@ -1,4 +1,4 @@
--- What an answer that is ready to be written says.
+-- What a response that is ready to be written says.
 use Rattle.std.specs.Prelude.{◌≡◌, ◌⊎◌, List, string_bytes, ℕ}
 use Rattle.wire.specs.Responses.{ResponseEntry, fault_response, response_bytes}
 use Rattle.wire.specs.declared.response.Bytes.{Bytes}
@@ -10,11 +10,11 @@ abbrev pub told_bytes : Bytes → List ℕ
 told_bytes (Fixed text) = text.now
 told_bytes (Made text) = string_bytes text
 
--- it is this answer
+-- it is this response
 pub record IsWritten (entry : ResponseEntry) (response : Response) : Type 0 where
   pub status : response.status ≡ entry.status
   pub bytes : told_bytes response.bytes ≡ response_bytes entry
 
--- it is this answer, or the one that memory is wanting
+-- it is this response, or the one that memory is out
 abbrev pub IsTold : ResponseEntry → Response → Type 0
 IsTold entry response = IsWritten entry response ⊎ IsWritten (fault_response 101) response

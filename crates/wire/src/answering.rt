@@ -1,4 +1,4 @@
-//! What is asked of the office, and its answers.
+//! What the office is asked, and the response.
 
 ghost use Rattle.std.specs.Prelude.{◌≡◌, false, map, true, string_bytes};
 ghost use Rattle.register.specs.Standings.{paper_entry, work_entry};
@@ -8,16 +8,16 @@ ghost use Rattle.register.specs.Offices.{OfficeState};
 ghost use Rattle.store.specs.Offices.{IsAt};
 ghost use Rattle.tables.specs.Faults.{fault_number};
 ghost use Rattle.office.specs.Answers.{told};
-ghost use Rattle.wire.specs.Asking.{asked_entry, reading};
+ghost use Rattle.wire.specs.Requests.{http_request_entry, reading};
 ghost use Rattle.wire.specs.Responses.{fault_response, reply_response, text_response};
 ghost use Rattle.wire.specs.Serving.{IsReadTold, Readies, closed_response, paper_response, refused_for, told_response, work_response};
 ghost use Rattle.wire.specs.Told.{IsTold};
 
-use crate::asked::{Asked, Keying};
 use crate::bodies::{fault_body, refusal_body, reply_body};
 use crate::candidates::paper_body;
+use crate::request::{HttpRequest, Keying};
 use crate::response::{Content, Response};
-use crate::target::Reading;
+use crate::target::Resource;
 use crate::work::work_body;
 use http::StatusCode;
 use office::{Answer, Office, Stop};
@@ -26,7 +26,7 @@ use sqlite::Alter;
 use std::alloc::{AllocError, Global};
 use store::Fault;
 
-/// The answer with a reply.
+/// Returns the response with a reply.
 fn replied(alloc: Global, text: &str) -> Response
     ensures { IsTold (reply_response text.now) result }
 {
@@ -38,7 +38,7 @@ fn replied(alloc: Global, text: &str) -> Response
     )
 }
 
-/// The answer with a refusal.
+/// Returns the response with a refusal.
 fn refused(alloc: Global, why: &Refusal) -> Response
     ensures { IsTold (refused_for why.now) result }
 {
@@ -46,7 +46,7 @@ fn refused(alloc: Global, why: &Refusal) -> Response
     Response::made(alloc, StatusCode::CONFLICT, Content::Json, body)
 }
 
-/// The answer with a fault.
+/// Returns the response with a fault.
 fn faulted(alloc: Global, fault: Fault) -> Response
     ensures { IsTold (fault_response (fault_number fault)) result }
 {
@@ -54,7 +54,7 @@ fn faulted(alloc: Global, fault: Fault) -> Response
     Response::made(alloc, StatusCode::SERVICE_UNAVAILABLE, Content::Json, body)
 }
 
-/// The answer with what the office answered to a keying.
+/// Returns the response with the office's answer to a keying.
 fn answered(alloc: Global, answer: &Answer) -> Response
     ensures { IsTold (told_response (told answer.now)) result }
 {
@@ -65,10 +65,10 @@ fn answered(alloc: Global, answer: &Answer) -> Response
     }
 }
 
-/// Hands a clerk's keying on to the office, and answers it.
+/// Sends a clerk's keying to the office, and returns the response.
 fn answer_keying<S: Alter>(alloc: Global, office: &mut Office<S>, keying: Keying) -> Response
     ensures answers { HasCleanDisk (state S.Store office.new.held) → office.old.closed ≡ false → (s : OfficeState) → IsAt s (state S.Store office.old.held)
-        → Readies s (asked_entry (Asked.Keying keying)) result office.new.closed (state S.Store office.new.held) }
+        → Readies s (http_request_entry (HttpRequest.Keying keying)) result office.new.closed (state S.Store office.new.held) }
     ensures closed { office.old.closed ≡ true → office.new ≡ office.old }
     ensures closed_told { office.old.closed ≡ true → IsTold (fault_response (fault_number Fault.Closed)) result }
     ensures clean { HasCleanDisk (state S.Store office.new.held) → HasCleanDisk (state S.Store office.old.held) }
@@ -91,7 +91,7 @@ fn answer_keying<S: Alter>(alloc: Global, office: &mut Office<S>, keying: Keying
     }
 }
 
-/// The answer with a text of a ward, or why there is none.
+/// Returns the response with a text of a ward, or why there is none.
 fn answer_text(alloc: Global, told: Result<String, Stop>) -> Response
     ensures { IsReadTold text_response string_bytes told result }
 {
@@ -102,7 +102,7 @@ fn answer_text(alloc: Global, told: Result<String, Stop>) -> Response
     }
 }
 
-/// The answer with the work of a clerk, or why there is none.
+/// Returns the response with the work of a clerk, or why there is none.
 fn answer_work(alloc: Global, clerk: u32, told: Result<Vec<Work>, Stop>) -> Response
     ensures { IsReadTold (work_response clerk) (λ work. map work_entry work.items) told result }
 {
@@ -116,7 +116,7 @@ fn answer_work(alloc: Global, clerk: u32, told: Result<Vec<Work>, Stop>) -> Resp
     }
 }
 
-/// The answer that names the candidates of a batch, or why there is none.
+/// Returns the response that names the candidates of a batch, or why there is none.
 fn answer_paper(alloc: Global, batch: u32, told: Result<BallotPaper, Stop>) -> Response
     ensures { IsReadTold (paper_response batch) paper_entry told result }
 {
@@ -130,8 +130,8 @@ fn answer_paper(alloc: Global, batch: u32, told: Result<BallotPaper, Stop>) -> R
     }
 }
 
-/// Reads from the office, and answers that.
-fn answer_reading<S: Alter>(alloc: Global, office: &mut Office<S>, what: Reading) -> Response
+/// Reads from the office, and returns the response.
+fn answer_reading<S: Alter>(alloc: Global, office: &mut Office<S>, what: Resource) -> Response
     ensures answers { HasCleanDisk (state S.Store office.new.held) → office.old.closed ≡ false → (s : OfficeState) → IsAt s (state S.Store office.old.held)
         → Readies s (reading what) result office.new.closed (state S.Store office.new.held) }
     ensures closed { office.old.closed ≡ true → office.new ≡ office.old }
@@ -139,27 +139,31 @@ fn answer_reading<S: Alter>(alloc: Global, office: &mut Office<S>, what: Reading
     ensures clean { HasCleanDisk (state S.Store office.new.held) → HasCleanDisk (state S.Store office.old.held) }
 {
     match what {
-        Reading::Work { clerk } => answer_work(alloc, clerk, office.work(clerk)),
-        Reading::Candidates { clerk, batch } => {
+        Resource::Work { clerk } => answer_work(alloc, clerk, office.work(clerk)),
+        Resource::Candidates { clerk, batch } => {
             answer_paper(alloc, batch, office.paper(clerk, batch))
         }
-        Reading::Sheet { ward } => answer_text(alloc, office.sheet(ward)),
-        Reading::Declaration { ward } => answer_text(alloc, office.result(ward)),
+        Resource::Sheet { ward } => answer_text(alloc, office.sheet(ward)),
+        Resource::Declaration { ward } => answer_text(alloc, office.result(ward)),
     }
 }
 
-/// Asks the office what a request asks, and answers that.
-pub(crate) fn answer<S: Alter>(alloc: Global, office: &mut Office<S>, asked: Asked<'_>) -> Response
+/// Asks the office what a request asks, and returns the response.
+pub(crate) fn answer<S: Alter>(
+    alloc: Global,
+    office: &mut Office<S>,
+    asked: HttpRequest<'_>,
+) -> Response
     ensures answers { HasCleanDisk (state S.Store office.new.held) → office.old.closed ≡ false → (s : OfficeState) → IsAt s (state S.Store office.old.held)
-        → Readies s (asked_entry asked.entry) result office.new.closed (state S.Store office.new.held) }
+        → Readies s (http_request_entry asked.entry) result office.new.closed (state S.Store office.new.held) }
     ensures closed { office.old.closed ≡ true → office.new ≡ office.old }
-    ensures closed_told { office.old.closed ≡ true → IsTold (closed_response (asked_entry asked.entry)) result }
+    ensures closed_told { office.old.closed ≡ true → IsTold (closed_response (http_request_entry asked.entry)) result }
     ensures clean { HasCleanDisk (state S.Store office.new.held) → HasCleanDisk (state S.Store office.old.held) }
 {
     match asked {
-        Asked::Denied(why) => Response::denied(alloc, why),
-        Asked::Shown(_, show) => Response::shown(alloc, show),
-        Asked::Keying(keying) => answer_keying(alloc, office, keying),
-        Asked::Reading(what) => answer_reading(alloc, office, what),
+        HttpRequest::Denied(why) => Response::denied(alloc, why),
+        HttpRequest::Shown(_, show) => Response::shown(alloc, show),
+        HttpRequest::Keying(keying) => answer_keying(alloc, office, keying),
+        HttpRequest::Resource(what) => answer_reading(alloc, office, what),
     }
 }

@@ -1,4 +1,4 @@
-//! The JSON of answers.
+//! The JSON of responses.
 
 ghost use Rattle.std.specs.Prelude.{◌≡◌, IfOk, string_bytes};
 ghost use Rattle.serde_json.specs.View.{view};
@@ -7,42 +7,42 @@ ghost use Rattle.wire.specs.Replies.{fault_body, fault_data, refusal_body, refus
 use serde_json::{Value, json};
 use std::alloc::{AllocError, Global};
 
-/// The body with a reply, as a value.
+/// Returns the body with a reply, as a value.
 fn reply_value(alloc: Global, text: &str) -> Result<Value, AllocError>
     ensures { IfOk result (λ value. view value ≡ reply_data text.now) }
 {
     json!(in alloc; {"reply": text})
 }
 
-/// The body with a reply.
+/// Returns the body with a reply.
 pub(crate) fn reply_body(alloc: Global, text: &str) -> Result<String, AllocError>
     ensures { IfOk result (λ body. string_bytes body ≡ reply_body text.now) }
 {
     reply_value(alloc, text)?.to_string(alloc)
 }
 
-/// The body with a refusal, as a value.
+/// Returns the body with a refusal, as a value.
 fn refusal_value(alloc: Global, number: u32, text: &str) -> Result<Value, AllocError>
     ensures { IfOk result (λ value. view value ≡ refusal_data number text.now) }
 {
     json!(in alloc; {"refusal": number, "text": text})
 }
 
-/// The body with a refusal.
+/// Returns the body with a refusal.
 pub(crate) fn refusal_body(alloc: Global, number: u32, text: &str) -> Result<String, AllocError>
     ensures { IfOk result (λ body. string_bytes body ≡ refusal_body number text.now) }
 {
     refusal_value(alloc, number, text)?.to_string(alloc)
 }
 
-/// The body with a fault, as a value.
+/// Returns the body with a fault, as a value.
 fn fault_value(alloc: Global, number: u32) -> Result<Value, AllocError>
     ensures { IfOk result (λ value. view value ≡ fault_data number) }
 {
     json!(in alloc; {"fault": number})
 }
 
-/// The body with a fault.
+/// Returns the body with a fault.
 pub(crate) fn fault_body(alloc: Global, number: u32) -> Result<String, AllocError>
     ensures { IfOk result (λ body. string_bytes body ≡ fault_body number) }
 {

@@ -1,19 +1,19 @@
 //! The body of a request.
 
-ghost use Rattle.std.specs.Prelude.{◌≡◌, ◌+◌, ◌-◌, ◌^◌, ◌<◌, ◌≤◌, ◌++◌, ◌⊎◌, ◌&&◌, true, false, Some, None, IfErr, IfNone, IfOk, IfSome, OnErr, OnOk, List, ℕ, length, map, take, option_map, string_bytes, vec_len};
+ghost use Rattle.std.specs.Prelude.{◌≡◌, ◌+◌, ◌-◌, ◌^◌, ◌<◌, ◌≤◌, ◌++◌, ◌⊎◌, ◌&&◌, true, false, Some, None};
+ghost use Rattle.std.specs.Prelude.{IfErr, IfNone, IfOk, IfSome, OnErr, OnOk, List, ℕ, length, map, take, option_map, string_bytes, vec_len};
 ghost use Rattle.std.specs.Io.KnownBytes.{Consumes};
 ghost use Rattle.serde_json.specs.View.{view, items_view, members_view};
 ghost use Rattle.serde_json.specs.Find.{as_object, as_str};
-ghost use Rattle.wire.specs.Asking.{FailsAfter, HasRead, IsUnread};
+ghost use Rattle.wire.specs.Requests.{FailsAfter, HasRead, IsUnread};
 ghost use Rattle.wire.specs.Bodies.{body_entry, body_in, json_in, key_members, keying_of, papers_in, round_in, said_by, texts_in};
 
-use crate::unread::Unread;
+use crate::read_failure::ReadFailure;
 use serde_json::{Category, Map, Value};
 use std::alloc::{AllocError, Global};
 use votes::{Broken, Source};
 
-/// What the body of a keying says: under which id it is sent, in which round (a number of 32 bits, in
-/// range or not), and the marks text of each paper.
+/// The body of a keying: its id, its round (a number of 32 bits, in range or not), and the marks text of each paper.
 #[derive(Drop)]
 pub(crate) struct KeyingBody {
     pub id: String,
@@ -21,7 +21,7 @@ pub(crate) struct KeyingBody {
     pub papers: Vec<String>,
 }
 
-/// Fills a room; `false` where the source ends before that.
+/// Fills a buffer; returns false if the source ends before that.
 fn fill<R: Source>(reader: &mut R, room: &mut [u8]) -> Result<bool, Broken>
     requires { R.failed reader.old < 2 ^ 64 - 1 }
     ensures full { IfOk result (λ full. full ≡ true → Consumes (R.held reader.old) (R.held reader.new) room.new) }
@@ -40,7 +40,7 @@ fn fill<R: Source>(reader: &mut R, room: &mut [u8]) -> Result<bool, Broken>
     Ok(true)
 }
 
-/// A buffer of some size that begins with some bytes.
+/// Returns a buffer of some size that begins with some bytes.
 fn buffer_from(alloc: Global, front: &[u8], size: usize) -> Result<Vec<u8>, AllocError>
     requires { length front.now ≤ size }
     ensures size { IfOk result (λ buffer. vec_len buffer ≡ size) }
@@ -52,16 +52,16 @@ fn buffer_from(alloc: Global, front: &[u8], size: usize) -> Result<Vec<u8>, Allo
     Ok(buffer)
 }
 
-/// Reads a body of some size, of which the bytes that were read behind the head are the first; `None`
-/// where the source ends before it.
+/// Reads a body of some size, of which the bytes that were read after the head are the first. Returns `None` if the source ends
+/// before the body does.
 ///
-/// `Broken` comes only from the source, which counts one failure more, and only while the body isn't whole.
+/// `Broken` comes only from the source, which counts one failure more, and only while the body isn't complete.
 pub(crate) fn read_body<R: Source>(
     alloc: Global,
     reader: &mut R,
     behind: &[u8],
     size: usize,
-) -> Result<Option<Vec<u8>>, Unread>
+) -> Result<Option<Vec<u8>>, ReadFailure>
     requires { R.failed reader.old < 2 ^ 64 - 1 }
     ensures body { IfSome (R.held reader.old) (λ left. IfOk result (λ found. option_map (λ body. body.items) found ≡ body_in size (behind.now ++ left))) }
     ensures ok { OnOk result (R.failed reader.new ≡ R.failed reader.old) }
@@ -77,7 +77,7 @@ pub(crate) fn read_body<R: Source>(
     }
 }
 
-/// The text of a value, if it is one.
+/// Returns the text of a value, if it is one.
 fn text_in(value: Value) -> Option<String>
     ensures { option_map string_bytes result ≡ as_str (view value) }
 {
@@ -87,7 +87,7 @@ fn text_in(value: Value) -> Option<String>
     }
 }
 
-/// The round that a value gives.
+/// Returns the round that a value gives.
 fn round_in(value: &Value) -> Option<u32>
     ensures { result ≡ round_in (view value.now) }
 {
@@ -95,7 +95,7 @@ fn round_in(value: &Value) -> Option<u32>
     u32::try_from(round).ok()
 }
 
-/// The texts of a list of values, if each is one.
+/// Returns the texts of a list of values, if each is one.
 fn texts_in(alloc: Global, values: Vec<Value>) -> Result<Option<Vec<String>>, AllocError>
     ensures { IfOk result (λ found. option_map (λ texts. map string_bytes texts.items) found ≡ texts_in (items_view values.items)) }
 {
@@ -109,7 +109,7 @@ fn texts_in(alloc: Global, values: Vec<Value>) -> Result<Option<Vec<String>>, Al
     Ok(Some(texts))
 }
 
-/// The papers that a value gives.
+/// Returns the papers that a value gives.
 fn papers_in(alloc: Global, value: Value) -> Result<Option<Vec<String>>, AllocError>
     ensures { IfOk result (λ found. option_map (λ texts. map string_bytes texts.items) found ≡ papers_in (view value)) }
 {
@@ -119,7 +119,7 @@ fn papers_in(alloc: Global, value: Value) -> Result<Option<Vec<String>>, AllocEr
     }
 }
 
-/// The values of the members `id`, `papers` and `round`, if an object has these alone.
+/// Returns the values of the members `id`, `papers` and `round`, if an object has exactly these.
 fn key_members(mut members: Map<String, Value>) -> Option<(Value, Value, Value)>
     ensures { option_map (λ found. (view found.0, view found.1, view found.2)) result ≡ key_members (members_view members.entries) }
 {
@@ -136,7 +136,7 @@ fn key_members(mut members: Map<String, Value>) -> Option<(Value, Value, Value)>
     }
 }
 
-/// What three values say.
+/// Returns the keying that three values give.
 fn said_by(
     alloc: Global,
     id: Value,
@@ -157,7 +157,7 @@ fn said_by(
     Ok(Some(KeyingBody { id, round, papers }))
 }
 
-/// The JSON of a text, if it is some. The only error is want of memory.
+/// Parses the JSON of a text. The only error is a failed allocation.
 fn json_in(alloc: Global, text: &[u8]) -> Result<Option<Value>, AllocError>
     ensures { IfOk result (λ found. option_map view found ≡ json_in text.now) }
 {
@@ -170,7 +170,7 @@ fn json_in(alloc: Global, text: &[u8]) -> Result<Option<Value>, AllocError>
     }
 }
 
-/// The members of a value, if it is an object.
+/// Returns the members of a value, if it is an object.
 fn members_in(value: Value) -> Option<Map<String, Value>>
     ensures { option_map (λ members. members_view members.entries) result ≡ as_object (view value) }
 {
@@ -180,7 +180,7 @@ fn members_in(value: Value) -> Option<Map<String, Value>>
     }
 }
 
-/// What a body says, if it is the JSON of a keying. The only error is want of memory.
+/// Parses a body, if it is the JSON of a keying. The only error is a failed allocation.
 pub(crate) fn keying_of(alloc: Global, body: &[u8]) -> Result<Option<KeyingBody>, AllocError>
     ensures { IfOk result (λ found. option_map body_entry found ≡ keying_of body.now) }
 {

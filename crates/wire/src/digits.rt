@@ -9,14 +9,14 @@ ghost use Rattle.wire.specs.Targets.{number_in};
 /// The most digits of a number in a target.
 const MOST_DIGITS: usize = 5;
 
-/// Whether bytes are digits alone.
+/// Returns whether bytes are all digits.
 pub(crate) fn all_digits(text: &[u8]) -> bool
     ensures { result ≡ list_all is_ascii_digit text.now }
 {
     text.iter().all(|b| b.is_ascii_digit())
 }
 
-/// The number that a text writes in 1 to 5 digits, the first not 0.
+/// Parses a number of 1 to 5 digits, the first not 0.
 pub(crate) fn number_in(text: &str) -> Option<u32>
     ensures { result ≡ number_in text.now }
 {
@@ -28,7 +28,7 @@ pub(crate) fn number_in(text: &str) -> Option<u32>
     text.parse().ok()
 }
 
-/// The number that some digits write, or `most` where it is greater.
+/// Returns the number that some digits make, or `most` if it is greater.
 pub(crate) fn capped_value(digits: &[u8], most: u32) -> u64
     requires { list_all is_ascii_digit digits.now ≡ true }
     ensures { result ≡ min (digits_value 10 digits.now) most }

@@ -3,7 +3,7 @@
 ghost use Rattle.std.specs.Prelude.{◌≡◌, ◌+◌, ◌-◌, ◌^◌, ◌<◌, ◌≤◌, IfErr, IfNone, IfOk, IfSome, OnErr, OnOk, length, take};
 ghost use Rattle.std.specs.Io.KnownBytes.{Consumes};
 ghost use Rattle.httparse.specs.Spans.{IsRequestOf, IsRequestWithin};
-ghost use Rattle.wire.specs.Asking.{HasRead};
+ghost use Rattle.wire.specs.Requests.{HasRead};
 ghost use Rattle.wire.specs.Heads.{HasNoHead, IsHeadWanting};
 
 use httparse::Status;
@@ -16,17 +16,17 @@ pub const MAX_HEAD_BYTES: usize = 8192;
 /// The most headers that a head may have.
 pub const MAX_HEADERS: usize = 32;
 
-/// Where a head stands in the buffer that it was read into, and how much of the buffer is filled: with
-/// the head, and with bytes behind it.
+/// Where a head is in the buffer into which it was read, and how much of the buffer is filled: with the head, and with bytes after
+/// it.
 #[derive(Clone, Copy)]
 pub(crate) struct Front {
     pub spans: RequestSpans,
     pub filled: usize,
 }
 
-/// Reads until a head is whole, or `None` as soon as none can come.
+/// Reads until a head is complete; returns `None` as soon as it can't become one.
 ///
-/// `Broken` comes only from the source, which counts one failure more, and only while the head isn't whole.
+/// `Broken` comes only from the source, which counts one failure more, and only while the head isn't complete.
 pub(crate) fn read_head<R: Source>(
     reader: &mut R,
     buffer: &mut [u8],

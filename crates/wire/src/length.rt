@@ -1,4 +1,4 @@
-//! How long the body of a request is.
+//! The length of a request's body.
 
 ghost use Rattle.std.specs.Prelude.{◌≡◌, ◌<◌, ◌≤◌, IfErr, IfOk, length, map};
 ghost use Rattle.std.specs.List.{All};
@@ -6,50 +6,50 @@ ghost use Rattle.std.specs.Str.{str_eq_ignore_ascii_case};
 ghost use Rattle.httparse.specs.Spans.{IsHeaderWithin, header_bytes};
 ghost use Rattle.wire.specs.Lengths.{body_length, length_in, value_listed, values_of};
 
-use crate::denial::Denial;
 use crate::digits::{all_digits, capped_value};
+use crate::request_error::RequestError;
 use httparse::spans::HeaderSpan;
 
 /// The most bytes that a body may have.
 pub const MAX_BODY_BYTES: u32 = 1_048_576;
 
-/// The length that a text writes, up to the greatest.
-fn length_in(text: &[u8]) -> Result<usize, Denial>
+/// Parses a length, up to the greatest.
+fn length_in(text: &[u8]) -> Result<usize, RequestError>
     ensures is { result ≡ length_in text.now }
     ensures fits { IfOk result (λ length. length ≤ MAX_BODY_BYTES) }
 {
     if text.is_empty() || !all_digits(text) {
-        return Err(Denial::BadRequest);
+        return Err(RequestError::BadRequest);
     }
     let length = capped_value(text, MAX_BODY_BYTES + 1);
     if length > u64::from(MAX_BODY_BYTES) {
-        return Err(Denial::TooLarge);
+        return Err(RequestError::TooLarge);
     }
     Ok(length as usize)
 }
 
-/// Whether a header's name is another in any case of its letters.
+/// Returns whether a header's name is another, whatever the case of their letters.
 pub(crate) fn is_named(name: &[u8], other: &[u8]) -> bool
     ensures { result ≡ str_eq_ignore_ascii_case name.now other.now }
 {
     name.eq_ignore_ascii_case(other)
 }
 
-/// The value of the header of a name, if there is one; `BadRequest` where there are several.
+/// Returns the value of the header with a name, if there is one; `BadRequest` if there are several.
 pub(crate) fn value_of<'b>(
     buffer: &'b [u8],
     headers: &[HeaderSpan],
     name: &[u8],
-) -> Result<Option<&'b [u8]>, Denial>
+) -> Result<Option<&'b [u8]>, RequestError>
     requires { All (IsHeaderWithin (length buffer.now)) headers.now }
     ensures one { IfOk result (λ found. values_of name.now (map (header_bytes buffer.now) headers.now) ≡ value_listed found) }
-    ensures several { IfErr result (λ why. (why ≡ Denial.BadRequest) × (1 < length (values_of name.now (map (header_bytes buffer.now) headers.now)))) }
+    ensures several { IfErr result (λ why. (why ≡ RequestError.BadRequest) × (1 < length (values_of name.now (map (header_bytes buffer.now) headers.now)))) }
 {
     let mut found = None;
     for header in headers {
         if is_named(header.name.of(buffer), name) {
             if found.is_some() {
-                return Err(Denial::BadRequest);
+                return Err(RequestError::BadRequest);
             }
             found = Some(header.value.of(buffer));
         }
@@ -57,15 +57,15 @@ pub(crate) fn value_of<'b>(
     Ok(found)
 }
 
-/// The length of a body, from the header fields, whose names and values stand in a buffer. No transfer coding may wrap it, and it
-/// may be given once; where it isn't given, there is none.
-pub(crate) fn body_length(buffer: &[u8], headers: &[HeaderSpan]) -> Result<usize, Denial>
+/// Returns the length of a body, by the header fields, whose names and values are in a buffer. It is an error if there is a
+/// transfer coding, or more than one length; without a length it is 0.
+pub(crate) fn body_length(buffer: &[u8], headers: &[HeaderSpan]) -> Result<usize, RequestError>
     requires { All (IsHeaderWithin (length buffer.now)) headers.now }
     ensures is { result ≡ body_length (map (header_bytes buffer.now) headers.now) }
     ensures fits { IfOk result (λ length. length ≤ MAX_BODY_BYTES) }
 {
     let Ok(None) = value_of(buffer, headers, b"transfer-encoding") else {
-        return Err(Denial::BadRequest);
+        return Err(RequestError::BadRequest);
     };
     match value_of(buffer, headers, b"content-length")? {
         Some(text) => length_in(text),

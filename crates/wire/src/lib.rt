@@ -1,46 +1,46 @@
-//! Keying and reading over HTTP, one request a connection.
+//! Keying and reading over HTTP, one request for each connection.
 //!
-//! [`serve_one`] reads a request, asks the office what it asks, and writes the answer. What may be asked:
-//! `POST /clerks/{c}/batches/{b}/keying`, `GET /clerks/{c}/work`, `GET /wards/{w}/sheet` and
-//! `GET /wards/{w}/result`; and where codes are asked for, `GET /clerks/{c}/`, `GET /clerks/{c}/leave` and
-//! `GET /clerks/{c}/batches/{b}/candidates`. [`read_asked`] reads what is asked, [`Asked`], or why it is denied before
-//! the office is asked, [`Denial`]. [`lacks`] says whether a client was heard to the end of what he asks.
+//! [`serve_one`] reads a request, asks the office, and writes the response. It serves `POST /clerks/{c}/batches/{b}/keying`, `GET
+//! /clerks/{c}/work`, `GET /wards/{w}/sheet` and `GET /wards/{w}/result`; and at a gate `GET /clerks/{c}/`, `GET /clerks/{c}/leave`
+//! and `GET /clerks/{c}/batches/{b}/candidates`. [`read_request`] returns what is asked, [`HttpRequest`], or why it is rejected
+//! before the office is asked, [`RequestError`]. [`completeness_of`] says whether a request is complete.
 //!
-//! [`Given`] is what an office that serves goes by. A page from elsewhere in a browser of this machine asks nothing: each
-//! request with a header that shows one is denied. [`Origin`] is that of pages which may come through a proxy in front.
-//! At a [`Gate`] whatever stands under a clerk's number is asked for with his code. [`knock_of`] says whose number that is,
-//! and whether a wrong code came; who must wait for wrong codes is told so by [`tell_to_wait`].
+//! [`HttpSettings`] are the settings. A page from elsewhere in a browser of this machine can't ask anything: each request with a
+//! header that shows one is rejected. [`Origin`] is that of pages that come through a proxy in front. At a [`Gate`] whatever is
+//! under a clerk's number needs that clerk's code. [`authentication_of`] says whose number that is, and whether a wrong code came.
+//! [`write_wait_response`] responds to a client that must wait because of wrong codes.
 //!
-//! `specs/Asking.antt` says what the bytes of a client ask, and `specs/Lacking.antt` when they are whole. `specs/Gates.antt`
-//! says who is let in under a clerk's number, and `specs/Origins.antt` what shows that a page from elsewhere sent the bytes.
-//! `specs/Targets.antt` says which targets name what, and `specs/Responses.antt` which bytes an answer has.
-//! `specs/Serving.antt` says what is answered at a state of the office, and what each end of a connection leaves.
+//! `specs/Requests.antt` defines what bytes ask, and `specs/Completeness.antt` when they are complete. `specs/Gates.antt` defines
+//! what a gate lets in under a clerk's number, and `specs/Origins.antt` what shows that a page from elsewhere sent the bytes.
+//! `specs/Targets.antt` defines the targets, and `specs/Responses.antt` the bytes of a response. `specs/Serving.antt` defines the
+//! response at a state of the office, and what each end of a connection leaves.
 //!
 //! ```text
-//! match serve_one(alloc, given, &mut reader, &mut writer, &mut office) {
+//! match serve_one(alloc, settings, &mut reader, &mut writer, &mut office) {
 //!     Served::Answered(status) => ..,
-//!     Served::ReadFailed => ..,       // nothing was handed on
+//!     Served::ReadFailed => ..,       // the office wasn't asked
 //!     Served::WriteFailed => ..,      // what the office answered stands
 //! }
 //! ```
 #![tactic(auto)]
 
-pub mod denial;
+pub mod request_error;
 // what is asked: the head, what its target names, and the body
-pub mod asked;
+mod authentication;
 mod body;
+mod completeness;
 mod digits;
-pub mod given;
 mod head;
-mod knock;
-mod lack;
-mod lacking;
+mod incomplete;
 mod length;
 pub mod origin;
+pub mod plain;
+mod read_failure;
+pub mod request;
 mod rest;
+pub mod settings;
 pub mod target;
-mod unread;
-// what is answered
+// the response
 mod bodies;
 mod candidates;
 mod response;
@@ -49,14 +49,14 @@ mod work;
 mod answering;
 mod serving;
 
-pub use asked::{Asked, Keying, read_asked};
-pub use denial::{Denial, Verb};
-pub use given::{Gate, Given, Page, Show};
-pub use knock::{Knock, knock_of};
-pub use lack::Lacks;
-pub use lacking::lacks;
+pub use authentication::{Authentication, authentication_of};
+pub use completeness::Completeness;
+pub use incomplete::completeness_of;
 pub use origin::Origin;
+pub use read_failure::ReadFailure;
+pub use request::{HttpRequest, Keying, read_request};
+pub use request_error::{RequestError, Verb};
 pub use rest::body_to_come;
-pub use serving::{Served, serve_one, tell_gone, tell_to_wait};
-pub use target::Reading;
-pub use unread::Unread;
+pub use serving::{Served, serve_one, write_gone_response, write_wait_response};
+pub use settings::{Gate, HttpSettings, Page, Show};
+pub use target::Resource;

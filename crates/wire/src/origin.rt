@@ -1,4 +1,4 @@
-//! Where a request may come from: a page from elsewhere is not to ask anything.
+//! Where a request may come from: a page from elsewhere can't ask anything.
 
 ghost use Rattle.std.specs.Prelude.{◌≡◌, ◌≤◌, false, length, map, option_map};
 ghost use Rattle.std.specs.List.{All, prefix_len};
@@ -18,7 +18,7 @@ pub struct Origin<'a> {
     text: &'a str,
 }
 
-/// Whether it is a port behind a host, or none.
+/// Returns whether it is a port after a host, or nothing.
 fn is_port_or_none(text: &[u8]) -> bool
     ensures { result ≡ is_port_or_none text.now }
 {
@@ -33,21 +33,21 @@ fn is_port_or_none(text: &[u8]) -> bool
     }
 }
 
-/// Whether a text is this front, with a port behind it or without.
+/// Returns whether a text is this front, with or without a port after it.
 fn is_with_port(front: &[u8], text: &[u8]) -> bool
     ensures { result ≡ is_with_port front.now text.now }
 {
     text.starts_with(front) && is_port_or_none(&text[front.len()..])
 }
 
-/// Whether a byte may stand in a host.
+/// Returns whether a byte may be in a host.
 fn is_host_byte(byte: u8) -> bool
     ensures { result ≡ is_host_byte byte }
 {
     byte.is_ascii_lowercase() || byte.is_ascii_digit() || matches!(byte, b'-' | b'.' | b'_')
 }
 
-/// How long the host is that a text begins with.
+/// Returns the length of the host with which a text begins.
 fn host_length(text: &[u8]) -> usize
     ensures bound { result ≤ length text.now }
     ensures is { result ≡ prefix_len is_host_byte text.now }
@@ -62,7 +62,7 @@ fn host_length(text: &[u8]) -> usize
     length
 }
 
-/// Whether a text is a host, with a port behind it or without; the scheme's own port is left out.
+/// Returns whether a text is a host, with or without a port; the scheme's own port is left out.
 fn is_authority(own_port: &[u8], text: &[u8]) -> bool
     ensures { result ≡ is_authority own_port.now text.now }
 {
@@ -71,7 +71,7 @@ fn is_authority(own_port: &[u8], text: &[u8]) -> bool
     length > 0 && is_port_or_none(port) && port != own_port
 }
 
-/// Whether a text is an origin.
+/// Returns whether a text is an origin.
 fn is_origin(text: &[u8]) -> bool
     ensures { result ≡ is_origin text.now }
 {
@@ -82,8 +82,8 @@ fn is_origin(text: &[u8]) -> bool
 }
 
 impl<'a> Origin<'a> {
-    /// The origin that a text is: `http://` or `https://`, a host in small letters, and its port, where it is
-    /// another than the scheme's own. `None` where the text is no origin, or not as a browser writes it.
+    /// Returns the origin that a text is: `http://` or `https://`, a host in lower case, and its port, if it isn't the scheme's
+    /// own. Returns `None` if the text is no origin, or not as a browser writes it.
     pub fn parse(text: &'a str) -> Option<Origin<'a>>
         ensures { option_map origin_text result ≡ origin_in text.now }
     {
@@ -94,7 +94,7 @@ impl<'a> Origin<'a> {
         }
     }
 
-    /// Its host, with its port.
+    /// Returns its host, with its port.
     fn authority(self) -> &'a [u8]
         ensures { result.now ≡ authority_of (origin_text self.entry) }
     {
@@ -107,7 +107,7 @@ impl<'a> Origin<'a> {
     }
 }
 
-/// Whether it is the origin that was given.
+/// Returns whether it is the origin of the settings.
 fn is_given(given: Option<Origin<'_>>, value: &[u8]) -> bool
     ensures { result ≡ is_given (given_by given.entry) value.now }
 {
@@ -117,7 +117,7 @@ fn is_given(given: Option<Origin<'_>>, value: &[u8]) -> bool
     }
 }
 
-/// Whether it is the host of the origin that was given.
+/// Returns whether it is the host of that origin.
 fn is_given_host(given: Option<Origin<'_>>, value: &[u8]) -> bool
     ensures { result ≡ is_given_host (given_by given.entry) value.now }
 {
@@ -127,7 +127,7 @@ fn is_given_host(given: Option<Origin<'_>>, value: &[u8]) -> bool
     }
 }
 
-/// Whether it is the origin of a page that this machine serves, or the one that was given.
+/// Returns whether it is the origin of a page that this machine serves, or the one of the settings.
 fn is_own_origin(given: Option<Origin<'_>>, value: &[u8]) -> bool
     ensures { result ≡ is_own_origin (given_by given.entry) value.now }
 {
@@ -136,21 +136,21 @@ fn is_own_origin(given: Option<Origin<'_>>, value: &[u8]) -> bool
         || is_given(given, value)
 }
 
-/// Whether a page of the same origin asks, or whoever sits at the browser.
+/// Returns whether a page of the same origin asks, or the person at the browser.
 fn is_own_site(value: &[u8]) -> bool
     ensures { result ≡ is_own_site value.now }
 {
     value == b"same-origin".as_slice() || value == b"none".as_slice()
 }
 
-/// Whether it is a name without a dot, this machine by its number, or the host of the origin that was given.
+/// Returns whether it is a name without a dot, this machine by its number, or the host of the origin of the settings.
 fn is_own_host(given: Option<Origin<'_>>, value: &[u8]) -> bool
     ensures { result ≡ is_own_host (given_by given.entry) value.now }
 {
     !value.contains(&b'.') || is_with_port(b"127.0.0.1", value) || is_given_host(given, value)
 }
 
-/// Whether a header shows that a page from elsewhere sent the request.
+/// Returns whether a header shows that a page from elsewhere sent the request.
 fn is_foreign_header(given: Option<Origin<'_>>, name: &[u8], value: &[u8]) -> bool
     ensures { result ≡ is_foreign_header (given_by given.entry) (name.now, value.now) }
 {
@@ -163,8 +163,7 @@ fn is_foreign_header(given: Option<Origin<'_>>, name: &[u8], value: &[u8]) -> bo
     is_named(name, b"host") && !is_own_host(given, value)
 }
 
-/// Whether a header, of those whose names and values stand in a buffer, shows that a page from elsewhere sent the
-/// request.
+/// Returns whether a header, of those whose names and values are in a buffer, shows that a page from elsewhere sent the request.
 pub(crate) fn is_foreign(given: Option<Origin<'_>>, buffer: &[u8], headers: &[HeaderSpan]) -> bool
     requires { All (IsHeaderWithin (length buffer.now)) headers.now }
     ensures { result ≡ is_foreign (given_by given.entry) (map (header_bytes buffer.now) headers.now) }

@@ -1,17 +1,18 @@
-//! The bytes of an answer.
+//! The bytes of a response.
 
 ghost use Rattle.std.specs.Prelude.{◌≡◌, IfOk, None, OnErr, length, string_bytes};
 ghost use Rattle.wire.specs.Told.{IsTold, IsWritten, told_bytes};
-ghost use Rattle.wire.specs.Asking.{has_left, show_entry};
+ghost use Rattle.wire.specs.Requests.{has_left, show_entry};
 ghost use Rattle.wire.specs.Gates.{page_entry};
-ghost use Rattle.wire.specs.Responses.{clerk_kept_out, code_line, denied_response, fault_response, guard_lines, lines_and_body, media_type, nothing, phrase, response_bytes, shown_response, unauthorized_response, waits_response};
+ghost use Rattle.wire.specs.Responses.{clerk_kept_out, code_line, denied_response, fault_response, guard_lines, lines_and_body};
+ghost use Rattle.wire.specs.Responses.{media_type, nothing, phrase, response_bytes, shown_response, unauthorized_response, waits_response};
 
-use crate::denial::{Denial, Verb};
-use crate::given::{Page, Show};
+use crate::request_error::{RequestError, Verb};
+use crate::settings::{Page, Show};
 use http::StatusCode;
 use std::alloc::{AllocError, Global};
 
-/// What kind of text a body is.
+/// The kind of text that a body is, for its media type.
 #[derive(Clone, Copy)]
 pub(crate) enum Content {
     Text,
@@ -19,7 +20,7 @@ pub(crate) enum Content {
     Html,
 }
 
-/// The bytes of an answer: those that stand fixed take no memory.
+/// The bytes of a response; constant ones need no memory.
 #[derive(Drop)]
 pub(crate) enum Bytes {
     Fixed(&'static str),
@@ -27,7 +28,7 @@ pub(crate) enum Bytes {
 }
 
 impl Bytes {
-    /// The bytes as they are written.
+    /// Returns the bytes as they are written.
     pub(crate) fn as_slice(&self) -> &[u8]
         ensures { result.now ≡ told_bytes self.now }
     {
@@ -38,14 +39,14 @@ impl Bytes {
     }
 }
 
-/// An answer, ready to be written.
+/// A response, ready to be written.
 #[derive(Drop)]
 pub(crate) struct Response {
     pub status: u16,
     pub bytes: Bytes,
 }
 
-/// The answers to requests that are denied before the office is asked.
+/// The responses to requests that are rejected before the office is asked.
 const BAD_REQUEST: &str =
     "HTTP/1.1 400 Bad Request\r\nContent-Type: application/json\r\nContent-Length: 23\r\nConnection: close\r\n\r\n{\"error\":\"bad request\"}";
 
@@ -64,7 +65,7 @@ const ONLY_POST: &str =
 const TOO_LARGE: &str =
     "HTTP/1.1 413 Payload Too Large\r\nContent-Type: application/json\r\nContent-Length: 21\r\nConnection: close\r\n\r\n{\"error\":\"too large\"}";
 
-/// The answer to who must wait.
+/// The response that a client must wait.
 const WAITS: &str =
     "HTTP/1.1 429 Too Many Requests\r\nContent-Type: application/json\r\nContent-Length: 32\r\nRetry-After: 60\r\nConnection: close\r\n\r\n{\"error\":\"too many wrong codes\"}";
 
@@ -72,20 +73,20 @@ const WAITS: &str =
 const GONE: &str =
     "HTTP/1.1 503 Service Unavailable\r\nContent-Type: application/json\r\nContent-Length: 13\r\nConnection: close\r\n\r\n{\"fault\":113}";
 
-/// The answer to who leaves.
+/// The response to a clerk who signs out.
 const LEFT: &str =
     "HTTP/1.1 200 OK\r\nContent-Type: application/json\r\nContent-Length: 13\r\nClear-Site-Data: \"cookies\"\r\nCache-Control: no-store\r\nConnection: close\r\n\r\n{\"left\":true}";
 
-/// The answer to who comes without a code, or with a wrong one.
+/// The response to a request without a code, or with a wrong one.
 const NO_CODE: &str = "{\"error\":\"unauthorized\"}";
 
-/// The answer where memory is wanting, and none is left to write another.
+/// The response when an allocation failed, and none is left to write another.
 const NO_MEMORY: &str =
     "HTTP/1.1 503 Service Unavailable\r\nContent-Type: application/json\r\nContent-Length: 13\r\nConnection: close\r\n\r\n{\"fault\":101}";
 
-/// The answer to a request by another method than the one that is served.
+/// The response to a request by another method than the one that is served.
 fn only_text(allowed: Verb) -> &'static str
-    ensures { result.now ≡ response_bytes (denied_response (Denial.MethodNotAllowed allowed)) }
+    ensures { result.now ≡ response_bytes (denied_response (RequestError.MethodNotAllowed allowed)) }
 {
     match allowed {
         Verb::Get => ONLY_GET,
@@ -93,48 +94,48 @@ fn only_text(allowed: Verb) -> &'static str
     }
 }
 
-/// The clerk whose code is asked for by a denial, if one's is.
-fn clerk_kept_out(why: Denial) -> Option<u32>
+/// Returns the clerk whose code is asked for, if the error is about one's.
+fn clerk_kept_out(why: RequestError) -> Option<u32>
     ensures { result ≡ clerk_kept_out why }
 {
     match why {
-        Denial::Unauthorized { clerk } => Some(clerk),
-        Denial::WrongCode { clerk } => Some(clerk),
+        RequestError::Unauthorized { clerk } => Some(clerk),
+        RequestError::WrongCode { clerk } => Some(clerk),
         _ => None,
     }
 }
 
-/// The answer to a request that is denied, which stands fixed where no clerk's code is asked for.
-pub(crate) fn denied_text(why: Denial) -> &'static str
+/// Returns the response to a rejected request, which is constant if no clerk's code is asked for.
+pub(crate) fn denied_text(why: RequestError) -> &'static str
     requires { clerk_kept_out why ≡ None }
     ensures { result.now ≡ response_bytes (denied_response why) }
 {
     match why {
-        Denial::BadRequest => BAD_REQUEST,
-        Denial::Forbidden => FORBIDDEN,
-        Denial::NotFound => NOT_FOUND,
-        Denial::MethodNotAllowed { allowed } => only_text(allowed),
-        Denial::TooLarge => TOO_LARGE,
-        Denial::Unauthorized { .. } => "",
-        Denial::WrongCode { .. } => "",
+        RequestError::BadRequest => BAD_REQUEST,
+        RequestError::Forbidden => FORBIDDEN,
+        RequestError::NotFound => NOT_FOUND,
+        RequestError::MethodNotAllowed { allowed } => only_text(allowed),
+        RequestError::TooLarge => TOO_LARGE,
+        RequestError::Unauthorized { .. } => "",
+        RequestError::WrongCode { .. } => "",
     }
 }
 
-/// The status of an answer to a request that is denied.
-fn denied_status(why: Denial) -> u16
+/// Returns the status of the response to a rejected request.
+fn denied_status(why: RequestError) -> u16
     ensures { result ≡ (denied_response why).status }
 {
     match why {
-        Denial::BadRequest => 400,
-        Denial::Unauthorized { .. } | Denial::WrongCode { .. } => 401,
-        Denial::Forbidden => 403,
-        Denial::NotFound => 404,
-        Denial::MethodNotAllowed { .. } => 405,
-        Denial::TooLarge => 413,
+        RequestError::BadRequest => 400,
+        RequestError::Unauthorized { .. } | RequestError::WrongCode { .. } => 401,
+        RequestError::Forbidden => 403,
+        RequestError::NotFound => 404,
+        RequestError::MethodNotAllowed { .. } => 405,
+        RequestError::TooLarge => 413,
     }
 }
 
-/// The media type of a body.
+/// Returns the media type of a body.
 fn media_type(content: Content) -> &'static str
     ensures { result.now ≡ media_type content }
 {
@@ -145,7 +146,7 @@ fn media_type(content: Content) -> &'static str
     }
 }
 
-/// The phrase of a status.
+/// Returns the phrase of a status.
 fn phrase(status: StatusCode) -> &'static str
     ensures { result.now ≡ phrase status }
 {
@@ -156,7 +157,7 @@ fn phrase(status: StatusCode) -> &'static str
 }
 
 #[tactic(auto, unfolding(crate::specs::Responses::lines_and_body))]
-/// The lines of an answer, with those of what it says beside, an empty line, and the body.
+/// Returns the lines of a response, with further header lines, an empty line, and the body.
 fn lines_and_body(
     alloc: Global,
     code: u16,
@@ -174,7 +175,7 @@ fn lines_and_body(
 }
 
 #[tactic(auto, unfolding(crate::specs::Responses::code_line))]
-/// The line that asks for a clerk's code.
+/// Returns the line that asks for a clerk's code.
 fn code_line(alloc: Global, clerk: u32) -> Result<String, AllocError>
     ensures { IfOk result (λ text. string_bytes text ≡ code_line clerk) }
 {
@@ -182,7 +183,7 @@ fn code_line(alloc: Global, clerk: u32) -> Result<String, AllocError>
 }
 
 #[tactic(auto, unfolding(crate::specs::Responses::guard_lines))]
-/// The lines that keep a page as it is.
+/// Returns the lines that guard a page.
 fn guard_lines(alloc: Global, policy: &str) -> Result<String, AllocError>
     ensures { IfOk result (λ text. string_bytes text ≡ guard_lines policy.now) }
 {
@@ -194,7 +195,7 @@ Cache-Control: no-store\r\n"
     )
 }
 
-/// An answer with a status, lines beside, and a body. The only error is want of memory.
+/// Returns a response with a status, further header lines, and a body. The only error is a failed allocation.
 fn response_with(
     alloc: Global,
     status: StatusCode,
@@ -216,7 +217,7 @@ fn response_with(
     )
 }
 
-/// An answer with a status and a body. The only error is want of memory.
+/// Returns a response with a status and a body. The only error is a failed allocation.
 pub(crate) fn response_text(
     alloc: Global,
     status: StatusCode,
@@ -228,7 +229,7 @@ pub(crate) fn response_text(
     response_with(alloc, status, content, "", body)
 }
 
-/// The answer that asks for a clerk's code.
+/// Returns the response that asks for a clerk's code.
 fn unauthorized_text(alloc: Global, clerk: u32) -> Result<String, AllocError>
     ensures { IfOk result (λ text. string_bytes text ≡ response_bytes (unauthorized_response clerk)) }
 {
@@ -242,7 +243,7 @@ fn unauthorized_text(alloc: Global, clerk: u32) -> Result<String, AllocError>
     )
 }
 
-/// The answer that is a page.
+/// Returns the response that is a page.
 fn page_response_text(alloc: Global, page: Page<'_>) -> Result<String, AllocError>
     ensures { IfOk result (λ text. string_bytes text ≡ response_bytes (shown_response (show_entry (Show.Page page.entry)))) }
 {
@@ -257,7 +258,7 @@ fn page_response_text(alloc: Global, page: Page<'_>) -> Result<String, AllocErro
 }
 
 impl Response {
-    /// An answer of a status by its text, or the one that says that memory is wanting.
+    /// Returns a response of a status by its text, or the one that says that memory is out.
     fn of_text(status: u16, text: Result<String, AllocError>) -> Response
         ensures told { IfOk text (λ made. (result.status ≡ status) × (told_bytes result.bytes ≡ string_bytes made)) }
         ensures memory { OnErr text (IsWritten (fault_response 101) result) }
@@ -271,8 +272,8 @@ impl Response {
         }
     }
 
-    /// The answer to a request that is denied; or the one that says that memory is wanting, where a clerk's code is asked for.
-    pub(crate) fn denied(alloc: Global, why: Denial) -> Response
+    /// Returns the response to a rejected request; or the one that says that memory is out, if a clerk's code is asked for.
+    pub(crate) fn denied(alloc: Global, why: RequestError) -> Response
         ensures { IsTold (denied_response why) result }
     {
         match clerk_kept_out(why) {
@@ -284,7 +285,7 @@ impl Response {
         }
     }
 
-    /// The answer to who leaves.
+    /// Returns the response to a clerk who signs out.
     fn left() -> Response
         ensures { IsWritten (shown_response has_left) result }
     {
@@ -294,7 +295,7 @@ impl Response {
         }
     }
 
-    /// What is shown to a clerk whatever the state is; or the answer that says that memory is wanting.
+    /// Returns the response that shows something to a clerk, whatever the state is; or the one that says that memory is out.
     pub(crate) fn shown(alloc: Global, show: Show<'_>) -> Response
         ensures { IsTold (shown_response (show_entry show.entry)) result }
     {
@@ -304,7 +305,7 @@ impl Response {
         }
     }
 
-    /// The answer to who must wait.
+    /// Returns the response that a client must wait.
     pub(crate) fn waits() -> Response
         ensures { IsWritten waits_response result }
     {
@@ -324,7 +325,7 @@ impl Response {
         }
     }
 
-    /// The answer where memory is wanting.
+    /// Returns the response when memory is out.
     pub(crate) fn no_memory() -> Response
         ensures { IsWritten (fault_response 101) result }
     {
@@ -334,7 +335,7 @@ impl Response {
         }
     }
 
-    /// An answer with a status and a body, or the one that memory is wanting.
+    /// Returns a response with a status and a body, or the one that says that memory is out.
     pub(crate) fn made(
         alloc: Global,
         status: StatusCode,

@@ -1,21 +1,21 @@
-//! One connection: a request is read, handed on, and answered.
+//! One connection: a request is read, the office is asked, and the response is written.
 
 ghost use Rattle.std.specs.Prelude.{◌≡◌, ◌+◌, ◌-◌, ◌^◌, ◌<◌, false, true, IfOk, OnErr, OnOk};
 ghost use Rattle.sqlite.specs.State.{HasCleanDisk};
 ghost use Rattle.sqlite.specs.Held.{state};
 ghost use Rattle.register.specs.Offices.{OfficeState};
 ghost use Rattle.store.specs.Offices.{IsAt};
-ghost use Rattle.wire.specs.Asking.{HasRead, IsWanting};
-ghost use Rattle.wire.specs.Gates.{given_entry};
+ghost use Rattle.wire.specs.Requests.{HasRead, IsWanting};
+ghost use Rattle.wire.specs.Gates.{settings_entry};
 ghost use Rattle.wire.specs.Responses.{fault_response, waits_response};
 ghost use Rattle.wire.specs.Told.{IsWritten};
 ghost use Rattle.wire.specs.Serving.{IsPut, IsServed, OnAnswered, OnReadFailed, OnWriteFailed, ReadiesClosed, ReadiesFor, Serves, ServesClosed};
 
 use crate::answering::answer;
-use crate::asked::read_asked;
-use crate::given::Given;
+use crate::read_failure::ReadFailure;
+use crate::request::read_request;
 use crate::response::Response;
-use crate::unread::Unread;
+use crate::settings::HttpSettings;
 use office::Office;
 use sqlite::Alter;
 use std::alloc::Global;
@@ -24,40 +24,40 @@ use votes::{Broken, Sink, Source, put_all};
 /// How a connection ended.
 #[derive(Clone, Copy, Debug, PartialEq, Eq)]
 pub enum Served {
-    /// An answer of this status was written whole.
+    /// A response with this status was written whole.
     Answered(u16),
-    /// The reader failed: nothing was written, and nothing was handed on.
+    /// The reader failed: nothing was written, and the office wasn't asked.
     ReadFailed,
-    /// The writer failed: a beginning of the answer was written.
+    /// The writer failed: a beginning of the response was written.
     WriteFailed,
 }
 
-/// The answer to what a client asks, which the office is asked.
+/// Returns the response to what a client asks, for which the office is asked.
 fn response_to<R: Source, S: Alter>(
     alloc: Global,
-    given: Given<'_>,
+    settings: HttpSettings<'_>,
     reader: &mut R,
     office: &mut Office<S>,
 ) -> Result<Response, Broken>
     requires { R.failed reader.old < 2 ^ 64 - 1 }
     ensures answers { HasCleanDisk (state S.Store office.new.held) → office.old.closed ≡ false → (s : OfficeState) → IsAt s (state S.Store office.old.held)
-        → IfOk result (λ response. ReadiesFor (given_entry given.entry) (R.held reader.old) s response office.new.closed (state S.Store office.new.held)) }
+        → IfOk result (λ response. ReadiesFor (settings_entry settings.entry) (R.held reader.old) s response office.new.closed (state S.Store office.new.held)) }
     ensures read { OnOk result (R.failed reader.new ≡ R.failed reader.old) }
     ensures failed { OnErr result (R.failed reader.new ≡ R.failed reader.old + 1) }
-    ensures wanting { OnErr result (HasRead (R.held reader.old) (R.held reader.new) (IsWanting (given_entry given.entry))) }
+    ensures wanting { OnErr result (HasRead (R.held reader.old) (R.held reader.new) (IsWanting (settings_entry settings.entry))) }
     ensures unasked { OnErr result (office.new ≡ office.old) }
     ensures closed { office.old.closed ≡ true → office.new ≡ office.old }
-    ensures closed_told { office.old.closed ≡ true → IfOk result (λ response. ReadiesClosed (given_entry given.entry) (R.held reader.old) response) }
+    ensures closed_told { office.old.closed ≡ true → IfOk result (λ response. ReadiesClosed (settings_entry settings.entry) (R.held reader.old) response) }
     ensures clean { HasCleanDisk (state S.Store office.new.held) → HasCleanDisk (state S.Store office.old.held) }
 {
-    match read_asked(alloc, given, reader) {
+    match read_request(alloc, settings, reader) {
         Ok(asked) => Ok(answer(alloc, office, asked)),
-        Err(Unread::Memory) => Ok(Response::no_memory()),
-        Err(Unread::Broken) => Err(Broken),
+        Err(ReadFailure::Memory) => Ok(Response::no_memory()),
+        Err(ReadFailure::Broken) => Err(Broken),
     }
 }
 
-/// Writes an answer.
+/// Writes a response.
 fn put<W: Sink>(writer: &mut W, response: &Response) -> Served
     requires { W.failed writer.old < 2 ^ 64 - 1 }
     ensures puts { IsPut (W.taken writer.old) (W.taken writer.new) response.now result }
@@ -70,10 +70,10 @@ fn put<W: Sink>(writer: &mut W, response: &Response) -> Served
     }
 }
 
-/// Answers who must wait that he must: wrong codes came under the number for which he asks.
+/// Writes that the client must wait: wrong codes came under the number for which it asks.
 ///
-/// `WriteFailed` comes only from the writer, which counts one failure more: a beginning of the answer was written.
-pub fn tell_to_wait<W: Sink>(writer: &mut W) -> Served
+/// `WriteFailed` comes only from the writer, which counts one failure more: a beginning of the response was written.
+pub fn write_wait_response<W: Sink>(writer: &mut W) -> Served
     requires { W.failed writer.old < 2 ^ 64 - 1 }
     ensures told { IsServed (IsWritten waits_response) (W.taken writer.old) (W.taken writer.new) result }
     ensures answered { OnAnswered result (W.failed writer.new ≡ W.failed writer.old) }
@@ -85,7 +85,7 @@ pub fn tell_to_wait<W: Sink>(writer: &mut W) -> Served
 /// Writes that the file of the office is gone or replaced (113).
 ///
 /// `WriteFailed` comes only from the writer, which counts one failure more: a beginning of the response was written.
-pub fn tell_gone<W: Sink>(writer: &mut W) -> Served
+pub fn write_gone_response<W: Sink>(writer: &mut W) -> Served
     requires { W.failed writer.old < 2 ^ 64 - 1 }
     ensures told { IsServed (IsWritten (fault_response 113)) (W.taken writer.old) (W.taken writer.new) result }
     ensures answered { OnAnswered result (W.failed writer.new ≡ W.failed writer.old) }
@@ -94,23 +94,23 @@ pub fn tell_gone<W: Sink>(writer: &mut W) -> Served
     put(writer, &Response::gone())
 }
 
-/// Serves one connection: reads a request, hands it on to the office, and writes the answer.
+/// Serves one connection: reads a request, asks the office, and writes the response.
 ///
-/// `Answered`: the answer to what the reader's bytes ask was written whole, the office is at the state after it, and neither the
-/// reader nor the writer failed. After a fault of the office the answer is that fault (503). The office is then as it was; or it
-/// is closed, and a stop leaves the state before the request or, of an accepted one, the state after it. The answer is 101 (503)
-/// where memory was wanting: for the request, which then wasn't handed on; for the answer, and then the office is at the state
-/// after the request; or in the office, as any fault.
+/// `Answered`: the response to what the reader's bytes ask was written whole, the office is at the state after it, and neither the
+/// reader nor the writer failed. After a fault of the office the response is that fault (503). The office is then as it was; or it
+/// is closed, and a stop leaves the state before the request or, of an accepted one, the state after it. The response is 101 (503)
+/// if an allocation failed: for the request, which then wasn't sent to the office; for the response, and then the office is at the
+/// state after the request; or in the office, like any fault.
 ///
 /// `ReadFailed` comes only from the reader, which counts one failure more, and only while what was read doesn't say yet what is
-/// asked. A failed read isn't answered: nothing was written, and the office is as it was. `WriteFailed` comes only from the
-/// writer, which counts one failure more, where the reader counts none. A beginning of the answer was written, the write isn't
-/// tried again, and what the office answered stands. A closed office answers that it is closed, 104 (503), where it is asked
-/// anything, and stays as it is. A request that is denied, as one of a page from elsewhere, is answered the same at every state, and so is a
-/// page that is shown.
+/// asked. A failed read gets no response: nothing was written, and the office is as it was. `WriteFailed` comes only from the
+/// writer, which counts one failure more, while the reader counts none. A beginning of the response was written, the write isn't
+/// repeated, and what the office answered stands. A closed office answers that it is closed, 104 (503), if it is asked anything,
+/// and stays as it is. The response to a rejected request, such as one of a page from elsewhere, is the same at every state, and so
+/// is a page that is shown.
 pub fn serve_one<R: Source, W: Sink, S: Alter>(
     alloc: Global,
-    given: Given<'_>,
+    settings: HttpSettings<'_>,
     reader: &mut R,
     writer: &mut W,
     office: &mut Office<S>,
@@ -118,16 +118,16 @@ pub fn serve_one<R: Source, W: Sink, S: Alter>(
     requires reads { R.failed reader.old < 2 ^ 64 - 1 }
     requires writes { W.failed writer.old < 2 ^ 64 - 1 }
     ensures served { HasCleanDisk (state S.Store office.new.held) → office.old.closed ≡ false → (s : OfficeState) → IsAt s (state S.Store office.old.held)
-        → Serves (given_entry given.entry) (R.held reader.old) (W.taken writer.old) (W.taken writer.new) s result office.new.closed (state S.Store office.new.held) }
+        → Serves (settings_entry settings.entry) (R.held reader.old) (W.taken writer.old) (W.taken writer.new) s result office.new.closed (state S.Store office.new.held) }
     ensures read_failed { OnReadFailed result ((R.failed reader.new ≡ R.failed reader.old + 1) × (writer.new ≡ writer.old) × (office.new ≡ office.old)) }
-    ensures wanting { OnReadFailed result (HasRead (R.held reader.old) (R.held reader.new) (IsWanting (given_entry given.entry))) }
+    ensures wanting { OnReadFailed result (HasRead (R.held reader.old) (R.held reader.new) (IsWanting (settings_entry settings.entry))) }
     ensures answered { OnAnswered result ((R.failed reader.new ≡ R.failed reader.old) × (W.failed writer.new ≡ W.failed writer.old)) }
     ensures write_failed { OnWriteFailed result ((R.failed reader.new ≡ R.failed reader.old) × (W.failed writer.new ≡ W.failed writer.old + 1)) }
     ensures closed { office.old.closed ≡ true → office.new ≡ office.old }
-    ensures closed_served { office.old.closed ≡ true → ServesClosed (given_entry given.entry) (R.held reader.old) (W.taken writer.old) (W.taken writer.new) result }
+    ensures closed_served { office.old.closed ≡ true → ServesClosed (settings_entry settings.entry) (R.held reader.old) (W.taken writer.old) (W.taken writer.new) result }
     ensures clean { HasCleanDisk (state S.Store office.new.held) → HasCleanDisk (state S.Store office.old.held) }
 {
-    match response_to(alloc, given, reader, office) {
+    match response_to(alloc, settings, reader, office) {
         Ok(response) => put(writer, &response),
         Err(Broken) => Served::ReadFailed,
     }

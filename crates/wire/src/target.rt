@@ -11,7 +11,7 @@ use std::str;
 
 /// What may be read.
 #[derive(Clone, Copy, Debug, PartialEq, Eq)]
-pub enum Reading {
+pub enum Resource {
     /// The batches that a clerk is to key.
     Work { clerk: u32 },
     /// The candidates on the papers of a batch that a clerk keys.
@@ -29,15 +29,15 @@ pub(crate) enum Target {
     Keying { clerk: u32, batch: u32 },
     /// The page on which a clerk keys.
     Page { clerk: u32 },
-    /// That a clerk leaves his place.
+    /// That a clerk signs out.
     Leave { clerk: u32 },
     /// What may be read.
-    Reading(Reading),
+    Resource(Resource),
 }
 
 /// Where a route leads.
 #[derive(Clone, Copy)]
-enum Place {
+enum RouteTarget {
     Keying,
     Candidates,
     Page,
@@ -47,22 +47,25 @@ enum Place {
     Declaration,
 }
 
-/// The seven routes.
-fn office_router(alloc: Global) -> Result<Router<Place>, InsertError>
+/// Returns the router with the seven routes.
+fn office_router(alloc: Global) -> Result<Router<RouteTarget>, InsertError>
     ensures { IfOk result (λ router. router ≡ office_routes) }
 {
     let mut router = Router::new(alloc);
-    router.insert("/clerks/{c}/batches/{b}/keying", Place::Keying)?;
-    router.insert("/clerks/{c}/work", Place::Work)?;
-    router.insert("/clerks/{c}/batches/{b}/candidates", Place::Candidates)?;
-    router.insert("/clerks/{c}/", Place::Page)?;
-    router.insert("/clerks/{c}/leave", Place::Leave)?;
-    router.insert("/wards/{w}/sheet", Place::Sheet)?;
-    router.insert("/wards/{w}/result", Place::Declaration)?;
+    router.insert("/clerks/{c}/batches/{b}/keying", RouteTarget::Keying)?;
+    router.insert("/clerks/{c}/work", RouteTarget::Work)?;
+    router.insert(
+        "/clerks/{c}/batches/{b}/candidates",
+        RouteTarget::Candidates,
+    )?;
+    router.insert("/clerks/{c}/", RouteTarget::Page)?;
+    router.insert("/clerks/{c}/leave", RouteTarget::Leave)?;
+    router.insert("/wards/{w}/sheet", RouteTarget::Sheet)?;
+    router.insert("/wards/{w}/result", RouteTarget::Declaration)?;
     Ok(router)
 }
 
-/// The number that the parameter of a name writes.
+/// Returns the number that a parameter has.
 fn parameter(params: &Params<'_, '_>, name: &str) -> Option<u32>
     requires { AllText (taken_by params.now) }
     ensures { result ≡ parameter name.now (taken_by params.now) }
@@ -70,46 +73,46 @@ fn parameter(params: &Params<'_, '_>, name: &str) -> Option<u32>
     number_in(params.get(name)?)
 }
 
-/// What a target names, by where its route leads and by what the parameters took.
-fn named_at(place: Place, params: &Params<'_, '_>) -> Option<Target>
+/// Returns what a target names, by where its route leads and by its parameters.
+fn named_at(place: RouteTarget, params: &Params<'_, '_>) -> Option<Target>
     requires { AllText (taken_by params.now) }
     ensures { result ≡ named_at place (taken_by params.now) }
 {
     match place {
-        Place::Keying => {
+        RouteTarget::Keying => {
             let clerk = parameter(params, "c")?;
             let batch = parameter(params, "b")?;
             Some(Target::Keying { clerk, batch })
         }
-        Place::Candidates => {
+        RouteTarget::Candidates => {
             let clerk = parameter(params, "c")?;
             let batch = parameter(params, "b")?;
-            Some(Target::Reading(Reading::Candidates { clerk, batch }))
+            Some(Target::Resource(Resource::Candidates { clerk, batch }))
         }
-        Place::Page => {
+        RouteTarget::Page => {
             let clerk = parameter(params, "c")?;
             Some(Target::Page { clerk })
         }
-        Place::Leave => {
+        RouteTarget::Leave => {
             let clerk = parameter(params, "c")?;
             Some(Target::Leave { clerk })
         }
-        Place::Work => {
+        RouteTarget::Work => {
             let clerk = parameter(params, "c")?;
-            Some(Target::Reading(Reading::Work { clerk }))
+            Some(Target::Resource(Resource::Work { clerk }))
         }
-        Place::Sheet => {
+        RouteTarget::Sheet => {
             let ward = parameter(params, "w")?;
-            Some(Target::Reading(Reading::Sheet { ward }))
+            Some(Target::Resource(Resource::Sheet { ward }))
         }
-        Place::Declaration => {
+        RouteTarget::Declaration => {
             let ward = parameter(params, "w")?;
-            Some(Target::Reading(Reading::Declaration { ward }))
+            Some(Target::Resource(Resource::Declaration { ward }))
         }
     }
 }
 
-/// What a target names, if anything is served there. The only error is want of memory.
+/// Returns what a target names, if anything is served there. The only error is a failed allocation.
 pub(crate) fn named_by(alloc: Global, target: &[u8]) -> Result<Option<Target>, AllocError>
     ensures { IfOk result (λ found. found ≡ named_by target.now) }
 {

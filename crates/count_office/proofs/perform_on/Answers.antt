@@ -1,7 +1,7 @@
 -- Why `perform_on` keeps its promise of the order to serve: the order's words are the serving's.
 use Rattle.std.proofs.Common.{◌≡◌, ◌∙◌, ap, refl, subst, sym}
 use Rattle.sqlite.specs.Held.{state}
-use Rattle.gathering.specs.Lines.{line_of}
+use Rattle.connections.specs.Streams.{stream_of}
 use Rattle.desk.specs.Pages.{IsErrorTold}
 use Rattle.desk.specs.declared.orders.Order.{Order}
 use Rattle.desk.specs.declared.orders.Order.TheVariants as order
@@ -23,7 +23,7 @@ returns-in-Serve-clause-serves g c = λ serving is.
     let its : Serving = record { port = c.in-Serve.port; connections = c.in-Serve.connections; origin = c.in-Serve.origin; codes = c.in-Serve.codes } in (
       refl,
       subst (λ (s : Serving). ServesOrder (IsErrorTold g.E.Sink.taken g.E.Sink.failed c.args.err.now c.serve.new.err) (c.serve.new.err ≡ c.args.err.now) c.serve.result.0 s
-          (g.H.Host.codes_at c.args.host.now) (g.H.Host.file c.args.host.now) (line_of g.H.Port.Line.Line.held g.H.Port.Line.Line.taken g.H.Port.Line.Line.failed) (state g.S.Store)
+          (g.H.Host.codes_at c.args.host.now) (g.H.Host.file c.args.host.now) (stream_of g.H.Port.Stream.Stream.held g.H.Port.Stream.Stream.taken g.H.Port.Stream.Stream.failed) (state g.S.Store)
           (g.H.Host.known c.args.host.now) (g.H.Host.known c.serve.new.host) c.args.conn c.serve.result.1)
           (same_serving its serving (sym c.in-Serve.is ∙ is))
           c.serve.ensures,

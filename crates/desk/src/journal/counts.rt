@@ -3,7 +3,7 @@
 ghost use Rattle.register.specs.Offices.{MapsRise};
 ghost use Rattle.rowcheck.specs.States.{state_of};
 
-use crate::journal::receipts::Kept;
+use crate::journal::receipts::KeptReceipts;
 use crate::journal::words::{put_comment, put_heading, put_order};
 use crate::names::name_of;
 use register::ranges::LAST_LOT_STAGE;
@@ -24,7 +24,7 @@ fn put_told(text: &mut String, words: &str, receipt: Option<&Receipt>) -> Result
 fn put_lot(
     alloc: Global,
     text: &mut String,
-    kept: &Kept<'_>,
+    kept: &KeptReceipts<'_>,
     lot: &DrawnLot,
 ) -> Result<(), AllocError>
     requires { MapsRise (state_of kept.now.rows.now) }
@@ -47,7 +47,7 @@ fn lot_at(lots: &[DrawnLot], stage: u32) -> Option<&DrawnLot> {
 fn put_stage(
     alloc: Global,
     text: &mut String,
-    kept: &Kept<'_>,
+    kept: &KeptReceipts<'_>,
     ward: u32,
     stage: u32,
 ) -> Result<(), AllocError>
@@ -69,7 +69,7 @@ fn put_stage(
 fn put_stages(
     alloc: Global,
     text: &mut String,
-    kept: &Kept<'_>,
+    kept: &KeptReceipts<'_>,
     ward: u32,
 ) -> Result<(), AllocError>
     requires { MapsRise (state_of kept.now.rows.now) }
@@ -84,7 +84,7 @@ fn put_stages(
 pub(crate) fn put_count(
     alloc: Global,
     text: &mut String,
-    kept: &Kept<'_>,
+    kept: &KeptReceipts<'_>,
     ward: &Ward,
 ) -> Result<(), AllocError>
     requires { MapsRise (state_of kept.now.rows.now) }

@@ -3,7 +3,7 @@
 ghost use Rattle.register.specs.Offices.{MapsRise};
 ghost use Rattle.rowcheck.specs.States.{state_of};
 
-use crate::journal::receipts::Kept;
+use crate::journal::receipts::KeptReceipts;
 use crate::journal::words::{put_heading, put_named, put_order};
 use crate::names::name_of;
 use register::Ward;
@@ -16,7 +16,7 @@ use std::alloc::{AllocError, Global};
 fn put_candidate(
     alloc: Global,
     text: &mut String,
-    kept: &Kept<'_>,
+    kept: &KeptReceipts<'_>,
     ward: u32,
     number: u32,
 ) -> Result<(), AllocError>
@@ -42,7 +42,7 @@ fn put_candidate(
 fn put_candidates(
     alloc: Global,
     text: &mut String,
-    kept: &Kept<'_>,
+    kept: &KeptReceipts<'_>,
     ward: u32,
 ) -> Result<(), AllocError>
     requires { MapsRise (state_of kept.now.rows.now) }
@@ -57,7 +57,7 @@ fn put_candidates(
 pub(crate) fn put_nominations(
     alloc: Global,
     text: &mut String,
-    kept: &Kept<'_>,
+    kept: &KeptReceipts<'_>,
     ward: &Ward,
 ) -> Result<(), AllocError>
     requires { MapsRise (state_of kept.now.rows.now) }

@@ -3,7 +3,7 @@
 ghost use Rattle.register.specs.Offices.{MapsRise};
 ghost use Rattle.rowcheck.specs.States.{state_of};
 
-use crate::journal::receipts::Kept;
+use crate::journal::receipts::KeptReceipts;
 use crate::journal::words::{put_heading, put_id, put_order};
 use register::{Batch, JudgedPaper, KeyedPaper, ThirdClerk};
 use rowcheck::finding::{keying_of, third_at, verdicts_of, ward_at};
@@ -17,7 +17,7 @@ const FIRST_ROUND: u32 = 1;
 fn put_given_out(
     alloc: Global,
     text: &mut String,
-    kept: &Kept<'_>,
+    kept: &KeptReceipts<'_>,
     batch: &Batch,
 ) -> Result<(), AllocError>
     requires { MapsRise (state_of kept.now.rows.now) }
@@ -48,7 +48,7 @@ fn put_marks(text: &mut String, keying: &[KeyedPaper]) -> Result<(), AllocError>
 fn put_keying(
     alloc: Global,
     text: &mut String,
-    kept: &Kept<'_>,
+    kept: &KeptReceipts<'_>,
     batch: u32,
     round: u32,
     clerk: u32,
@@ -70,7 +70,7 @@ fn put_keying(
 fn put_opening(
     alloc: Global,
     text: &mut String,
-    kept: &Kept<'_>,
+    kept: &KeptReceipts<'_>,
     batch: u32,
     round: u32,
 ) -> Result<(), AllocError> {
@@ -87,7 +87,7 @@ fn put_opening(
 fn put_third(
     alloc: Global,
     text: &mut String,
-    kept: &Kept<'_>,
+    kept: &KeptReceipts<'_>,
     third: &ThirdClerk,
 ) -> Result<(), AllocError> {
     let (batch, clerk) = (third.batch, third.clerk);
@@ -100,7 +100,7 @@ fn put_third(
 fn put_round(
     alloc: Global,
     text: &mut String,
-    kept: &Kept<'_>,
+    kept: &KeptReceipts<'_>,
     batch: &Batch,
     round: u32,
 ) -> Result<(), AllocError>
@@ -123,7 +123,7 @@ fn put_round(
 fn put_rounds(
     alloc: Global,
     text: &mut String,
-    kept: &Kept<'_>,
+    kept: &KeptReceipts<'_>,
     batch: &Batch,
 ) -> Result<(), AllocError>
     requires { MapsRise (state_of kept.now.rows.now) }
@@ -138,7 +138,7 @@ fn put_rounds(
 fn put_verdict(
     alloc: Global,
     text: &mut String,
-    kept: &Kept<'_>,
+    kept: &KeptReceipts<'_>,
     judged: &JudgedPaper,
 ) -> Result<(), AllocError> {
     let (batch, paper, code) = (judged.batch, judged.paper, judged.code);
@@ -156,7 +156,7 @@ fn put_verdict(
 pub(crate) fn put_batch(
     alloc: Global,
     text: &mut String,
-    kept: &Kept<'_>,
+    kept: &KeptReceipts<'_>,
     batch: &Batch,
 ) -> Result<(), AllocError>
     requires { MapsRise (state_of kept.now.rows.now) }

@@ -7,7 +7,7 @@ use std::collections::HashMap;
 
 /// What a journal is written from: the rows of an office, and where receipts stand among them, by what they are about.
 #[derive(Clone, Copy)]
-pub(crate) struct Kept<'a> {
+pub(crate) struct KeptReceipts<'a> {
     pub(crate) rows: &'a Rows,
     pub(crate) places: &'a HashMap<String, Vec<usize>>,
 }
@@ -36,7 +36,7 @@ fn put_place(
     Ok(())
 }
 
-impl<'a> Kept<'a> {
+impl<'a> KeptReceipts<'a> {
     /// The places of the receipts about something.
     fn about(&self, subject: &str) -> &'a [usize] {
         let all = self.places;

@@ -1,7 +1,7 @@
 -- Why `serve` keeps its promise, once the office was opened.
 use Rattle.std.proofs.Common.{◌≡◌, inr, subst, sym}
 use Rattle.sqlite.specs.Held.{state}
-use Rattle.gathering.specs.Lines.{line_of}
+use Rattle.connections.specs.Streams.{stream_of}
 use Rattle.desk.specs.Pages.{IsErrorTold}
 use Rattle.count_office.specs.Serving.{ServesOrder}
 use Rattle.count_office.proofs.ServingLemmas.{shut_or_served}
@@ -11,13 +11,13 @@ pub returns : goal.returns
 returns g c =
     let tells = IsErrorTold g.E.Sink.taken g.E.Sink.failed c.args.err.now c.tell_outcome-status.new.err in
     let quiet = c.tell_outcome-status.new.err ≡ c.args.err.now in
-    let line = line_of g.H.Port.Line.Line.held g.H.Port.Line.Line.taken g.H.Port.Line.Line.failed in
+    let line = stream_of g.H.Port.Stream.Stream.held g.H.Port.Stream.Stream.taken g.H.Port.Stream.Stream.failed in
     let served = c.serve_at-outcome in
     let opened = c.in-Ok-open_from in
     subst
     (ServesOrder tells quiet c.tell_outcome-status.result c.args.serving (g.H.Host.codes_at c.args.host.now) (g.H.Host.file c.args.host.now) line (state g.S.Store)
     (g.H.Host.known c.args.host.now) (g.H.Host.known served.new.host) c.args.conn)
     (sym c.into_connection.ensures)
-    (inr (shut_or_served tells quiet c.tell_outcome-status.result c.args.serving (g.H.Host.codes_at c.args.host.now) c.in-Ok.porter (g.H.Host.file c.args.host.now) line (state g.S.Store)
+    (inr (shut_or_served tells quiet c.tell_outcome-status.result c.args.serving (g.H.Host.codes_at c.args.host.now) c.in-Ok.gate_files (g.H.Host.file c.args.host.now) line (state g.S.Store)
     (g.H.Host.known c.args.host.now) (g.H.Host.known served.new.host) c.args.conn opened.office served.new.office served.result
     (record { is_open = opened.ensures.is_open; reads = opened.ensures.reads; at = opened.ensures.reopens }) c.in-Ok.ensures.gate served.ensures c.tell_outcome-status.ensures))

@@ -1,7 +1,7 @@
 -- Why `serve_at` keeps its promise, where the doors were opened.
 use Rattle.std.proofs.Common.{subst, sym, Ok, Err}
 use Rattle.sqlite.specs.Held.{state}
-use Rattle.gathering.specs.Lines.{line_of}
+use Rattle.connections.specs.Streams.{stream_of}
 use Rattle.desk.specs.declared.lines.Failure.{Failure}
 use Rattle.count_office.specs.Serving.{MayServe}
 use Rattle.count_office.proofs.ServingLemmas.{IsGivenBy, served_on}
@@ -9,22 +9,22 @@ use Rattle.count_office.proofs.serving.serve_at.Goals as goal
 
 pub returns-in-Ok : goal.returns-in-Ok
 returns-in-Ok g c =
-    let line = line_of g.H.Port.Line.Line.held g.H.Port.Line.Line.taken g.H.Port.Line.Line.failed in
+    let line = stream_of g.H.Port.Stream.Stream.held g.H.Port.Stream.Stream.taken g.H.Port.Stream.Stream.failed in
     let known = g.H.Host.known in
-    let found = c.in_ok-doors in
+    let found = c.in_ok-network in
     let through = c.serve_through-ended in
-    served_on c.args.serving c.args.porter.now (g.H.Host.file c.args.host.now) found.field-0.file line (state g.S.Store) (known c.args.host.now) (known c.open.new.self) (known c.close.new.self)
-    (g.H.Port.Doors.known found.field-0.doors) (g.H.Port.Doors.known through.new.doors) c.args.office.now through.new.office (Ok c.in-Ok.field-0)
+    served_on c.args.serving c.args.gate_files.now (g.H.Host.file c.args.host.now) found.field-0.file line (state g.S.Store) (known c.args.host.now) (known c.open.new.self) (known c.close.new.self)
+    (g.H.Port.Network.known found.field-0.network) (g.H.Port.Network.known through.new.network) c.args.office.now through.new.office (Ok c.in-Ok.field-0)
     found.ensures.same found.ensures.known c.close.ensures.known c.close.ensures.others found.ensures.file c.in-Ok.ensures
 
 pub returns-in-Err : goal.returns-in-Err
 returns-in-Err g c =
-    let line = line_of g.H.Port.Line.Line.held g.H.Port.Line.Line.taken g.H.Port.Line.Line.failed in
+    let line = stream_of g.H.Port.Stream.Stream.held g.H.Port.Stream.Stream.taken g.H.Port.Stream.Stream.failed in
     let known = g.H.Host.known in
-    let found = c.in_ok-doors in
+    let found = c.in_ok-network in
     let through = c.serve_through-ended in
-    subst (λ (why : Failure). MayServe (IsGivenBy c.args.serving c.args.porter.now (g.H.Host.file c.args.host.now)) line (state g.S.Store) c.args.serving.port
+    subst (λ (why : Failure). MayServe (IsGivenBy c.args.serving c.args.gate_files.now (g.H.Host.file c.args.host.now)) line (state g.S.Store) c.args.serving.port
     (known c.args.host.now) (known c.close.new.self) c.args.serving.connections c.args.office.now through.new.office (Err why)) (sym c.failure_of.ensures)
-    (served_on c.args.serving c.args.porter.now (g.H.Host.file c.args.host.now) found.field-0.file line (state g.S.Store) (known c.args.host.now) (known c.open.new.self) (known c.close.new.self)
-    (g.H.Port.Doors.known found.field-0.doors) (g.H.Port.Doors.known through.new.doors) c.args.office.now through.new.office (Err c.in-Err.ended)
+    (served_on c.args.serving c.args.gate_files.now (g.H.Host.file c.args.host.now) found.field-0.file line (state g.S.Store) (known c.args.host.now) (known c.open.new.self) (known c.close.new.self)
+    (g.H.Port.Network.known found.field-0.network) (g.H.Port.Network.known through.new.network) c.args.office.now through.new.office (Err c.in-Err.ended)
     found.ensures.same found.ensures.known c.close.ensures.known c.close.ensures.others found.ensures.file c.in-Err.ensures)

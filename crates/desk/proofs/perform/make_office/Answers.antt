@@ -8,7 +8,7 @@ use Rattle.tables.proofs.ReadLemmas.{only_reads_itself}
 use Rattle.store.specs.Offices.{IsAt, LeavesState}
 use Rattle.desk.specs.Pages.{failed, page_of}
 use Rattle.desk.specs.declared.lines.Failure.TheVariants.{Office}
-use Rattle.desk.specs.declared.lines.Outcome.TheVariants.{Ready}
+use Rattle.desk.specs.declared.lines.LineOutcome.TheVariants.{Ready}
 use Rattle.desk.specs.declared.orders.Task.TheVariants.{Init}
 use Rattle.desk.proofs.KeptLemmas.{blank_told, has_tables, performed, rests_leaves, table_rests, untouched, wrong_same}
 use Rattle.desk.proofs.perform.make_office.Goals as goal

@@ -19,7 +19,7 @@ use Rattle.store.proofs.ReopenLemmas.{left_holds, left_ours}
 use Rattle.office.specs.Answers.{IsMemoryOrStore}
 use Rattle.desk.specs.Pages.{failed, migrated_text, page_of, replied}
 use Rattle.desk.specs.declared.lines.Failure.TheVariants.{Office}
-use Rattle.desk.specs.declared.lines.Outcome.TheVariants as outcome
+use Rattle.desk.specs.declared.lines.LineOutcome.TheVariants as outcome
 use Rattle.desk.specs.declared.orders.Task.TheVariants.{Migrate}
 use Rattle.desk.proofs.KeptLemmas.{left_older, migration_told, performed, read_leaves, untouched}
 use Rattle.desk.proofs.perform.migrate_office.Goals as goal

@@ -1,7 +1,7 @@
 -- Why `replay` keeps its promise.
 use Rattle.std.proofs.Common.{inr, map, refl}
 use Rattle.sqlite.specs.Held.{state}
-use Rattle.desk.specs.Cuttings.{line_entry, said_entry}
+use Rattle.desk.specs.Lexing.{line_entry, typed_line_entry}
 use Rattle.desk.specs.Pages.{page_of, script_page}
 use Rattle.desk.specs.declared.scripts.ScriptFault.TheVariants as script
 use Rattle.desk.proofs.PageLemmas.{error_shown}
@@ -22,7 +22,7 @@ returns-in-Err-clause-ran g c =
 pub returns-in-Ok-all_said-clause-ran : goal.returns-in-Ok-all_said-clause-ran
 returns-in-Ok-all_said-clause-ran g c =
     let told = c.send_lines.ensures.sent in
-    let lines = map said_entry c.in-Ok-all_said.said.items in
+    let lines = map typed_line_entry c.in-Ok-all_said.said.items in
     let holds = holds_lines _ (map line_entry c.in-Ok.lines.items) lines (rw c.deref.ensures.value at c.in-Ok-all_said.ensures) c.in-Ok.ensures.read in
     record {
       page = told.page;

@@ -1,6 +1,6 @@
 -- What holds each time round the loop of `numbered`: the lines so far, followed by those that are left, are those of the text.
 use Rattle.std.proofs.Common.{◌≡◌, ◌+◌, ◌++◌, map, drop}
-use Rattle.desk.specs.Cuttings.{line_entry}
+use Rattle.desk.specs.Lexing.{line_entry}
 use Rattle.desk.specs.Scripts.{numbered_from}
 use Rattle.desk.proofs.scripts.numbered.Given as goal
 

@@ -1,8 +1,8 @@
 -- What holds each time round the loop of `turns_in`: the lines so far are the turns.
 use Rattle.std.proofs.Common.{map, take}
-use Rattle.desk.specs.Cuttings.{said_entry}
+use Rattle.desk.specs.Lexing.{typed_line_entry}
 use Rattle.desk.specs.Scripts.{AreTurns}
 use Rattle.desk.proofs.scripts.turns_in.Given as goal
 
 abbrev pub invariant-loop-line : goal.invariant-loop-line
-invariant-loop-line l = AreTurns (map said_entry (take l.line-index l.lines)) l.turns.items
+invariant-loop-line l = AreTurns (map typed_line_entry (take l.line-index l.lines)) l.turns.items

@@ -1,7 +1,7 @@
 -- Why `only_text` keeps its promise.
 use Rattle.std.proofs.Common.{◌∙◌, ap, sym}
 use Rattle.wire.specs.Responses.{denied_response, response_bytes}
-use Rattle.wire.specs.declared.denial.Denial.TheVariants.{MethodNotAllowed}
+use Rattle.wire.specs.declared.request_error.RequestError.TheVariants.{MethodNotAllowed}
 use Rattle.wire.proofs.ResponseLemmas.{only_get-told, only_post-told}
 use Rattle.wire.proofs.response.only_text.Goals as goal
 

@@ -1,0 +1,17 @@
+-- What the proofs of the readers share.
+pub mod TokenLemmas
+pub mod RankLemmas
+pub mod NameLemmas
+pub mod DifferenceLemmas
+pub mod WardLemmas
+pub mod CheckLemmas
+pub mod LineLaws
+pub mod NumberLaws
+pub mod PaperLaws
+pub mod FrontLaws
+pub mod QuoteLaws
+pub mod CandidateLaws
+pub mod CommentLaws
+pub mod ReadBackLaws
+pub mod OwnBallots
+pub mod WorkedBallots

@@ -1,0 +1,19 @@
+-- The pieces of a text, byte by byte.
+use Rattle.std.proofs.Common.{◌≡◌, ◌∙◌, ℕ, ◌+◌, ◌-◌, ◌<◌, ◌≤◌, false, List, [], ◌∷◌, ◌++◌, length, get_or, take, drop, refl, ap, arith}
+use Rattle.std.proofs.lemmas.List.{get_or-drop, length-drop, take_more, at_drop_more}
+use Rattle.checker.specs.Tokens.{parts, pieces_of}
+use Rattle.checker.specs.declared.tokens.Separator.{Separator}
+
+-- the piece that is begun has a byte more
+pub piece_more : (text : List ℕ) (start i : ℕ) → start ≤ i → i < length text → take (i + 1 - start) (drop start text) ≡ take (i - start) (drop start text) ++ get_or text i 0 ∷ []
+piece_more text start i within here =
+    let more : i + 1 - start ≡ i - start + 1 = omega arith in
+    let inside : i - start < length (drop start text) = omega (arith, length-drop start text) in
+    let at : start + (i - start) ≡ i = omega arith in
+    ap (λ n. take n (drop start text)) more ∙ (take_more (drop start text) (i - start) 0 inside ∙ ap (λ x. take (i - start) (drop start text) ++ x ∷ []) (get_or-drop start text (i - start) 0 ∙ ap (λ j. get_or text j 0) at))
+
+-- a byte that parts nothing belongs to the piece that is begun
+pub goes_on : (s : Separator) (text : List ℕ) (start i : ℕ) → start ≤ i → i < length text → parts s (get_or text i 0) ≡ false
+    → pieces_of s (take (i - start) (drop start text)) (drop i text) ≡ pieces_of s (take (i + 1 - start) (drop start text)) (drop (i + 1) text)
+goes_on s text start i within here other =
+    at_drop_more (pieces_of s (take (i - start) (drop start text))) text i 0 here ∙ rw (other, piece_more text start i within here) refl

@@ -1,0 +1,7 @@
+-- What holds each time round the loop of `behind_lines`: what stands behind the lines that are left to pass, in the bytes that are left.
+use Rattle.std.proofs.Common.{◌≡◌, drop}
+use Rattle.checker.specs.Differences.{behind_lines}
+use Rattle.checker.proofs.differences.behind_lines.Given as goal
+
+abbrev pub invariant-loop-i : goal.invariant-loop-i
+invariant-loop-i l = behind_lines l.left (drop l.i l.text) ≡ behind_lines l.lines l.text

@@ -1,0 +1,10 @@
+-- What holds each time round the loop of `ended_lines`: the lines so far, and those of the bytes that are left, are all of them.
+use Rattle.std.proofs.Common.{◌≡◌, ◌≤◌, ◌+◌, drop}
+use Rattle.checker.specs.Differences.{ended_lines}
+use Rattle.checker.proofs.differences.ended_lines.Given as goal
+
+abbrev pub invariant-loop-byte : goal.invariant-loop-byte
+invariant-loop-byte l = record {
+  same : l.lines + ended_lines (drop l.byte-index l.text) ≡ ended_lines l.text;
+  few : l.lines ≤ l.byte-index;
+}

@@ -1,0 +1,10 @@
+-- What holds each time round the loop of `name_in`: the bytes that are left, behind those so far, give the line's name.
+use Rattle.std.proofs.Common.{◌≡◌, [], drop}
+use Rattle.std.specs.Prelude.{fold}
+use Rattle.checker.specs.Names.{with_byte}
+use Rattle.checker.specs.Views.{quoting_of}
+use Rattle.checker.specs.declared.names.Within.TheVariants.{Before}
+use Rattle.checker.proofs.names.name_in.Given as goal
+
+abbrev pub invariant-loop-byte : goal.invariant-loop-byte
+invariant-loop-byte l = fold with_byte (quoting_of l.quoted) (drop l.byte-index l.line) ≡ fold with_byte (record { name = []; comment = []; within = Before }) l.line

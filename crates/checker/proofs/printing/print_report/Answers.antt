@@ -1,0 +1,6 @@
+-- Why `print_report` keeps its promise.
+use Rattle.std.proofs.Common.{inr}
+use Rattle.checker.proofs.printing.print_report.Goals as goal
+
+pub returns-in-Err : goal.returns-in-Err
+returns-in-Err g c = inr c.print_text-in-Err.ensures

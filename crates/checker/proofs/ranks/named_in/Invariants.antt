@@ -1,0 +1,13 @@
+-- What holds each time round the loop of `named_in`: the words that are left, behind those so far, name whom the line names.
+use Rattle.std.proofs.Common.{◌≡◌, [], map, drop}
+use Rattle.paper.specs.Ranking.{IsRanking}
+use Rattle.checker.specs.Ranks.{named_from}
+use Rattle.checker.specs.Views.{ranks_of}
+use Rattle.checker.specs.declared.ranks.NextWord.TheVariants.{Preference}
+use Rattle.checker.proofs.ranks.named_in.Given as goal
+
+abbrev pub invariant-loop-word : goal.invariant-loop-word
+invariant-loop-word l = record {
+  same : named_from l.highest l.withdrawn (ranks_of l.ranks) (map (λ w. w.now) (drop l.word-index l.words)) ≡ named_from l.highest l.withdrawn (record { named = []; next = Preference }) (map (λ w. w.now) l.words);
+  ranking : IsRanking l.ranks.named.items;
+}

@@ -1,0 +1,5 @@
+-- Why `should_be_text` keeps its promise.
+use Rattle.checker.proofs.report.should_be_text.Goals as goal
+
+pub returns : goal.returns
+returns c = rw (c.hint_text-hint.ensures, c.in_ok-should_be.ensures) at c.format.ensures.ok

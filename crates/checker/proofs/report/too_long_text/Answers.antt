@@ -1,0 +1,5 @@
+-- Why `too_long_text` keeps its promise.
+use Rattle.checker.proofs.report.too_long_text.Goals as goal
+
+pub returns : goal.returns
+returns c = rw c.hint_text-hint.ensures at c.format.ensures.ok

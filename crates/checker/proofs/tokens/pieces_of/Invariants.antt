@@ -1,0 +1,10 @@
+-- What holds each time round the loop of `pieces_of`: the pieces so far, followed by those of the bytes that are left, behind the beginning of the next, are those of the text.
+use Rattle.std.proofs.Common.{◌≡◌, ◌≤◌, ◌-◌, ◌++◌, [], map, take, drop}
+use Rattle.checker.specs.Tokens.{pieces_of}
+use Rattle.checker.proofs.tokens.pieces_of.Given as goal
+
+abbrev pub invariant-loop-i : goal.invariant-loop-i
+invariant-loop-i l = record {
+  within : l.start ≤ l.i;
+  same : map (λ p. p.now) l.pieces.items ++ pieces_of l.separator (take (l.i - l.start) (drop l.start l.text)) (drop l.i l.text) ≡ pieces_of l.separator [] l.text;
+}

@@ -1,0 +1,20 @@
+-- How ballots are read, and what a text is checked against.
+pub mod Outcomes
+pub mod Tokens
+pub mod Numbers
+pub mod Ranks
+pub mod Papers
+pub mod ForeignComments
+pub mod Names
+pub mod Comments
+pub mod Reading
+pub mod Differences
+pub mod Wards
+pub mod Checks
+pub mod ReadingBack
+pub mod Views
+pub mod Texts
+pub mod Reports
+pub mod Outputs
+pub mod InputFiles
+pub mod Arguments

@@ -1,0 +1,133 @@
+//! What the program is asked for by its words, and what comes of it.
+
+ghost use Rattle.std.specs.Prelude.{◌≡◌, ◌-◌, ◌^◌, ◌<◌, map, string_bytes, IfOk, IfErr};
+ghost use Rattle.checker.specs.Arguments.{IsAnswer, IsCheckOutcome, IsFilesOutcome, IsOutcome, IsPageFor, IsTextOutcome, IsUnreadFile, asked, is_help, words_told};
+ghost use Rattle.checker.specs.InputFiles.{Holds};
+ghost use Rattle.checker.specs.Outputs.{TellsSome, outputs_of};
+
+use crate::checking::check;
+use crate::hints::hint_of;
+use crate::input_files::{InputFiles, NotRead};
+use crate::printing::print_report;
+use crate::problem::Problem;
+use crate::report::Report;
+use std::alloc::Global;
+use votes::Sink;
+
+/// Why the program's words can't be read.
+#[derive(Clone, Copy)]
+pub enum ArgumentsFault {
+    /// One isn't UTF-8.
+    NotUtf8,
+    /// Memory was wanting.
+    Memory,
+}
+
+/// The bytes of a file, or what comes of it where it isn't read.
+fn bytes_of<F: InputFiles>(alloc: Global, folder: &F, path: &str) -> Result<Vec<u8>, Report>
+    ensures ok { IfOk result (λ bytes. Holds (F.held folder.now) path.now bytes.items) }
+    ensures err { IfErr result (λ told. IsUnreadFile (F.held folder.now) path.now told) }
+{
+    let why = match folder.read(path) {
+        Ok(bytes) => return Ok(bytes),
+        Err(NotRead::Because(why)) => why,
+        Err(NotRead::Memory) => return Err(Report::Hindered(Problem::Memory)),
+    };
+    match String::from_str(alloc, path) {
+        Ok(path) => Err(Report::NotRead { path, why }),
+        Err(_) => Err(Report::Hindered(Problem::Memory)),
+    }
+}
+
+/// What comes of a text beside ballots.
+fn checked(alloc: Global, ballots: &[u8], text: &[u8]) -> Report
+    ensures { IsCheckOutcome ballots.now text.now result }
+{
+    match check(alloc, ballots, text) {
+        Ok(checked) => Report::Checked {
+            checked,
+            hint: hint_of(text),
+        },
+        Err(problem) => Report::Hindered(problem),
+    }
+}
+
+/// What comes of the file of a text beside ballots.
+fn checked_file<F: InputFiles>(alloc: Global, folder: &F, ballots: &[u8], path: &str) -> Report
+    ensures { IsTextOutcome (F.held folder.now) ballots.now path.now result }
+{
+    match bytes_of(alloc, folder, path) {
+        Ok(text) => checked(alloc, ballots, &text),
+        Err(told) => told,
+    }
+}
+
+/// What comes of the files of ballots and of a text.
+fn checked_files<F: InputFiles>(alloc: Global, folder: &F, ballots: &str, text: &str) -> Report
+    ensures { IsFilesOutcome (F.held folder.now) ballots.now text.now result }
+{
+    match bytes_of(alloc, folder, ballots) {
+        Ok(bytes) => checked_file(alloc, folder, &bytes, text),
+        Err(told) => told,
+    }
+}
+
+/// Whether a word asks for help.
+fn is_help(word: &str) -> bool
+    ensures { result ≡ is_help word.now }
+{
+    word == "--help" || word == "-h"
+}
+
+/// What comes of what is asked for.
+fn answer<F: InputFiles>(alloc: Global, words: &[String], folder: &F) -> Report
+    ensures { IsAnswer (F.held folder.now) (asked (map string_bytes words.now)) result }
+{
+    match words {
+        [word] => {
+            if is_help(word.as_str()) {
+                Report::Help
+            } else {
+                Report::NotAsked
+            }
+        }
+        [ballots, text] => checked_files(alloc, folder, ballots.as_str(), text.as_str()),
+        _ => Report::NotAsked,
+    }
+}
+
+/// What comes of the program's words, or of why they can't be read.
+fn outcome_of<F: InputFiles>(
+    alloc: Global,
+    words: &Result<Vec<String>, ArgumentsFault>,
+    folder: &F,
+) -> Report
+    ensures { IsOutcome (F.held folder.now) (words_told (λ given. map string_bytes given.items) words.now) result }
+{
+    match words {
+        Ok(words) => answer(alloc, words, folder),
+        Err(ArgumentsFault::NotUtf8) => Report::NotUtf8,
+        Err(ArgumentsFault::Memory) => Report::Hindered(Problem::Memory),
+    }
+}
+
+/// Does what the program's words ask, prints what comes of it, and gives the status.
+///
+/// The words are `--help`, or the paths of the ballots and of the text that is checked against them. The status is 0 for help, and
+/// where the text is the sheet or the declaration that the ballots give; `out` gets that. It is 1 where the text differs. It is 2
+/// where the words or the ballots aren't understood, or the count doesn't come to its end. It is 3 where a file can't be read or
+/// memory is wanting. Each of these goes to `err`. It is 3 too where one of the two outputs fails, which has then taken a beginning.
+pub fn run<F: InputFiles, O: Sink, E: Sink>(
+    alloc: Global,
+    words: &Result<Vec<String>, ArgumentsFault>,
+    folder: &F,
+    out: &mut O,
+    err: &mut E,
+) -> u8
+    requires out { O.failed out.old < 2 ^ 64 - 1 }
+    requires err { E.failed err.old < 2 ^ 64 - 1 }
+    ensures { let outputs = outputs_of O.taken O.failed E.taken E.failed in
+        TellsSome (outputs out.old err.old) (outputs out.new err.new) result (λ page. IsPageFor (F.held folder.now) (words_told (λ given. map string_bytes given.items) words.now) page) }
+{
+    print_report(alloc, &outcome_of(alloc, words, folder), out, err)
+}

@@ -1,0 +1,120 @@
+//! Where a text first differs from another.
+
+ghost use Rattle.std.specs.Prelude.{◌≡◌, ◌≤◌, length, string_bytes, IfOk};
+ghost use Rattle.checker.specs.Differences.{IsComparison, behind_lines, common, ended_lines, first_line, nearer};
+
+use std::alloc::{AllocError, Global};
+
+/// What came of a check.
+#[derive(Drop)]
+pub enum Checked {
+    /// The text is exactly the stage sheet that the ballots give.
+    Sheet,
+    /// The text is exactly the declaration that the ballots give.
+    Declaration,
+    /// The text differs: the first line that does, counted from 1, and what it should be, with its line
+    /// feed; empty where the text should have ended.
+    Differs { line: u64, should_be: String },
+}
+
+/// The longest beginning that two texts share.
+fn common<'a>(text: &'a [u8], other: &[u8]) -> &'a [u8]
+    ensures { result.now ≡ common text.now other.now }
+{
+    for i in 0..text.len() {
+        if i >= other.len() {
+            return &text[..i];
+        }
+        if text[i] != other[i] {
+            return &text[..i];
+        }
+    }
+    text
+}
+
+/// How many lines of a text are ended.
+fn ended_lines(text: &[u8]) -> usize
+    ensures is { result ≡ ended_lines text.now }
+    ensures few { result ≤ length text.now }
+{
+    let mut lines = 0;
+    for byte in text {
+        if *byte == b'\n' {
+            lines += 1;
+        }
+    }
+    lines
+}
+
+/// A text behind so many of its lines.
+fn behind_lines(lines: usize, text: &[u8]) -> &[u8]
+    ensures { result.now ≡ behind_lines lines text.now }
+{
+    let mut left = lines;
+    for i in 0..text.len() {
+        if left == 0 {
+            return &text[i..];
+        }
+        if text[i] != b'\n' {
+            continue;
+        }
+        left -= 1;
+    }
+    &[]
+}
+
+/// The first line of a text, with its line feed.
+fn first_line(text: &[u8]) -> &[u8]
+    ensures { result.now ≡ first_line text.now }
+{
+    for i in 0..text.len() {
+        if text[i] == b'\n' {
+            return &text[..i + 1];
+        }
+    }
+    text
+}
+
+/// A line of a text, behind so many of its lines.
+fn line_behind(alloc: Global, lines: usize, text: &str) -> Result<String, AllocError>
+    ensures { IfOk result (λ line. string_bytes line ≡ first_line (behind_lines lines text.now)) }
+{
+    let line = first_line(behind_lines(lines, text.as_bytes()));
+    let bytes = Vec::from_slice(alloc, line)?;
+    Ok(String::from_utf8(bytes).unwrap())
+}
+
+/// Of a sheet and a declaration the one that a text is like for longer.
+fn nearer<'a>(text: &[u8], sheet: &'a str, declaration: &'a str) -> &'a str
+    ensures { result.now ≡ nearer text.now sheet.now declaration.now }
+{
+    if common(text, sheet.as_bytes()).len() < common(text, declaration.as_bytes()).len() {
+        declaration
+    } else {
+        sheet
+    }
+}
+
+/// A text beside a sheet and a declaration. The only error is want of memory.
+pub(crate) fn comparison(
+    alloc: Global,
+    text: &[u8],
+    sheet: &str,
+    declaration: &str,
+) -> Result<Checked, AllocError>
+    ensures { IfOk result (λ checked. IsComparison text.now sheet.now declaration.now checked) }
+{
+    if text == sheet.as_bytes() {
+        return Ok(Checked::Sheet);
+    }
+    if text == declaration.as_bytes() {
+        return Ok(Checked::Declaration);
+    }
+    let should = nearer(text, sheet, declaration);
+    let same = ended_lines(common(text, should.as_bytes()));
+    let should_be = line_behind(alloc, same, should)?;
+    Ok(Checked::Differs {
+        line: same as u64 + 1,
+        should_be,
+    })
+}

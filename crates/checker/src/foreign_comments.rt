@@ -1,0 +1,67 @@
+//! Comments that are passed over, and those that aren't since they begin as ours do.
+
+ghost use Rattle.std.specs.Prelude.{◌≡◌};
+ghost use Rattle.checker.specs.ForeignComments.{begins_as_ours, behind_number_sign, behind_signs, first_letters, is_ours, skip_foreign};
+
+use crate::problem::BallotsFlaw;
+
+/// A text from its first letter or digit on.
+fn behind_signs(text: &[u8]) -> &[u8]
+    ensures { result.now ≡ behind_signs text.now }
+{
+    for i in 0..text.len() {
+        if text[i].is_ascii_alphanumeric() {
+            return &text[i..];
+        }
+    }
+    &[]
+}
+
+/// The letters at the front of a text.
+fn first_letters(text: &[u8]) -> &[u8]
+    ensures { result.now ≡ first_letters text.now }
+{
+    for i in 0..text.len() {
+        if !text[i].is_ascii_alphabetic() {
+            return &text[..i];
+        }
+    }
+    text
+}
+
+/// Whether a word is one of ours, in capitals or not.
+fn is_ours(word: &[u8]) -> bool
+    ensures { result ≡ is_ours word.now }
+{
+    word.eq_ignore_ascii_case(b"Ward")
+        || (word.eq_ignore_ascii_case(b"Rejected") || word.eq_ignore_ascii_case(b"Lot"))
+}
+
+/// Whether a comment begins with one of our words.
+fn begins_as_ours(comment: &[u8]) -> bool
+    ensures { result ≡ begins_as_ours comment.now }
+{
+    is_ours(first_letters(behind_signs(comment)))
+}
+
+/// Passes over a comment that isn't read as one of ours, unless it begins as ours do.
+pub(crate) fn skip_foreign(comment: &[u8]) -> Result<(), BallotsFlaw>
+    ensures { result ≡ skip_foreign comment.now }
+{
+    if begins_as_ours(comment) {
+        return Err(BallotsFlaw::Astray);
+    }
+    Ok(())
+}
+
+/// What stands behind the `#` of a line of numbers.
+pub(crate) fn behind_number_sign(line: &[u8]) -> &[u8]
+    ensures { result.now ≡ behind_number_sign line.now }
+{
+    for i in 0..line.len() {
+        if line[i] == b'#' {
+            return &line[i + 1..];
+        }
+    }
+    &[]
+}

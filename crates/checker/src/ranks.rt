@@ -1,0 +1,192 @@
+//! The preferences on a line of papers.
+
+ghost use Rattle.std.specs.Prelude.{◌≡◌, ◌≤◌, [], length, map, IfOk};
+ghost use Rattle.paper.specs.Columns.{max_candidates};
+ghost use Rattle.paper.specs.Ranking.{IsRanking};
+ghost use Rattle.checker.specs.Outcomes.{outcome, told_as};
+ghost use Rattle.checker.specs.Ranks.{is_zero, named_in, named_of, standing_from, with_candidate, with_each, with_rank, with_word, without};
+ghost use Rattle.checker.specs.Views.{ranks_of};
+
+use crate::numbers::candidate_in;
+use crate::problem::BallotsFlaw;
+use crate::tokens::{Separator, pieces_of};
+use paper::Columns;
+use std::alloc::{AllocError, Global};
+
+/// Where the next word of a line of papers stands.
+#[derive(Clone, Copy)]
+pub(crate) enum NextWord {
+    /// Where preferences are read.
+    Preference,
+    /// Behind a shared rank, where none is read any more.
+    BehindShared,
+    /// Behind the 0.
+    BehindZero,
+}
+
+/// The candidates whom a line of papers names so far, the first preference first, and where its next word stands.
+#[derive(Drop)]
+pub(crate) struct Ranks {
+    named: Vec<u8>,
+    next: NextWord,
+}
+
+/// Whether a word is 0, which ends a line.
+pub(crate) fn is_zero(word: &[u8]) -> bool
+    ensures { result ≡ is_zero word.now }
+{
+    word == b"0".as_slice()
+}
+
+/// How many of the candidates stand whose numbers these words write.
+fn standing_in(highest: u8, withdrawn: &Columns, words: &[&[u8]]) -> Result<usize, BallotsFlaw>
+    ensures { result ≡ standing_from highest withdrawn.now 0 (map (λ w. w.now) words.now) }
+{
+    let mut standing = 0;
+    for word in words {
+        if withdrawn.has(candidate_in(highest, word)?) {
+            continue;
+        }
+        standing += 1;
+    }
+    Ok(standing)
+}
+
+impl Ranks {
+    /// One candidate more.
+    fn add(&mut self, highest: u8, word: &[u8]) -> Result<Result<(), BallotsFlaw>, AllocError>
+        requires { highest ≤ max_candidates }
+        ensures is { IfOk result (λ told. outcome told (ranks_of self.new) ≡ with_candidate highest (ranks_of self.old) word.now) }
+        ensures ranking { IfOk result (λ _. IsRanking self.old.named.items → IsRanking self.new.named.items) }
+    {
+        let c = match candidate_in(highest, word) {
+            Ok(c) => c,
+            Err(flaw) => return Ok(Err(flaw)),
+        };
+        if self.named.contains(&c) {
+            return Ok(Err(BallotsFlaw::CandidateTwice));
+        }
+        self.named.push(c)?;
+        Ok(Ok(()))
+    }
+
+    /// Several, one behind another.
+    fn add_each(
+        &mut self,
+        highest: u8,
+        words: &[&[u8]],
+    ) -> Result<Result<(), BallotsFlaw>, AllocError>
+        requires { highest ≤ max_candidates }
+        ensures is { IfOk result (λ told. outcome told (ranks_of self.new) ≡ with_each highest (ranks_of self.old) (map (λ w. w.now) words.now)) }
+        ensures ranking { IfOk result (λ _. IsRanking self.old.named.items → IsRanking self.new.named.items) }
+    {
+        for word in words {
+            if let Err(flaw) = self.add(highest, word)? {
+                return Ok(Err(flaw));
+            }
+        }
+        Ok(Ok(()))
+    }
+
+    /// A rank more, of whose candidates so many stand.
+    fn add_rank(
+        &mut self,
+        highest: u8,
+        words: &[&[u8]],
+        standing: usize,
+    ) -> Result<Result<(), BallotsFlaw>, AllocError>
+        requires { highest ≤ max_candidates }
+        ensures is { IfOk result (λ told. outcome told (ranks_of self.new) ≡ with_rank self.old.next highest (ranks_of self.old) (map (λ w. w.now) words.now) standing) }
+        ensures ranking { IfOk result (λ _. IsRanking self.old.named.items → IsRanking self.new.named.items) }
+    {
+        match self.next {
+            NextWord::Preference => {}
+            NextWord::BehindShared => return Ok(Ok(())),
+            NextWord::BehindZero => return Ok(Err(BallotsFlaw::NoZero)),
+        }
+        if standing > 1 {
+            self.next = NextWord::BehindShared;
+            return Ok(Ok(()));
+        }
+        self.add_each(highest, words)
+    }
+
+    /// One word more.
+    fn take(
+        &mut self,
+        alloc: Global,
+        highest: u8,
+        withdrawn: &Columns,
+        word: &[u8],
+    ) -> Result<Result<(), BallotsFlaw>, AllocError>
+        requires { highest ≤ max_candidates }
+        ensures is { IfOk result (λ told. outcome told (ranks_of self.new) ≡ with_word highest withdrawn.now (ranks_of self.old) word.now) }
+        ensures ranking { IfOk result (λ _. IsRanking self.old.named.items → IsRanking self.new.named.items) }
+    {
+        if let NextWord::BehindZero = self.next {
+            return Ok(Err(BallotsFlaw::NoZero));
+        }
+        if is_zero(word) {
+            self.next = NextWord::BehindZero;
+            return Ok(Ok(()));
+        }
+        let words = pieces_of(alloc, Separator::Equals, word)?;
+        match standing_in(highest, withdrawn, &words) {
+            Ok(standing) => self.add_rank(highest, &words, standing),
+            Err(flaw) => Ok(Err(flaw)),
+        }
+    }
+
+    /// The candidates whom a whole line names.
+    fn into_named(self) -> Result<Vec<u8>, BallotsFlaw>
+        ensures is { told_as (λ named. named.items) result ≡ named_of (ranks_of self) }
+        ensures ranking { IfOk result (λ named. named ≡ self.named) }
+    {
+        match self.next {
+            NextWord::BehindZero => Ok(self.named),
+            NextWord::Preference | NextWord::BehindShared => Err(BallotsFlaw::NoZero),
+        }
+    }
+}
+
+/// The candidates whom the words behind a number of papers name, in their order, up to a shared rank or the 0.
+pub(crate) fn named_in(
+    alloc: Global,
+    highest: u8,
+    withdrawn: &Columns,
+    words: &[&[u8]],
+) -> Result<Result<Vec<u8>, BallotsFlaw>, AllocError>
+    requires { highest ≤ max_candidates }
+    ensures is { IfOk result (λ told. told_as (λ named. named.items) told ≡ named_in highest withdrawn.now (map (λ w. w.now) words.now)) }
+    ensures ranking { IfOk result (λ told. IfOk told (λ named. IsRanking named.items)) }
+{
+    let mut ranks = Ranks {
+        named: Vec::new(alloc),
+        next: NextWord::Preference,
+    };
+    for word in words {
+        if let Err(flaw) = ranks.take(alloc, highest, withdrawn, word)? {
+            return Ok(Err(flaw));
+        }
+    }
+    Ok(ranks.into_named())
+}
+
+/// Those of some candidates who stand.
+pub(crate) fn without(
+    alloc: Global,
+    withdrawn: &Columns,
+    named: &[u8],
+) -> Result<Vec<u8>, AllocError>
+    ensures is { IfOk result (λ list. list.items ≡ without withdrawn.now named.now) }
+    ensures ranking { IfOk result (λ list. IsRanking named.now → IsRanking list.items) }
+{
+    let mut list = Vec::new(alloc);
+    for c in named {
+        if withdrawn.has(*c) {
+            continue;
+        }
+        list.push(*c)?;
+    }
+    Ok(list)
+}

@@ -1,0 +1,243 @@
+//! Ballots, read line by line.
+
+ghost use Rattle.std.specs.Prelude.{◌≡◌, ◌<◌, ◌≤◌, map, length, IfOk, IfErr, Ok};
+ghost use Rattle.paper.specs.Columns.{max_candidates};
+ghost use Rattle.checker.specs.Outcomes.{outcome, told_as};
+ghost use Rattle.checker.specs.Reading.{at_end, before_comment, is_end_line, is_withdrawn_line, nothing_told, read, read_from};
+ghost use Rattle.checker.specs.Reading.{words_before_comment, with_content_at, with_line, with_name_line, with_papers_line, with_size_line, with_withdrawn_line};
+ghost use Rattle.checker.specs.Views.{IsFlawOf, reading_of};
+
+use crate::foreign_comments::{behind_number_sign, skip_foreign};
+use crate::names::name_in;
+use crate::problem::{BallotsFlaw, Problem};
+use crate::ranks::is_zero;
+use crate::state::{CandidateNames, Comments, NextLine, PaperTotals, Reader};
+use crate::tokens::{LineKind, Separator, kind_of, lines_of, pieces_of};
+use count::Bundles;
+use paper::Columns;
+use std::alloc::{AllocError, Global};
+
+/// The bytes of a line of numbers before a `#`, which begins a comment.
+fn before_comment(line: &[u8]) -> &[u8]
+    ensures { result.now ≡ before_comment line.now }
+{
+    for i in 0..line.len() {
+        if line[i] == b'#' {
+            return &line[..i];
+        }
+    }
+    line
+}
+
+/// The words of a line of numbers, with a comment behind them at most.
+fn words_before_comment(
+    alloc: Global,
+    line: &[u8],
+) -> Result<Result<Vec<&[u8]>, BallotsFlaw>, AllocError>
+    ensures { IfOk result (λ told. told_as (λ words. map (λ w. w.now) words.items) told ≡ words_before_comment line.now) }
+{
+    if let Err(flaw) = skip_foreign(behind_number_sign(line)) {
+        return Ok(Err(flaw));
+    }
+    Ok(Ok(pieces_of(alloc, Separator::Blank, before_comment(line))?))
+}
+
+/// Whether a line of numbers is `0`, which ends the papers.
+fn is_end_line(words: &[&[u8]]) -> bool
+    ensures { result ≡ is_end_line (map (λ w. w.now) words.now) }
+{
+    match words {
+        [word] => is_zero(word),
+        _ => false,
+    }
+}
+
+/// Whether a line of numbers begins with a minus.
+fn is_withdrawn_line(words: &[&[u8]]) -> bool
+    ensures { result ≡ is_withdrawn_line (map (λ w. w.now) words.now) }
+{
+    match words {
+        [[byte, ..], ..] => *byte == b'-',
+        _ => false,
+    }
+}
+
+impl Reader {
+    /// Nothing is known yet.
+    fn new(alloc: Global) -> Reader
+        ensures { reading_of result ≡ nothing_told }
+    {
+        Reader {
+            place: NextLine::Size,
+            papers: PaperTotals {
+                highest: 0,
+                seats: 1,
+                withdrawn: Columns::empty(),
+                bundles: Bundles::new(alloc),
+            },
+            names: CandidateNames {
+                names: Vec::new(alloc),
+                ward: String::new(alloc),
+            },
+            comments: Comments {
+                ward: None,
+                rejected: None,
+                lots: Vec::new(alloc),
+            },
+        }
+    }
+
+    /// The first line of numbers.
+    fn take_size_line(&mut self, words: &[&[u8]]) -> Result<(), BallotsFlaw>
+        ensures { outcome result (reading_of self.new) ≡ with_size_line (reading_of self.old) (map (λ w. w.now) words.now) }
+    {
+        self.papers.take_size(words)?;
+        self.place = NextLine::Withdrawn;
+        Ok(())
+    }
+
+    /// A line of papers, or the one that ends them.
+    fn take_papers_line(
+        &mut self,
+        alloc: Global,
+        words: &[&[u8]],
+    ) -> Result<Result<(), BallotsFlaw>, AllocError>
+        ensures { IfOk result (λ told. outcome told (reading_of self.new) ≡ with_papers_line (reading_of self.old) (map (λ w. w.now) words.now)) }
+    {
+        if is_end_line(words) {
+            self.place = NextLine::CandidateNames;
+            return Ok(Ok(()));
+        }
+        if let Err(flaw) = self.papers.take_bundle(alloc, words)? {
+            return Ok(Err(flaw));
+        }
+        self.place = NextLine::PaperTotals;
+        Ok(Ok(()))
+    }
+
+    /// A line of withdrawn candidates, or one of papers.
+    fn take_withdrawn_line(
+        &mut self,
+        alloc: Global,
+        words: &[&[u8]],
+    ) -> Result<Result<(), BallotsFlaw>, AllocError>
+        requires { self.old.place ≡ NextLine.Withdrawn }
+        ensures { IfOk result (λ told. outcome told (reading_of self.new) ≡ with_withdrawn_line (reading_of self.old) (map (λ w. w.now) words.now)) }
+    {
+        if is_withdrawn_line(words) {
+            return Ok(self.papers.take_withdrawn(words));
+        }
+        self.take_papers_line(alloc, words)
+    }
+
+    /// A name.
+    fn take_name_line(
+        &mut self,
+        alloc: Global,
+        line: &[u8],
+    ) -> Result<Result<(), BallotsFlaw>, AllocError>
+        requires { self.old.place ≡ NextLine.CandidateNames }
+        ensures { IfOk result (λ told. outcome told (reading_of self.new) ≡ with_name_line (reading_of self.old) line.now) }
+    {
+        let name = match name_in(alloc, line)? {
+            Ok(name) => name,
+            Err(flaw) => return Ok(Err(flaw)),
+        };
+        if self.names.names.len() < usize::from(self.papers.highest) {
+            self.names.names.push(name)?;
+        } else {
+            self.names.ward = name;
+            self.place = NextLine::End;
+        }
+        Ok(Ok(()))
+    }
+
+    /// A line with content.
+    fn take_content(
+        &mut self,
+        alloc: Global,
+        line: &[u8],
+    ) -> Result<Result<(), BallotsFlaw>, AllocError>
+        ensures { IfOk result (λ told. outcome told (reading_of self.new) ≡ with_content_at self.old.place (reading_of self.old) line.now) }
+    {
+        match self.place {
+            NextLine::CandidateNames => return self.take_name_line(alloc, line),
+            NextLine::End => return Ok(Err(BallotsFlaw::BehindName)),
+            NextLine::Size | NextLine::Withdrawn | NextLine::PaperTotals => {}
+        }
+        let words = match words_before_comment(alloc, line)? {
+            Ok(words) => words,
+            Err(flaw) => return Ok(Err(flaw)),
+        };
+        match self.place {
+            NextLine::Size => Ok(self.take_size_line(&words)),
+            NextLine::Withdrawn => self.take_withdrawn_line(alloc, &words),
+            _ => self.take_papers_line(alloc, &words),
+        }
+    }
+
+    /// A line.
+    fn take_line(
+        &mut self,
+        alloc: Global,
+        line: &[u8],
+    ) -> Result<Result<(), BallotsFlaw>, AllocError>
+        ensures { IfOk result (λ told. outcome told (reading_of self.new) ≡ with_line (reading_of self.old) line.now) }
+    {
+        match kind_of(line) {
+            LineKind::Empty => Ok(Ok(())),
+            LineKind::Comment => self.comments.take(alloc, line),
+            LineKind::Content => self.take_content(alloc, line),
+        }
+    }
+
+    /// Whether the file may end here.
+    fn at_end(&self) -> Result<(), BallotsFlaw>
+        ensures { outcome result (reading_of self.now) ≡ at_end self.now.place (reading_of self.now) }
+    {
+        match self.place {
+            NextLine::Size => Err(BallotsFlaw::NoSize),
+            NextLine::Withdrawn | NextLine::PaperTotals => Err(BallotsFlaw::NoEnd),
+            NextLine::CandidateNames => Err(BallotsFlaw::NamesWanting),
+            NextLine::End => Ok(()),
+        }
+    }
+}
+
+/// What some lines say, or the first of them that isn't understood.
+fn read_lines(alloc: Global, lines: &[&[u8]]) -> Result<Reader, Problem>
+    ensures ok { IfOk result (λ reader. read_from 0 nothing_told (map (λ line. line.now) lines.now) ≡ Ok (reading_of reader)) }
+    ensures err { IfErr result (λ problem. IsFlawOf (read_from 0 nothing_told (map (λ line. line.now) lines.now)) problem) }
+{
+    let mut reader = Reader::new(alloc);
+    for (i, line) in lines.iter().enumerate() {
+        match reader.take_line(alloc, line) {
+            Ok(Ok(())) => {}
+            Ok(Err(flaw)) => {
+                return Err(Problem::Line {
+                    line: i as u64 + 1,
+                    flaw,
+                });
+            }
+            Err(_) => return Err(Problem::Memory),
+        }
+    }
+    match reader.at_end() {
+        Ok(()) => Ok(reader),
+        Err(flaw) => Err(Problem::Line {
+            line: lines.len() as u64,
+            flaw,
+        }),
+    }
+}
+
+/// What a file says, or the first line of it that isn't understood.
+pub(crate) fn read(alloc: Global, bytes: &[u8]) -> Result<Reader, Problem>
+    ensures ok { IfOk result (λ reader. read bytes.now ≡ Ok (reading_of reader)) }
+    ensures err { IfErr result (λ problem. IsFlawOf (read bytes.now) problem) }
+{
+    match lines_of(alloc, bytes) {
+        Ok(lines) => read_lines(alloc, &lines),
+        Err(_) => Err(Problem::Memory),
+    }
+}

@@ -1,0 +1,7 @@
+-- The lemmas, by subject.
+pub mod StreamLemmas
+pub mod TableLemmas
+pub mod OfLemmas
+pub mod ClosingLemmas
+pub mod TraceLemmas
+pub mod BoundLemmas

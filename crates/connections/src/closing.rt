@@ -1,0 +1,195 @@
+//! Which connections are closed before they have their response: those that are timed out, those that make room for another, and
+//! all of them at the end.
+
+ghost use Rattle.std.specs.Prelude.{◌≡◌, ◌⊎◌, ◌≤◌, ◌<◌, ◌-◌, [], false, length, true};
+ghost use Rattle.std.specs.List.{All};
+ghost use Rattle.connections.specs.Tables.{bytes_held, is_among, most_bytes, most_clients};
+ghost use Rattle.connections.specs.Closing.{AreClosedByRule, IsClosed, IsClosedAt, IsFull, IsClosedByRule, IsClosedForBytes, IsClosedForRoom};
+ghost use Rattle.connections.specs.Closing.{IsWithin, ClosesOne, byte_limit_rule, eviction_rule, grace, timeout_rule, timeout};
+
+use crate::network::Network;
+use crate::removed::CloseReason;
+use crate::table::{ConnectionTable, MAX_BYTES, MAX_CLIENTS, bytes_held, longest_waiting};
+
+/// How long a connection may take to send its request, and as long again to accept its response, in milliseconds.
+pub const TIMEOUT: u64 = 30_000;
+
+/// How long a new connection is safe from being closed to make room, in milliseconds.
+const GRACE: u64 = 1_000;
+
+/// A rule by which those connections are closed that have waited longest: whether orders are closed too, how long a connection must
+/// have waited at a moment, both in milliseconds, and the reason.
+#[derive(Clone, Copy)]
+pub struct Rule {
+    pub orders_too: bool,
+    pub least: u64,
+    pub now: u64,
+    pub why: CloseReason,
+}
+
+/// Returns the rule for connections that are timed out, of clients and of orders.
+fn timeout_rule(now: u64) -> Rule
+    ensures { result ≡ timeout_rule now }
+{
+    Rule {
+        orders_too: true,
+        least: TIMEOUT,
+        now,
+        why: CloseReason::TimedOut,
+    }
+}
+
+/// Returns the rule by which room is made: it closes clients only, and only those that have waited for a second.
+fn eviction_rule(now: u64) -> Rule
+    ensures { result ≡ eviction_rule now }
+{
+    Rule {
+        orders_too: false,
+        least: GRACE,
+        now,
+        why: CloseReason::Evicted,
+    }
+}
+
+/// Returns the rule for too many bytes: it closes clients only, or orders too.
+fn byte_limit_rule(orders_too: bool) -> Rule
+    ensures { result ≡ byte_limit_rule orders_too }
+{
+    Rule {
+        orders_too,
+        least: 0,
+        now: 0,
+        why: CloseReason::Evicted,
+    }
+}
+
+/// Closes the connection at a place, for a reason.
+fn close_at<D: Network>(
+    network: &mut D,
+    table: &mut ConnectionTable<D::Stream>,
+    place: usize,
+    why: CloseReason,
+)
+    requires { place < length table.old.clients.items }
+    ensures closed { IsClosedAt why place table.old.clients.items (D.known network.old) table.new.clients.items (D.known network.new) }
+    ensures came { table.new.came ≡ table.old.came }
+    ensures counted { table.new.counted ≡ table.old.counted }
+{
+    network.close(table.remove_at(place).into_removed(why));
+}
+
+/// Closes the connection that has waited longest, of those that a rule applies to, if it has waited long enough. Returns whether
+/// one was closed.
+fn close_one<D: Network>(
+    network: &mut D,
+    table: &mut ConnectionTable<D::Stream>,
+    rule: Rule,
+) -> bool
+    ensures go { ClosesOne (IsClosedByRule rule) result (D.known network.old) (D.known network.new) table.old table.new }
+    ensures nobody { result ≡ false → All (λ client. is_among rule.orders_too client.listener ≡ true → rule.now - client.since < rule.least) table.old.clients.items }
+{
+    let Some(place) = longest_waiting(table.clients.as_slice(), rule.orders_too) else {
+        return false;
+    };
+    if rule.now.saturating_sub(table.clients[place].since) < rule.least {
+        return false;
+    }
+    close_at(network, table, place, rule.why);
+    true
+}
+
+/// Closes all connections whose time limit is over.
+pub fn close_timed_out<D: Network>(
+    network: &mut D,
+    table: &mut ConnectionTable<D::Stream>,
+    now: u64,
+)
+    ensures go { AreClosedByRule (IsClosedByRule (timeout_rule now)) (D.known network.old) (D.known network.new) table.old table.new }
+    ensures all { length table.old.clients.items ≤ most_clients → All (λ client. now - client.since < timeout) table.new.clients.items }
+{
+    for turn in 0..MAX_CLIENTS {
+        if !close_one(network, table, timeout_rule(now)) {
+            return;
+        }
+    }
+}
+
+/// Closes the client that has waited longest, or an order if there is no client. Returns whether one was closed.
+fn close_one_for_bytes<D: Network>(network: &mut D, table: &mut ConnectionTable<D::Stream>) -> bool
+    requires { most_bytes < bytes_held table.old.clients.items }
+    ensures go { ClosesOne IsClosedForBytes result (D.known network.old) (D.known network.new) table.old table.new }
+    ensures nobody { result ≡ false → table.old.clients.items ≡ [] }
+{
+    close_one(network, table, byte_limit_rule(false))
+        || close_one(network, table, byte_limit_rule(true))
+}
+
+/// Closes the connections that have waited longest, clients first, until the bytes in memory are within the limit.
+pub fn keep_within<D: Network>(network: &mut D, table: &mut ConnectionTable<D::Stream>)
+    ensures go { AreClosedByRule IsClosedForBytes (D.known network.old) (D.known network.new) table.old table.new }
+    ensures within { length table.old.clients.items ≤ most_clients → bytes_held table.new.clients.items ≤ most_bytes }
+{
+    for turn in 0..MAX_CLIENTS {
+        if bytes_held(table.clients.as_slice()) <= MAX_BYTES {
+            return;
+        }
+        let _ = close_one_for_bytes(network, table);
+    }
+}
+
+/// Returns whether the table is full.
+fn is_full<L>(table: &ConnectionTable<L>) -> bool
+    ensures full { result ≡ true → IsFull table.now }
+    ensures spare { result ≡ false → length table.now.clients.items < most_clients }
+{
+    table.clients.len() >= MAX_CLIENTS || bytes_held(table.clients.as_slice()) >= MAX_BYTES
+}
+
+/// Closes one connection for the next, because the system has no room for both. Returns whether one was closed.
+pub fn evict_one<D: Network>(
+    network: &mut D,
+    table: &mut ConnectionTable<D::Stream>,
+    now: u64,
+) -> bool
+    ensures go { ClosesOne (IsClosedByRule (eviction_rule now)) result (D.known network.old) (D.known network.new) table.old table.new }
+    ensures nobody { result ≡ false → All (λ client. is_among false client.listener ≡ true → now - client.since < grace) table.old.clients.items }
+{
+    close_one(network, table, eviction_rule(now))
+}
+
+/// Makes sure that one more connection can be accepted, and returns whether it can. If the table is full, and clients may be closed
+/// for it, this closes the client that has waited longest, provided that it has waited for a second. An order is never closed for
+/// another connection.
+pub fn evict_if_full<D: Network>(
+    network: &mut D,
+    table: &mut ConnectionTable<D::Stream>,
+    lets_go: bool,
+    now: u64,
+) -> bool
+    ensures go { AreClosedByRule (IsClosedForRoom now) (D.known network.old) (D.known network.new) table.old table.new }
+    ensures table { result ≡ true → length table.new.clients.items < most_clients }
+    ensures only { (table.new ≡ table.old) ⊎ IsFull table.old }
+    ensures denied { result ≡ false → IsFull table.old }
+    ensures nobody { result ≡ false → IsWithin table.old → lets_go ≡ true → All (λ client. is_among false client.listener ≡ true → now - client.since < grace) table.old.clients.items }
+{
+    if !is_full(table) {
+        return true;
+    }
+    if !lets_go {
+        return false;
+    }
+    if !evict_one(network, table, now) {
+        return false;
+    }
+    table.clients.len() < MAX_CLIENTS
+}
+
+/// Closes all connections.
+pub fn close_all<D: Network>(network: &mut D, table: &mut ConnectionTable<D::Stream>)
+    ensures go { AreClosedByRule IsClosed (D.known network.old) (D.known network.new) table.old table.new }
+    ensures none { table.new.clients.items ≡ [] }
+{
+    while !table.clients.is_empty() {
+        close_at(network, table, 0, CloseReason::Closing);
+    }
+}

@@ -1,0 +1,63 @@
+//! What accepts connections, reports which are ready, and closes them.
+
+ghost use Rattle.std.specs.Prelude.{◌≡◌, Bool};
+ghost use Rattle.connections.specs.Tables.{NetworkEntry, IsFresh, IsWanted, after_accept, after_look, after_ready, after_wait, with_removed};
+
+use crate::client::Accepted;
+use crate::removed::Removed;
+use crate::stream::Stream;
+use std::time::Duration;
+use votes::Broken;
+
+/// What a listener returned.
+#[derive(Drop)]
+pub enum AcceptOutcome<L> {
+    /// The next connection.
+    One(Accepted<L>),
+    /// No connection is pending, or none that is wanted.
+    Nobody,
+    /// The next connection failed before it was accepted. Another may be pending.
+    NotNow,
+    /// The system has no descriptor or memory left for one more connection. Closing one makes room, and a connection may be
+    /// pending.
+    Full,
+}
+
+/// Accepts connections of clients and of orders, and reports which are ready. Readiness is no promise: a connection that was
+/// reported may have nothing to read. A connection that ends is handed back, with the reason, and closed. A network has a clock.
+pub trait Network {
+    type Stream: Stream + Drop;
+
+    /// What is known of the network.
+    ghost known: { Self → NetworkEntry Self.Stream };
+
+    /// Whether a connection may be pending.
+    ghost pending: { Self → Bool };
+
+    /// Returns the time of the clock, in milliseconds.
+    fn now(&mut self) -> Result<u64, Broken>
+        ensures { known self.new ≡ after_look result (known self.old) };
+
+    /// Waits until a connection is ready or pending, at most for this long.
+    fn wait(&mut self, most: Duration) -> Result<(), Broken>
+        ensures { known self.new ≡ after_wait result (known self.old) };
+
+    /// Returns the number of the next connection that is ready; `None` once all were reported.
+    fn next_ready(&mut self) -> Option<u64>
+        ensures { known self.new ≡ after_ready result (known self.old) };
+
+    /// Accepts the next pending connection, which has this number from then on. Orders come first, and clients are accepted only if
+    /// they are wanted.
+    fn accept(&mut self, number: u64, clients_too: bool) -> AcceptOutcome<Self::Stream>
+        ensures fresh { IsFresh Self.Stream.taken result }
+        ensures wanted { IsWanted clients_too result }
+        ensures known { known self.new ≡ after_accept result (known self.old) };
+
+    /// Takes back the stream of a removed connection, and closes it.
+    fn close(&mut self, removed: Removed<Self::Stream>)
+        ensures { known self.new ≡ with_removed (known self.old) removed };
+
+    /// Returns whether a connection may be pending.
+    fn has_pending(&self) -> bool
+        ensures { result ≡ pending self.now };
+}

@@ -1,9 +1,0 @@
--- What holds each time round the loop of `print_frames`: neither output has failed.
-use Rattle.std.proofs.Common.{◌≡◌}
-use Rattle.count_office.proofs.handing.print_frames.Given as goal
-
-abbrev pub invariant-loop : goal.invariant-loop
-invariant-loop g l = record {
-  out : g.O.Sink.failed l.out ≡ g.O.Sink.failed l.fn.out;
-  err : g.E.Sink.failed l.err ≡ g.E.Sink.failed l.fn.err;
-}

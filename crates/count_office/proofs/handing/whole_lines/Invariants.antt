@@ -1,6 +1,0 @@
--- What holds each time round the loop of `whole_lines`: the lines so far are among the bytes.
-use Rattle.std.specs.Prelude.{◌≤◌, length}
-use Rattle.count_office.proofs.handing.whole_lines.Given as goal
-
-abbrev pub invariant-loop-place : goal.invariant-loop-place
-invariant-loop-place l = l.whole ≤ length l.fn.bytes

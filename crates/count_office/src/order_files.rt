@@ -1,0 +1,186 @@
+//! The words of an order, and the bytes of the files that it reads. They are read with the rights and in the folder of the person
+//! who gives the order, before it is handed over to the program that serves the database.
+
+use desk::{Folder, Job, Order, Task, files_named_in};
+use order_protocol::{MAX_MESSAGE, is_message_len};
+use std::alloc::{AllocError, Global};
+use std::fs::File;
+use std::io::{self, Read};
+use store::Fault;
+
+/// A word of an order; or a file that it names, with its bytes, or without if it can't be read.
+#[derive(Drop)]
+pub struct OrderPart {
+    pub name: String,
+    pub bytes: Option<Vec<u8>>,
+}
+
+/// The words of an order, and the files that it reads.
+#[derive(Drop)]
+pub struct OrderFiles {
+    pub words: Vec<OrderPart>,
+    pub files: Vec<OrderPart>,
+}
+
+impl OrderPart {
+    /// Whether all of the file was read: of a longer one than a message may be, only the beginning was.
+    fn is_whole(&self) -> bool {
+        match &self.bytes {
+            Some(bytes) => is_message_len(bytes.len()),
+            None => true,
+        }
+    }
+}
+
+impl OrderFiles {
+    /// Returns the file at a path, if it was read.
+    fn file(&self, path: &str) -> Option<&OrderPart> {
+        for file in &self.files {
+            if file.name.as_str() == path {
+                return Some(file);
+            }
+        }
+        None
+    }
+}
+
+/// Returns the bytes of a file, at most one more than a message may have; `None` if it can't be read.
+fn bytes_at(rt: &HostRuntime, path: &str) -> Option<Vec<u8>> {
+    let file = File::open(rt, path).ok()?;
+    let mut bytes = Vec::new(rt.alloc());
+    file.take(MAX_MESSAGE as u64 + 1)
+        .read_to_end(&mut bytes)
+        .ok()?;
+    Some(bytes)
+}
+
+/// Reads the file at a path, unless it was read before.
+fn bring(rt: &HostRuntime, files: &mut Vec<OrderPart>, path: &str) -> Result<(), AllocError> {
+    if files.iter().any(|file| file.name.as_str() == path) {
+        return Ok(());
+    }
+    let bytes = bytes_at(rt, path);
+    let name = String::from_str(rt.alloc(), path)?;
+    files.push(OrderPart { name, bytes })?;
+    Ok(())
+}
+
+/// Returns the paths that the script names which was read first.
+fn named_by(alloc: Global, files: &[OrderPart]) -> Result<Vec<String>, AllocError> {
+    match files.first() {
+        Some(
+            OrderPart {
+                bytes: Some(script),
+                ..
+            },
+        ) => files_named_in(alloc, script),
+        _ => Ok(Vec::new(alloc)),
+    }
+}
+
+/// Reads the files of an order, each once: its own, and for a script those that its lines name.
+fn files_of(rt: &HostRuntime, order: &Order<'_>) -> Result<Vec<OrderPart>, AllocError> {
+    let mut files = Vec::new(rt.alloc());
+    let Order::Perform(task) = order else {
+        return Ok(files);
+    };
+    if let Some(path) = task.file() {
+        bring(rt, &mut files, path)?;
+    }
+    if let Task::InOffice(Job::Replay { .. }) = task {
+        for path in named_by(rt.alloc(), &files)? {
+            bring(rt, &mut files, path.as_str())?;
+        }
+    }
+    Ok(files)
+}
+
+/// Returns the words of an order.
+fn words_of(alloc: Global, words: &[&str]) -> Result<Vec<OrderPart>, AllocError> {
+    let mut parts = Vec::new(alloc);
+    for word in words {
+        parts.push(OrderPart {
+            name: String::from_str(alloc, word)?,
+            bytes: None,
+        })?;
+    }
+    Ok(parts)
+}
+
+fn order_files_of(
+    rt: &HostRuntime,
+    words: &[&str],
+    order: &Order<'_>,
+) -> Result<OrderFiles, AllocError> {
+    Ok(OrderFiles {
+        words: words_of(rt.alloc(), words)?,
+        files: files_of(rt, order)?,
+    })
+}
+
+/// Reads what is handed over of an order of these words. An error is that an allocation failed, or that a file is longer
+/// than a message may be.
+pub fn pack(rt: &HostRuntime, words: &[&str], order: &Order<'_>) -> Result<OrderFiles, Fault> {
+    match order_files_of(rt, words, order) {
+        Ok(order_files) if order_files.files.iter().all(|file| file.is_whole()) => Ok(order_files),
+        Ok(_) => Err(Fault::Store),
+        Err(AllocError) => Err(Fault::Memory),
+    }
+}
+
+/// The files of this machine. A file that was read before isn't opened again, since a pipe gives its bytes only once.
+#[derive(Clone, Copy)]
+pub struct LocalFolder<'a> {
+    pub rt: &'a HostRuntime,
+    pub brought: &'a Option<OrderFiles>,
+}
+
+/// A file that an order names: open, or read before.
+#[derive(Drop)]
+pub enum FileSource<'a> {
+    Open(File),
+    Brought(&'a [u8]),
+}
+
+impl Read for FileSource<'_> {
+    fn read(&mut self, buf: &mut [u8]) -> io::Result<usize> {
+        match self {
+            FileSource::Open(file) => file.read(buf),
+            FileSource::Brought(bytes) => bytes.read(buf),
+        }
+    }
+}
+
+impl<'a> Folder for LocalFolder<'a> {
+    type File = FileSource<'a>;
+
+    fn open(&self, path: &str) -> Option<FileSource<'a>> {
+        match self.brought {
+            Some(order_files) => brought_or_opened(self.rt, order_files, path),
+            None => opened(self.rt, path),
+        }
+    }
+}
+
+/// Returns the file at a path as it was read before, or opens it; `None` if it couldn't be read, or can't be opened.
+fn brought_or_opened<'a>(
+    rt: &HostRuntime,
+    order_files: &'a OrderFiles,
+    path: &str,
+) -> Option<FileSource<'a>> {
+    match order_files.file(path) {
+        Some(OrderPart { bytes, .. }) => match bytes {
+            Some(bytes) => Some(FileSource::Brought(bytes.as_slice())),
+            None => None,
+        },
+        None => opened(rt, path),
+    }
+}
+
+/// Opens the file at a path; `None` if it can't be opened.
+fn opened<'a>(rt: &HostRuntime, path: &str) -> Option<FileSource<'a>> {
+    match File::open(rt, path) {
+        Ok(file) => Some(FileSource::Open(file)),
+        Err(_) => None,
+    }
+}

@@ -1,0 +1,275 @@
+//! An order on a database: it is done in the file; or handed over to the program that serves it; or it waits while
+//! another program holds the file.
+
+ghost use Rattle.std.specs.Prelude.{◌≡◌, ◌-◌, ◌^◌, ◌<◌, OnErr, Some};
+
+use crate::file_lock::FileLock;
+use crate::localhost::Localhost;
+use crate::notices::{LockHolder, say_foreign_log, say_if_open_to_others, say_waited, say_waiting};
+use crate::order_client::{FrameReader, Sent, print_reply, send_order};
+use crate::order_files::{OrderFiles, pack};
+use crate::path_state::{PathKind, PathState};
+use crate::{LockedDatabase, close, is_busy, order_socket, perform_on, wants_progress};
+use desk::{Failure, Order, ProgressSink, Task, tell_failure};
+use sqlite::{Connection, Wary};
+use std::fs;
+use std::io::{self, ErrorKind};
+use std::time::{Clock, Duration};
+use store::Fault;
+use store::fault::fault_of;
+use votes::Sink;
+
+/// The pauses between the attempts of an order whose file is held: ten seconds of them.
+const PAUSES: u32 = 1000;
+
+/// The length of a pause, in milliseconds.
+const PAUSE: u64 = 10;
+
+/// After so many pauses somebody at a terminal reads why nothing happens.
+const PAUSES_UNSEEN: u32 = 50;
+
+/// An order, its words from DB on, and the path of its database.
+#[derive(Clone, Copy)]
+pub struct OrderRun<'a> {
+    pub rt: &'a HostRuntime,
+    pub path: &'a str,
+    pub words: &'a [&'a str],
+    pub order: &'a Order<'a>,
+}
+
+/// Opens the database at a path, which is held, does an order over it, and closes it. If the order failed, nothing is
+/// left that wasn't there. An error is that another program has the file open; nothing is printed then.
+///
+/// Two stretches of writing rest on what `sqlite` states: `Connection::open_from` makes the log if it is missing and takes up
+/// what it holds, and `close` copies it. `perform` speaks of all between.
+fn perform_in<O: Sink, E: Sink>(
+    place: LockedDatabase<'_>,
+    order: &Order<'_>,
+    out: &mut O,
+    err: &mut E,
+) -> Result<u8, LockHolder>
+    requires out { O.failed out.old < 2 ^ 64 - 1 }
+    requires err { E.failed err.old < 2 ^ 64 - 1 }
+    ensures { OnErr result ((out.new ≡ out.old) × (err.new ≡ err.old)) }
+{
+    let rt = place.rt;
+    match Connection::open_from(rt, place.path, false, Wary) {
+        Ok(conn) => {
+            if place.found.has_foreign_log(rt) {
+                drop(conn);
+                return Ok(refuse_log(rt, place.path, err));
+            }
+            let mut host = Localhost::at(place);
+            let (status, conn) = perform_on(place, &mut host, order, conn, out, err);
+            if status != 0 {
+                place.found.leave(rt);
+            }
+            let _ = close(conn);
+            Ok(status)
+        }
+        Err((error, left)) if is_busy(&error) => {
+            drop(left);
+            Err(LockHolder::Program)
+        }
+        Err((error, left)) => {
+            place.found.leave(rt);
+            drop(left);
+            Ok(tell_failure(Failure::Office(fault_of(error)), err))
+        }
+    }
+}
+
+/// Prints fault 102, and that the log of a database belongs to somebody else.
+fn refuse_log<E: Sink>(rt: &HostRuntime, path: &str, err: &mut E) -> u8
+    requires { E.failed err.old < 2 ^ 64 - 1 }
+{
+    let status = tell_failure(Failure::Office(Fault::Store), err);
+    say_foreign_log(rt, path);
+    status
+}
+
+/// Why an order opens nothing at a path, if it doesn't. `init` alone makes an office, where no log holds anything: any
+/// other order finds no office there.
+fn why_unopened(site: PathKind, order: &Order<'_>) -> Option<Fault>
+    ensures alone { site ≡ PathKind.LogAlone → result ≡ Some Fault.WrongDatabase }
+    ensures unseen { site ≡ PathKind.LogUnseen → result ≡ Some Fault.Store }
+{
+    match site {
+        PathKind::Taken => None,
+        PathKind::Free | PathKind::Empty if matches!(order, Order::Perform(Task::Init)) => None,
+        PathKind::Free | PathKind::Empty | PathKind::LogAlone => Some(Fault::WrongDatabase),
+        PathKind::LogUnseen => Some(Fault::Store),
+    }
+}
+
+/// Prints a reply, with progress if a person watches.
+fn print_watched<O: Sink, E: Sink>(
+    request: OrderRun<'_>,
+    reply: FrameReader,
+    out: &mut O,
+    err: &mut E,
+) -> u8
+    requires out { O.failed out.old < 2 ^ 64 - 1 }
+    requires err { E.failed err.old < 2 ^ 64 - 1 }
+{
+    match request.order {
+        Order::Perform(task) if wants_progress(request.rt, task) => {
+            let mut watched = ProgressSink::new(out, request.rt.stderr());
+            print_reply(request.rt.alloc(), reply, &mut watched, err)
+        }
+        _ => print_reply(request.rt.alloc(), reply, out, err),
+    }
+}
+
+/// Reads what is handed over of an order, once: unless that was done before, or nobody serves the database.
+fn bring(
+    request: OrderRun<'_>,
+    database: &str,
+    brought: &mut Option<OrderFiles>,
+) -> Result<(), Fault> {
+    if brought.is_none() && order_socket::is_served(request.rt, database) {
+        *brought = Some(pack(request.rt, request.words, request.order)?);
+    }
+    Ok(())
+}
+
+/// Hands an order on a database that another program holds over to it, and returns the status. Its files are read before a
+/// connection is made, however long that takes. An error is that the program doesn't serve the database, or no longer; nothing
+/// is printed then.
+fn hand_over<O: Sink, E: Sink>(
+    request: OrderRun<'_>,
+    database: &str,
+    brought: &mut Option<OrderFiles>,
+    out: &mut O,
+    err: &mut E,
+) -> Result<u8, LockHolder>
+    requires out { O.failed out.old < 2 ^ 64 - 1 }
+    requires err { E.failed err.old < 2 ^ 64 - 1 }
+    ensures { OnErr result ((out.new ≡ out.old) × (err.new ≡ err.old)) }
+{
+    if let Err(fault) = bring(request, database, brought) {
+        return Ok(tell_failure(Failure::Office(fault), err));
+    }
+    let Some(order_files) = brought else {
+        return Err(LockHolder::Order);
+    };
+    match send_order(request.rt, database, order_files) {
+        Sent::Begun(reply) => Ok(print_watched(request, reply, out, err)),
+        Sent::Unread => Err(LockHolder::Order),
+        Sent::Failed(fault) => Ok(tell_failure(Failure::Office(fault), err)),
+    }
+}
+
+/// Whether another order holds a database that can't be held for this reason, or has just made it.
+fn is_held(rt: &HostRuntime, database: &str, error: &io::Error) -> bool {
+    match error.kind() {
+        ErrorKind::WouldBlock => true,
+        ErrorKind::AlreadyExists => {
+            fs::symlink_metadata(rt, database).is_ok_and(|found| found.is_file())
+        }
+        _ => false,
+    }
+}
+
+/// Does an order over the database at a path, which is held. An error is that another program has the file open; nothing is
+/// printed then.
+fn perform_held<O: Sink, E: Sink>(
+    request: OrderRun<'_>,
+    found: &PathState,
+    held: &FileLock,
+    brought: &Option<OrderFiles>,
+    out: &mut O,
+    err: &mut E,
+) -> Result<u8, LockHolder>
+    requires out { O.failed out.old < 2 ^ 64 - 1 }
+    requires err { E.failed err.old < 2 ^ 64 - 1 }
+    ensures { OnErr result ((out.new ≡ out.old) × (err.new ≡ err.old)) }
+{
+    let place = LockedDatabase {
+        rt: request.rt,
+        path: request.path,
+        found,
+        held,
+        brought,
+    };
+    perform_in(place, request.order, out, err)
+}
+
+/// Holds the database that was found, and does an order over it; or hands the order over to the program that serves it. An error is
+/// that another program holds the file; nothing is printed then.
+fn attempt_at<O: Sink, E: Sink>(
+    request: OrderRun<'_>,
+    found: &PathState,
+    brought: &mut Option<OrderFiles>,
+    out: &mut O,
+    err: &mut E,
+) -> Result<u8, LockHolder>
+    requires out { O.failed out.old < 2 ^ 64 - 1 }
+    requires err { E.failed err.old < 2 ^ 64 - 1 }
+    ensures { OnErr result ((out.new ≡ out.old) × (err.new ≡ err.old)) }
+{
+    let rt = request.rt;
+    match found.hold(rt) {
+        Ok(held) => {
+            let done = perform_held(request, found, &held, &*brought, out, err);
+            drop(held);
+            done
+        }
+        Err(error) if is_held(rt, found.database(), &error) => {
+            hand_over(request, found.database(), brought, out, err)
+        }
+        Err(error) if error.kind() == ErrorKind::OutOfMemory => {
+            Ok(tell_failure(Failure::Office(Fault::Memory), err))
+        }
+        Err(_) => Ok(tell_failure(Failure::Office(Fault::Store), err)),
+    }
+}
+
+/// Looks at what is at the path of an order's database, and does the order, if it may be done there. An error is that another program
+/// holds the file; nothing is printed then.
+fn attempt<O: Sink, E: Sink>(
+    request: OrderRun<'_>,
+    brought: &mut Option<OrderFiles>,
+    out: &mut O,
+    err: &mut E,
+) -> Result<u8, LockHolder>
+    requires out { O.failed out.old < 2 ^ 64 - 1 }
+    requires err { E.failed err.old < 2 ^ 64 - 1 }
+    ensures { OnErr result ((out.new ≡ out.old) × (err.new ≡ err.old)) }
+{
+    let Ok(found) = PathState::at(request.rt, request.path) else {
+        return Ok(tell_failure(Failure::Office(Fault::Memory), err));
+    };
+    if let Some(fault) = why_unopened(found.site, request.order) {
+        return Ok(tell_failure(Failure::Office(fault), err));
+    }
+    if found.has_foreign_log(request.rt) {
+        return Ok(refuse_log(request.rt, request.path, err));
+    }
+    attempt_at(request, &found, brought, out, err)
+}
+
+/// Does an order over the database at a path, and returns its status. While another program holds the file and doesn't serve it,
+/// the order waits, for ten seconds at most. Then it prints fault 102, and what holds the file.
+pub fn perform_at<O: Sink, E: Sink>(request: OrderRun<'_>, out: &mut O, err: &mut E) -> u8
+    requires out { O.failed out.old < 2 ^ 64 - 1 }
+    requires err { E.failed err.old < 2 ^ 64 - 1 }
+{
+    let OrderRun { rt, path, .. } = request;
+    say_if_open_to_others(rt, path);
+    let mut brought = None;
+    let mut holder = LockHolder::Order;
+    for pauses in 0..=PAUSES {
+        match attempt(request, &mut brought, out, err) {
+            Ok(status) => return status,
+            Err(found) => holder = found,
+        }
+        if pauses == PAUSES_UNSEEN {
+            say_waiting(rt, path, holder);
+        }
+        rt.sleep(Duration::from_millis(PAUSE));
+    }
+    let status = tell_failure(Failure::Office(Fault::Store), err);
+    say_waited(rt, path, holder);
+    status
+}

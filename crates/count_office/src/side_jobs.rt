@@ -1,0 +1,64 @@
+//! What an order needs beside the office that is served, from this machine: the file of a copy, and memory for the trial of a
+//! journal.
+
+ghost use Rattle.std.specs.Prelude.{◌-◌, ◌<◌};
+
+use crate::copies::copy_served;
+use crate::presence::Presence;
+use desk::{Failure, journal_open, tell_failure};
+use office::Office;
+use server::SideJobs;
+use sqlite::{Alter, Connection};
+use std::alloc::{AllocError, Global};
+use store::Fault;
+use votes::Sink;
+
+/// This machine, and the files of the office that is served.
+#[derive(Drop)]
+pub struct LocalJobs<'a> {
+    pub rt: &'a HostRuntime,
+    pub presence: Presence<'a>,
+}
+
+/// A path as it is seen from a folder.
+fn path_from(alloc: Global, folder: &str, path: &str) -> Result<String, AllocError> {
+    if path.starts_with('/') {
+        return String::from_str(alloc, path);
+    }
+    format!(in alloc; "{folder}/{path}")
+}
+
+impl SideJobs for LocalJobs<'_> {
+    fn is_whole(&self) -> bool {
+        self.presence.is_whole(self.rt)
+    }
+
+    fn copy<S: Alter, O: Sink, E: Sink>(
+        &self,
+        office: &mut Office<S>,
+        folder: &str,
+        path: &str,
+        out: &mut O,
+        err: &mut E,
+    ) -> u8 {
+        match path_from(self.rt.alloc(), folder, path) {
+            Ok(path) => copy_served(self.rt, office, path.as_str(), out, err),
+            Err(AllocError) => tell_failure(Failure::Office(Fault::Memory), err),
+        }
+    }
+
+    fn journal<S: Alter, O: Sink, E: Sink>(
+        &self,
+        office: &mut Office<S>,
+        out: &mut O,
+        err: &mut E,
+    ) -> u8 {
+        match Connection::open_in_memory(self.rt.alloc()) {
+            Ok(blank) => {
+                let (status, _) = journal_open(self.rt.alloc(), office, blank, out, err);
+                status
+            }
+            Err(_) => tell_failure(Failure::Office(Fault::Memory), err),
+        }
+    }
+}

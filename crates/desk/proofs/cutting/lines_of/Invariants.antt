@@ -1,7 +1,0 @@
--- What holds each time round the loop of `lines_of`: the lines so far, followed by those of the bytes that are left, are those of the text behind its byte order mark.
-use Rattle.std.proofs.Common.{◌≡◌, ◌++◌, map, drop}
-use Rattle.desk.specs.Scripts.{lines_from, lines_of}
-use Rattle.desk.proofs.cutting.lines_of.Given as goal
-
-abbrev pub invariant-loop-byte : goal.invariant-loop-byte
-invariant-loop-byte l = map (λ line. line.items) l.lines.items ++ lines_from l.line.items (drop l.byte-index l.byte-items) ≡ lines_of l.text

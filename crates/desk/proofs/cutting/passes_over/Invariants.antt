@@ -1,7 +1,0 @@
--- What holds each time round the loop of `passes_over`: the bytes so far are blanks.
-use Rattle.std.proofs.Common.{◌≡◌, drop}
-use Rattle.desk.specs.Scripts.{passes_over}
-use Rattle.desk.proofs.cutting.passes_over.Given as goal
-
-abbrev pub invariant-loop-byte : goal.invariant-loop-byte
-invariant-loop-byte l = passes_over (drop l.byte-index l.line) ≡ passes_over l.line

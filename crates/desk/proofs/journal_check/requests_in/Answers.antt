@@ -1,0 +1,17 @@
+-- Why `requests_in` keeps its promise.
+use Rattle.std.proofs.Common.{◌∙◌, ap, map, sym}
+use Rattle.desk.specs.Lexing.{line_entry, typed_line_entry}
+use Rattle.desk.specs.Scripts.{lines_of, numbered_from}
+use Rattle.desk.proofs.JournalLemmas.{script_found, turns_of_text}
+use Rattle.desk.proofs.journal_check.requests_in.Goals as goal
+
+-- the lines of the text are those that were said, their turns are these, and they send the requests
+pub returns-in-Ok : goal.returns-in-Ok
+returns-in-Ok c =
+    let text = c.args.text.now in
+    let read = map line_entry c.in_ok-lines.lines.items in
+    let said = map typed_line_entry c.in_ok-said.said.items in
+    let turns = c.in-Ok.turns.items in
+    script_found (λ requests. requests.items) text turns
+    (turns_of_text text read said turns (c.in_ok-lines.ensures ∙ ap (λ t. numbered_from 1 (lines_of t)) c.as_bytes.ensures.value) (rw c.deref.ensures.value at c.in_ok-said.ensures) (rw c.deref-2.ensures.value at c.in-Ok.ensures.ok))
+    c.requests_of.result c.requests_of.ensures

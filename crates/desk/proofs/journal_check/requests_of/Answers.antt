@@ -1,0 +1,17 @@
+-- Why `requests_of` keeps its promise.
+use Rattle.std.proofs.Common.{◌≡◌, ◌∙◌, ◌∷◌, [], ◌++◌, map, sym, ap, ap₂}
+use Rattle.std.proofs.lemmas.List.{map-append}
+use Rattle.desk.specs.declared.orders.Errand.TheVariants as errand
+use Rattle.desk.proofs.journal_check.requests_of.Goals as goal
+
+-- one turn more, whose errand is to send the request that was put behind the others
+pub loop-turn-preserved : goal.loop-turn-preserved
+loop-turn-preserved c =
+    let done = c.loop-turn.yielded in
+    let before = c.loop-turn.requests.items in
+    record {
+      goes = (tt, tt);
+      sent = map-append (λ t. t.errand) done (c.in-Some.turn ∷ [])
+          ∙ ap₂ (λ l e. l ++ e ∷ []) c.loop-turn.invariant.sent c.in-Send.is
+          ∙ sym (ap (map (λ r. errand.Send r)) c.in_ok-push-in-Send.ensures.items ∙ map-append (λ r. errand.Send r) before (c.in-Send.request ∷ []));
+    }

@@ -1,0 +1,10 @@
+-- What holds each time round the loop of `words_of`: the bytes that are left, cut behind those so far, give the line's words.
+use Rattle.std.proofs.Common.{◌≡◌, [], drop}
+use Rattle.std.specs.Prelude.{fold}
+use Rattle.desk.specs.Lexing.{lexer_entry}
+use Rattle.desk.specs.Scripts.{cut_byte}
+use Rattle.desk.specs.declared.lexer.LexerState.TheVariants.{Between}
+use Rattle.desk.proofs.lexer.words_of.Given as goal
+
+abbrev pub invariant-loop-byte : goal.invariant-loop-byte
+invariant-loop-byte l = fold cut_byte (lexer_entry l.cutter) (drop l.byte-index l.line) ≡ fold cut_byte (record { words = []; word = []; place = Between }) l.line

@@ -1,6 +1,0 @@
--- What the loop of `texts_copied` keeps: the texts so far, and those that are left, are all.
-use Rattle.std.proofs.Common.{◌≡◌, ◌++◌, drop, map, string_bytes}
-use Rattle.desk.proofs.matched.texts_copied.Given as goal
-
-abbrev pub invariant-loop-text : goal.invariant-loop-text
-invariant-loop-text l = map string_bytes l.texts.items ++ map (λ t. t.now) (drop l.text-index l.all) ≡ map (λ t. t.now) l.all

@@ -1,8 +1,0 @@
--- Why `texts_found_in` keeps its promise: what `clap` gives is what the rows of its matches have.
-use Rattle.std.proofs.Common.{◌∙◌}
-use Rattle.clap.proofs.WalkLemmas.{raw_values-rows}
-use Rattle.clap.specs.Words.{found_of}
-use Rattle.desk.proofs.matched.texts_found_in.Goals as goal
-
-pub returns : goal.returns
-returns c = c.get_strs.ensures ∙ raw_values-rows (found_of c.args.matches.now) c.args.word.name.now

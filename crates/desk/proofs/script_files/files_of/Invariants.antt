@@ -1,0 +1,7 @@
+-- What the loop of `files_of` keeps: the paths so far, and those of the turns that are left, are all.
+use Rattle.std.proofs.Common.{◌≡◌, ◌++◌, drop, map, string_bytes}
+use Rattle.desk.specs.ScriptFiles.{files_of}
+use Rattle.desk.proofs.script_files.files_of.Given as goal
+
+abbrev pub invariant-loop-turn : goal.invariant-loop-turn
+invariant-loop-turn l = map string_bytes l.paths.items ++ files_of (drop l.turn-index l.turns) ≡ files_of l.turns

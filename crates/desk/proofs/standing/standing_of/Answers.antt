@@ -1,7 +1,0 @@
--- Why `standing_of` keeps its promise where memory was wanting for the words.
-use Rattle.std.proofs.Common.{inl, inr, refl}
-use Rattle.tables.specs.declared.fault.Fault.TheVariants.{Memory}
-use Rattle.desk.proofs.standing.standing_of.Goals as goal
-
-pub returns-in-Err-clause-found : goal.returns-in-Err-clause-found
-returns-in-Err-clause-found g c = λ clean is_open s at. inr (Memory, refl, (inl refl, inl (record { memory = refl; open_at = (c.in-Ok.ensures.reads clean is_open s at).1 })))

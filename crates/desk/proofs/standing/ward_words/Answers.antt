@@ -1,6 +1,0 @@
-use Rattle.desk.specs.Standings.{ward_words}
-use Rattle.desk.proofs.standing.ward_words.Goals as goal
-
-pub returns : goal.returns
-unfolding ward_words
-returns c = rw (← c.phase_word-phase.ensures) c.format.ensures.ok

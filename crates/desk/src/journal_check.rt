@@ -1,0 +1,185 @@
+//! The journal of the office: its accepted orders as a script. It is printed once it was read back and played over an
+//! empty office, and made the same one.
+
+ghost use Rattle.std.specs.Prelude.{◌≡◌, ◌-◌, ◌^◌, ◌<◌, true, string_bytes, IfOk, IfSome};
+ghost use Rattle.sqlite.specs.State.{HasCleanDisk};
+ghost use Rattle.sqlite.specs.Held.{state};
+ghost use Rattle.tables.specs.Reading.{OnlyReads};
+ghost use Rattle.register.specs.Offices.{MapsRise};
+ghost use Rattle.rowcheck.specs.States.{state_of};
+ghost use Rattle.store.specs.Openings.{IsBlank};
+ghost use Rattle.office.specs.Answers.{IsReadAt, WhenOpenAt};
+ghost use Rattle.desk.specs.Journals.{AreSent, IsJournalTold, IsJournalled, IsScriptOf};
+ghost use Rattle.desk.specs.Pages.{Tells, closed_page, outputs_of, page_of};
+
+use crate::journal::journal_text;
+use crate::lines::{LineOutcome, tell};
+use crate::orders::Errand;
+use crate::scripts::{ScriptFault, ScriptStep, all_said, lines_in, turns_in};
+use office::Office;
+use register::Request;
+use rowcheck::Rows;
+use sqlite::{Alter, Connection};
+use std::alloc::{AllocError, Global};
+use store::Fault;
+use votes::Sink;
+
+/// The text of a journal that isn't tried yet, and the requests that a script's reader finds in it; None where it finds
+/// something else.
+#[derive(Drop)]
+struct Draft {
+    text: String,
+    requests: Option<Vec<Request>>,
+}
+
+/// The requests that turns send, None where one of them reads a file or asks something.
+fn requests_of(
+    alloc: Global,
+    turns: Vec<ScriptStep<'_>>,
+) -> Result<Option<Vec<Request>>, AllocError>
+    ensures { IfOk result (λ found. IfSome found (λ requests. AreSent turns.entry.items requests.items)) }
+{
+    let mut requests = Vec::new(alloc);
+    for turn in turns {
+        let ScriptStep { line: _, errand } = turn;
+        match errand {
+            Errand::Send(request) => requests.push(request)?,
+            _ => return Ok(None),
+        }
+    }
+    Ok(Some(requests))
+}
+
+/// The requests of a script, None where the text is no script of requests alone.
+fn requests_in(alloc: Global, text: &str) -> Result<Option<Vec<Request>>, AllocError>
+    ensures { IfOk result (λ found. IfSome found (λ requests. IsScriptOf text.now requests.items)) }
+{
+    let lines = lines_in(alloc, text.as_bytes())?;
+    let said = all_said(alloc, &lines)?;
+    match turns_in(alloc, &said) {
+        Ok(turns) => requests_of(alloc, turns),
+        Err(ScriptFault::Memory) => Err(AllocError),
+        Err(ScriptFault::ScriptLine(_, _)) => Ok(None),
+    }
+}
+
+/// The text of the journal of the office of these rows, and its requests as they are read back.
+fn draft_of(alloc: Global, rows: &Rows) -> Result<Draft, AllocError>
+    requires { MapsRise (state_of rows.now) }
+    ensures { IfOk result (λ draft. IfSome draft.requests (λ requests. IsScriptOf (string_bytes draft.text) requests.items)) }
+{
+    let text = journal_text(alloc, rows)?;
+    let requests = requests_in(alloc, text.as_str())?;
+    Ok(Draft { text, requests })
+}
+
+/// The journal of the office of these rows, or why there is none: the text that was written doesn't make that office; or a fault, `Memory` or
+/// `Store`. It is played in the database of a connection, which has nothing in it. The connection is handed back, with whatever the trial left there.
+fn journal_of<T: Alter>(
+    alloc: Global,
+    rows: &Rows,
+    blank: Connection<T>,
+) -> (LineOutcome, Connection<T>)
+    requires { MapsRise (state_of rows.now) }
+    ensures { HasCleanDisk (state T.Store result.1) → IsBlank (state T.Store blank) → IsJournalTold (state_of rows.now) (page_of result.0) }
+{
+    let Draft { text, requests } = match draft_of(alloc, rows) {
+        Ok(draft) => draft,
+        Err(AllocError) => return (LineOutcome::Failed(Fault::Memory), blank),
+    };
+    let Some(requests) = requests else {
+        return (LineOutcome::Unjournalled, blank);
+    };
+    let (led, blank) = Office::leads_to(alloc, blank, &requests, rows);
+    match led {
+        Ok(true) => (LineOutcome::Printed(text), blank),
+        Ok(false) => (LineOutcome::Unjournalled, blank),
+        Err(fault) => (LineOutcome::Failed(fault), blank),
+    }
+}
+
+/// The journal of the office that a connection has, or why there is none.
+fn journalled<S: Alter, T: Alter>(
+    alloc: Global,
+    conn: &mut Connection<S>,
+    blank: Connection<T>,
+) -> (LineOutcome, Connection<T>)
+    ensures told { HasCleanDisk (state S.Store conn.new)
+        → IsJournalled (page_of result.0) (state S.Store conn.old) (state S.Store conn.new) (state T.Store blank) (state T.Store result.1) }
+    ensures reads { OnlyReads (state S.Store conn.old) (state S.Store conn.new) }
+{
+    match Office::rows(alloc, conn) {
+        Ok(rows) => journal_of(alloc, &rows, blank),
+        Err(fault) => (LineOutcome::Failed(fault), blank),
+    }
+}
+
+/// The journal of an open office, which goes on, or why there is none.
+fn journalled_open<S: Alter, T: Alter>(
+    alloc: Global,
+    office: &mut Office<S>,
+    blank: Connection<T>,
+) -> (LineOutcome, Connection<T>)
+    ensures told { WhenOpenAt (state S.Store) office.old office.new
+        (λ s. (HasCleanDisk (state T.Store result.1) → IsBlank (state T.Store blank) → IsJournalTold s (page_of result.0)) × IsReadAt s office.new.closed (state S.Store office.new.held)) }
+    ensures reads { OnlyReads (state S.Store office.old.held) (state S.Store office.new.held) }
+    ensures closed { office.old.closed ≡ true → (page_of result.0 ≡ closed_page) × (office.new ≡ office.old) }
+{
+    match office.rows_open() {
+        Ok(rows) => journal_of(alloc, &rows, blank),
+        Err(fault) => (LineOutcome::Failed(fault), blank),
+    }
+}
+
+/// Prints the journal of an open office, which goes on, and gives the status. The other connection isn't closed.
+///
+/// It is tried and printed as by `journal_office`, but the office is open already: no other is opened for it. It is only read. A
+/// closed office reports that it is closed.
+pub fn journal_open<S: Alter, T: Alter, O: Sink, E: Sink>(
+    alloc: Global,
+    office: &mut Office<S>,
+    blank: Connection<T>,
+    out: &mut O,
+    err: &mut E,
+) -> (u8, Connection<T>)
+    requires out { O.failed out.old < 2 ^ 64 - 1 }
+    requires err { E.failed err.old < 2 ^ 64 - 1 }
+    ensures journalled { let outputs = outputs_of O.taken O.failed E.taken E.failed in Tells (outputs out.old err.old) (outputs out.new err.new) result.0
+        (λ _ page. WhenOpenAt (state S.Store) office.old office.new (λ s. HasCleanDisk (state T.Store result.1) → IsBlank (state T.Store blank) → IsJournalTold s page)
+        × (office.old.closed ≡ true → page ≡ closed_page)) }
+    ensures stays { WhenOpenAt (state S.Store) office.old office.new (λ s. IsReadAt s office.new.closed (state S.Store office.new.held)) }
+    ensures reads { OnlyReads (state S.Store office.old.held) (state S.Store office.new.held) }
+    ensures closed { office.old.closed ≡ true → office.new ≡ office.old }
+{
+    let (outcome, blank) = journalled_open(alloc, office, blank);
+    (tell(None, &outcome, out, err), blank)
+}
+
+/// Prints the journal of the office that an opened connection has, and gives the status. Neither connection is closed.
+///
+/// The journal is a script: each of its lines is an order that was accepted, and `replay` takes them. It needs no other
+/// file. Before it is printed it is read as a script is, and played over an empty office, which is made in the database
+/// of the other connection. With status 0 each line was accepted there, and they left the very state of this office,
+/// every receipt too. The office itself is only read.
+///
+/// Where the text doesn't make this very office, the page says so, with status 1. It is so where the receipts and the other
+/// tables don't belong together. No clause says that it is so nowhere else. A database that holds no office, or a newer, an older
+/// or a damaged one, is reported by that fault (105, 106, 108, 103), with its cause. Of want of memory (101), and of a store that
+/// fails (102), no clause says whether the office or the trial met it.
+pub fn journal_office<S: Alter, T: Alter, O: Sink, E: Sink>(
+    alloc: Global,
+    conn: &mut Connection<S>,
+    blank: Connection<T>,
+    out: &mut O,
+    err: &mut E,
+) -> (u8, Connection<T>)
+    requires out { O.failed out.old < 2 ^ 64 - 1 }
+    requires err { E.failed err.old < 2 ^ 64 - 1 }
+    ensures journalled { let outputs = outputs_of O.taken O.failed E.taken E.failed in Tells (outputs out.old err.old) (outputs out.new err.new) result.0
+        (λ _ page. HasCleanDisk (state S.Store conn.new)
+        → IsJournalled page (state S.Store conn.old) (state S.Store conn.new) (state T.Store blank) (state T.Store result.1)) }
+    ensures reads { OnlyReads (state S.Store conn.old) (state S.Store conn.new) }
+{
+    let (outcome, blank) = journalled(alloc, conn, blank);
+    (tell(None, &outcome, out, err), blank)
+}

@@ -1,0 +1,154 @@
+//! The words that orders take, and what an entry of the table of orders has.
+
+/// What a word of an order holds.
+#[derive(Clone, Copy)]
+pub(crate) enum Kind {
+    /// A number of 0 to 4294967295.
+    Number,
+    /// The same, which may be left out.
+    NumberOrNone,
+    /// A port, 1 to 65535.
+    Port,
+    /// A number of connections, 1 to 1000000, which may be left out.
+    Connections,
+    /// Any text.
+    Text,
+    /// A verdict: `accept:` and a marks text, or `reject:` and a number of 0 to 4294967295.
+    Verdict,
+    /// Any text, after `--id`.
+    Id,
+    /// An origin as a browser writes it, after `--origin`; it may be left out.
+    Origin,
+    /// The path of a file of codes, after `--codes`; it may be left out.
+    CodesFile,
+    /// Any text, after `--title`; left out, it is empty.
+    Title,
+    /// A digest in 64 hexadecimal digits, after `--sha256`; it may be left out.
+    Digest,
+    /// Any texts, one or more words behind the others; or none.
+    Texts,
+    /// A flag: `--` and its name, which may be left out.
+    Flag,
+}
+
+/// A word that an order takes, and its line of help.
+#[derive(Clone, Copy)]
+pub(crate) struct Word {
+    pub(crate) name: &'static str,
+    pub(crate) kind: Kind,
+    pub(crate) help: &'static str,
+}
+
+/// Where help shows an order.
+#[derive(Clone, Copy)]
+pub(crate) enum Heading {
+    /// Among the orders of an election.
+    Election,
+    /// Among those for the office alone, whose heading the end of the help has.
+    Office,
+    /// Among those by which everyone can check a result, whose heading stands there too.
+    Everyone,
+}
+
+/// An order's name and words, and its help, which ends with an example as it is typed.
+#[derive(Clone, Copy)]
+pub(crate) struct Entry {
+    pub(crate) name: &'static str,
+    pub(crate) words: &'static [Word],
+    pub(crate) help: &'static str,
+    pub(crate) heading: Heading,
+}
+
+/// A word that an order takes: what it holds, its name, and its line of help.
+macro_rules! word {
+    ($kind:ident $name:literal, $help:literal) => {
+        Word {
+            name: $name,
+            kind: Kind::$kind,
+            help: $help,
+        }
+    };
+}
+
+pub(crate) const WARD: Word = word!(Number "WARD", "The ward's number, 1 to 99");
+
+pub(crate) const SEATS: Word = word!(Number "SEATS", "How many candidates it elects, 1 to 15");
+
+pub(crate) const NAME: Word =
+    word!(Text "NAME", "The name, 1 to 120 bytes of UTF-8; in quotes where it has spaces");
+
+pub(crate) const CANDIDATE: Word =
+    word!(Number "CANDIDATE", "The candidate's number in the ward, 1 to 30");
+
+pub(crate) const BATCH: Word =
+    word!(Number "BATCH", "The batch's number, over all wards, 1 to 9999");
+
+pub(crate) const SIZE: Word = word!(Number "SIZE", "How many papers it has, 1 to 500");
+
+pub(crate) const FIRST_CLERK: Word = word!(Number "FIRST_CLERK", "A clerk who keys it, 1 to 999");
+
+pub(crate) const SECOND_CLERK: Word =
+    word!(Number "SECOND_CLERK", "The other clerk who keys it, 1 to 999");
+
+pub(crate) const CLERK: Word = word!(Number "CLERK", "The clerk who keys it, 1 to 999");
+
+pub(crate) const ACTOR: Word =
+    word!(NumberOrNone "ACTOR", "Whose receipts, a clerk's number, 1 to 999, or 0 for the office;\nleft out, those of all");
+
+pub(crate) const ROUND: Word =
+    word!(Number "ROUND", "The round that the batch is in, 1 to 99; it begins with 1");
+
+pub(crate) const MARKS: Word =
+    word!(Texts "MARKS", "The marks of its papers in turn, a word a paper: a field for each candidate,\nparted by commas, or D where the paper is doubtful");
+
+pub(crate) const PAPER: Word = word!(Number "PAPER", "The paper's number in the batch, 1 to 500");
+
+pub(crate) const VERDICT: Word =
+    word!(Verdict "VERDICT", "accept: and the marks, a field for each candidate, parted by commas; or\nreject: and 3 no official mark, 4 voter identifiable, 5 void for uncertainty");
+
+pub(crate) const STAGE: Word =
+    word!(Number "STAGE", "The stage of the count that waits for the lot, 2 to 31");
+
+pub(crate) const FILE: Word =
+    word!(Text "FILE", "The path of an import file; docs/IMPORTS.md has its form");
+
+pub(crate) const NEW: Word =
+    word!(Text "NEW", "The path of the copy; there must be nothing at it yet");
+
+pub(crate) const SCRIPT: Word =
+    word!(Text "FILE", "The path of a script; docs/IMPORTS.md has its form");
+
+pub(crate) const KEEP_GOING: Word =
+    word!(Flag "keep-going", "Goes past refusals, each printed with its line, and ends with status 1 then");
+
+pub(crate) const ID: Word =
+    word!(Id "id", "An id that you choose for this order, 1 to 40 of a-z, 0-9 and -;\nsent again under the same id, it does nothing twice");
+
+/// The highest port.
+pub(crate) const MAX_PORT: i64 = 65535;
+
+pub(crate) const PORT: Word = word!(Port "PORT", "The port of this machine, 1 to 65535");
+
+/// The most connections that one order answers.
+pub(crate) const MAX_CONNECTIONS: i64 = 1_000_000;
+
+pub(crate) const CONNECTIONS: Word =
+    word!(Connections "CONNECTIONS", "How many connections are answered, 1 to 1000000;\nleft out, there is no limit");
+
+pub(crate) const ORIGIN: Word =
+    word!(Origin "origin", "The origin of pages that ask through a proxy, as https://count.example.org;\nleft out, no page of another machine is answered");
+
+pub(crate) const CODES: Word =
+    word!(CodesFile "codes", "The path of a file of clerks' codes, by which each gets his page to key on;\nleft out, a clerk is known by his number alone");
+
+pub(crate) const CODES_FILE: Word =
+    word!(Text "FILE", "The path of the file of codes; there must be nothing at it yet");
+
+pub(crate) const CLERKS: Word =
+    word!(Text "CLERKS", "The clerks from one number to another, 1 to 999, as 1-40");
+
+pub(crate) const TITLE: Word =
+    word!(Title "title", "What stands above, as the names of the election and of the council;\nin quotes where it has spaces");
+
+pub(crate) const DIGEST: Word =
+    word!(Digest "sha256", "The SHA-256 of FILE, 64 hexadecimal digits, as sha256sum prints it;\nwhere FILE has another, nothing of it is sent");

@@ -1,0 +1,487 @@
+//! The table of orders, and the order that matched words mean.
+//!
+//! One order more is an entry of [`ORDERS_TO_SEAL`] or [`ORDERS_FROM_SEAL`], and an arm that makes of its words what it means.
+//! The arm stands in [`command_named`] where the order sends a command, and in [`order_named`] where it doesn't; that may want a
+//! variant of [`Errand`](crate::orders::Errand) too. A line of `orders` in specs/Orders.antt says what the order means.
+#![tactic(auto, unfolding(crate::specs::Orders::orders))]
+
+ghost use Rattle.std.specs.Prelude.{◌≡◌, ◌⊎◌, false, Err, None, Some, codes, drop, map, take, IfErr, IfOk, option_map, string_bytes};
+ghost use Rattle.clap.specs.Words.{all_of, first_of, found_of, rows_of, subcommand_rows_of};
+ghost use Rattle.desk.specs.Orders.{ask, no_digest, no_origin, no_verdict, orders, print, told, told_errand, told_text, words_of};
+ghost use Rattle.keyfile.specs.Digests.{digest_bytes};
+ghost use Rattle.wire.specs.Origins.{origin_text};
+ghost use Rattle.desk.specs.Words.{digest_at, is_command_name, is_order_name, meaning, meaning_of, names_order, number_at, number_found, origin_at, sent, text_at};
+ghost use Rattle.desk.specs.Words.{flag_at, texts_at};
+
+use crate::order_entry::{
+    ACTOR, BATCH, CANDIDATE, CLERK, CLERKS, CODES, CODES_FILE, CONNECTIONS, DIGEST, Entry, FILE,
+    FIRST_CLERK, Heading, ID, KEEP_GOING, MARKS, NAME, NEW, ORIGIN, PAPER, PORT, ROUND, SCRIPT,
+    SEATS, SECOND_CLERK, SIZE, STAGE, TITLE, VERDICT, WARD, Word,
+};
+use crate::orders::{Errand, Job, KeyingFile, Order, Question, Task};
+use crate::requests::{by_clerk, by_office};
+use crate::verdicts::verdict_in;
+use clap::ArgMatches;
+use keyfile::FileDigest;
+use office::Text;
+use register::{
+    BatchCommand, CandidateCommand, Command, CountCommand, KeyingCommand, VerdictCommand,
+    WardCommand,
+};
+use std::alloc::{AllocError, Global};
+use wire::Origin;
+
+// ---- the table
+
+/// An order: where help shows it, its name, its words in their sequence, and its help.
+macro_rules! order {
+    ($heading:ident $name:literal [$($word:ident),*], $help:literal) => {
+        Entry {
+            name: $name,
+            words: &[$($word),*],
+            help: $help,
+            heading: Heading::$heading,
+        }
+    };
+}
+
+/// The orders up to the seal of a ward, in the sequence of an election. They are a table of their own, since a proof
+/// computes each table whole.
+#[rattlefmt::skip]
+const ORDERS_TO_SEAL: [Entry; 12] = [
+    order!(Election "init" [], "Makes an office in DB, a new file or an empty one:\ncount-office town.db init"),
+    order!(Election "ward" [WARD, SEATS, NAME, ID], "Adds a ward, its nominations open:\ncount-office town.db ward 7 2 Harbour --id w1"),
+    order!(Election "candidate" [WARD, CANDIDATE, NAME, ID], "Adds a candidate to a ward:\ncount-office town.db candidate 7 1 Ann --id c1"),
+    order!(Election "import-candidates" [FILE, ID, DIGEST], "Adds the candidates of a file, the first under ID-1:\ncount-office town.db import-candidates names.csv --id c"),
+    order!(Election "withdraw" [WARD, CANDIDATE, ID], "Takes a candidate off a ward, while nominations are open:\ncount-office town.db withdraw 7 5 --id x1"),
+    order!(Election "close" [WARD, ID], "Closes the nominations of a ward:\ncount-office town.db close 7 --id n1"),
+    order!(Election "batch" [BATCH, WARD, SIZE, FIRST_CLERK, SECOND_CLERK, ID], "Gives out a batch of papers of a ward to two clerks, who key it:\ncount-office town.db batch 12 7 8 4 9 --id b1"),
+    order!(Election "import-keying" [CLERK, BATCH, ROUND, FILE, ID, DIGEST],
+        "Keeps a clerk's keying of a batch, in a round, from a file:\ncount-office town.db import-keying 4 12 1 k4-12.csv --id k1"),
+    order!(Election "key" [CLERK, BATCH, ROUND, MARKS, ID], "Keeps a clerk's keying of a batch, in a round, a word a paper:\ncount-office town.db key 4 14 1 1,2,, ,1,,2 D --id k3"),
+    order!(Election "again" [BATCH, ID], "Opens the next round of a batch whose keyings differ:\ncount-office town.db again 13 --id r1"),
+    order!(Election "third" [BATCH, CLERK, ID], "Gives a batch whose keyings differ to a third clerk too:\ncount-office town.db third 13 5 --id t1"),
+    order!(Election "judge" [BATCH, PAPER, VERDICT, ID], "Keeps the verdict on a doubtful paper of a batch that is taken:\ncount-office town.db judge 12 6 accept:1,,, --id v1"),
+];
+
+/// The others, from the seal on in the same sequence; then the one that brings an older office over, those for the office
+/// alone, and those for everyone.
+#[rattlefmt::skip]
+const ORDERS_FROM_SEAL: [Entry; 25] = [
+    order!(Election "seal" [WARD, ID], "Seals a ward whose papers are all agreed and judged:\ncount-office town.db seal 7 --id s1"),
+    order!(Election "advance" [WARD, ID], "Counts the one stage that is due in a sealed ward:\ncount-office town.db advance 7 --id a1"),
+    order!(Election "count" [WARD, ID], "Counts a sealed ward up to a lot or the end, its first stage under ID-1:\ncount-office town.db count 7 --id a"),
+    order!(Election "lot" [WARD, STAGE, CANDIDATE, ID], "Records the candidate whom the lot for a stage named:\ncount-office town.db lot 7 3 4 --id l1"),
+    order!(Election "declare" [WARD, ID], "Declares the result of a ward whose count is finished:\ncount-office town.db declare 7 --id d1"),
+    order!(Election "status" [WARD], "Prints how a ward stands, at any moment:\ncount-office town.db status 7"),
+    order!(Election "next" [WARD], "Prints what comes next in a ward, with names:\ncount-office town.db next 7"),
+    order!(Election "sheet" [WARD], "Prints the stage sheet of a sealed ward:\ncount-office town.db sheet 7"),
+    order!(Election "result" [WARD], "Prints the declaration of a declared ward:\ncount-office town.db result 7"),
+    order!(Election "serve" [PORT, CONNECTIONS, ORIGIN, CODES], "Serves clerks over HTTP on this machine, until it is stopped:\ncount-office town.db serve 8080"),
+    order!(Election "migrate" [], "Brings an office of an earlier program over to this one:\ncount-office town.db migrate"),
+    order!(Office "wards" [], "Prints how each ward stands, and what is left to do:\ncount-office town.db wards"),
+    order!(Office "batches" [WARD], "Prints of each batch of a ward who has keyed it, and how it stands:\ncount-office town.db batches 7"),
+    order!(Office "doubtful" [WARD], "Prints the doubtful papers of a ward, each open or with its verdict:\ncount-office town.db doubtful 7"),
+    order!(Office "differences" [BATCH], "Prints on which papers a batch differs, which no clerk is to see:\ncount-office town.db differences 13"),
+    order!(Office "papers" [BATCH], "Prints how each paper of a taken batch counts, with the candidates' names:\ncount-office town.db papers 12"),
+    order!(Office "receipts" [ACTOR], "Prints what was kept, under which id, of an actor or of all:\ncount-office town.db receipts 0"),
+    order!(Office "journal" [], "Prints the accepted orders of the office as a script, whole:\ncount-office town.db journal"),
+    order!(Office "replay" [SCRIPT, KEEP_GOING], "Sends the orders of a text file, a line each, up to a refusal:\ncount-office town.db replay evening.txt"),
+    order!(Office "copy" [NEW], "Makes a copy of the office, in a file that isn't there yet:\ncount-office town.db copy evening.db"),
+    order!(Office "codes" [CODES_FILE, CLERKS], "Writes a new file of codes, one for each of these clerks:\ncount-office town.db codes codes.txt 1-40"),
+    order!(Everyone "ballots" [WARD], "Prints the ballots of a sealed ward, in a form that counting programs read:\ncount-office town.db ballots 7"),
+    order!(Everyone "page" [WARD, TITLE], "Prints the result of a sealed ward as a page for a browser, to print and sign:\ncount-office town.db page 7"),
+    order!(Everyone "table" [WARD], "Prints the stages of a sealed ward as a table for a spreadsheet:\ncount-office town.db table 7"),
+    order!(Everyone "index" [TITLE], "Prints how all wards stand, and who is elected, as a page to hang at the door:\ncount-office town.db index"),
+];
+
+/// The orders up to the seal, which are the first 12 of all.
+pub(crate) fn entries_to_seal() -> &'static [Entry]
+    ensures { map words_of result.now ≡ map (λ e. e.typed) (take 12 orders) }
+{
+    &ORDERS_TO_SEAL
+}
+
+/// The orders from the seal on.
+pub(crate) fn entries_from_seal() -> &'static [Entry]
+    ensures { map words_of result.now ≡ map (λ e. e.typed) (drop 12 orders) }
+{
+    &ORDERS_FROM_SEAL
+}
+
+// ---- what matched words mean
+
+/// Why matched words mean no order.
+#[derive(Clone, Copy)]
+pub(crate) enum NoOrder {
+    /// They name none.
+    Unknown,
+    /// The word of a verdict says none.
+    BadVerdict,
+    /// The word of an origin is none.
+    BadOrigin,
+    /// The word of a digest is none.
+    BadDigest,
+    /// Memory was wanting.
+    Memory,
+}
+
+impl From<AllocError> for NoOrder {
+    ghost use Rattle.desk.specs.declared.order_table.NoOrder.TheVariants.{Memory};
+
+    ghost from_gives = { λ _ why. why ≡ Memory };
+
+    fn from(_: AllocError) -> NoOrder {
+        NoOrder::Memory
+    }
+}
+
+// ---- the values of words
+
+fn number_found_in(matches: &ArgMatches<'_>, word: Word) -> Option<u32>
+    ensures { result ≡ number_found word.name.now (rows_of (found_of matches.now)) }
+{
+    matches.get_one::<u32>(word.name)
+}
+
+fn number_in(matches: &ArgMatches<'_>, word: Word) -> u32
+    ensures { result ≡ number_at word.name.now (rows_of (found_of matches.now)) }
+{
+    number_found_in(matches, word).unwrap_or(0)
+}
+
+fn text_found_in<'a>(matches: &ArgMatches<'a>, word: Word) -> Option<&'a str>
+    ensures { option_map (λ t. t.now) result ≡ first_of word.name.now (rows_of (found_of matches.now)) }
+{
+    matches.get_str(word.name)
+}
+
+fn texts_found_in<'m, 'a>(matches: &'m ArgMatches<'a>, word: Word) -> Option<&'m [&'a str]>
+    ensures { option_map (λ texts. map (λ t. t.now) texts.now) result ≡ all_of word.name.now (rows_of (found_of matches.now)) }
+{
+    matches.get_strs(word.name)
+}
+
+fn text_in<'a>(matches: &ArgMatches<'a>, word: Word) -> &'a str
+    ensures { result.now ≡ text_at word.name.now (rows_of (found_of matches.now)) }
+{
+    match text_found_in(matches, word) {
+        Some(text) => text,
+        None => "",
+    }
+}
+
+fn text_copied(alloc: Global, matches: &ArgMatches<'_>, word: Word) -> Result<String, AllocError>
+    ensures { IfOk result (λ text. string_bytes text ≡ text_at word.name.now (rows_of (found_of matches.now))) }
+{
+    String::from_str(alloc, text_in(matches, word))
+}
+
+/// The texts that were matched, of which there may be none.
+fn texts_copied(
+    alloc: Global,
+    matches: &ArgMatches<'_>,
+    word: Word,
+) -> Result<Vec<String>, AllocError>
+    ensures { IfOk result (λ texts. map string_bytes texts.items ≡ texts_at word.name.now (rows_of (found_of matches.now))) }
+{
+    let mut texts = Vec::new(alloc);
+    if let Some(all) = texts_found_in(matches, word) {
+        for text in all {
+            texts.push(String::from_str(alloc, text)?)?;
+        }
+    }
+    Ok(texts)
+}
+
+/// Whether a flag was matched, which reads `true` where it was given.
+fn flag_in(matches: &ArgMatches<'_>, word: Word) -> bool
+    ensures { result ≡ flag_at word.name.now (rows_of (found_of matches.now)) }
+{
+    text_in(matches, word) == "true"
+}
+
+/// The origin that was matched, if one was.
+fn origin_in<'a>(matches: &ArgMatches<'a>) -> Result<Option<Origin<'a>>, NoOrder>
+    ensures ok { IfOk result (λ found. origin_at (codes "origin") (rows_of (found_of matches.now)) ≡ option_map (λ o. Some (origin_text o)) found) }
+    ensures err { IfErr result (λ why. (why ≡ NoOrder.BadOrigin) × (origin_at (codes "origin") (rows_of (found_of matches.now)) ≡ Some None)) }
+{
+    let Some(text) = text_found_in(matches, ORIGIN) else {
+        return Ok(None);
+    };
+    match Origin::parse(text) {
+        Some(origin) => Ok(Some(origin)),
+        None => Err(NoOrder::BadOrigin),
+    }
+}
+
+/// The digest that was matched, if one was.
+fn digest_in(matches: &ArgMatches<'_>) -> Result<Option<FileDigest>, NoOrder>
+    ensures ok { IfOk result (λ found. digest_at (codes "sha256") (rows_of (found_of matches.now)) ≡ option_map (λ d. Some (digest_bytes d)) found) }
+    ensures err { IfErr result (λ why. (why ≡ NoOrder.BadDigest) × (digest_at (codes "sha256") (rows_of (found_of matches.now)) ≡ Some None)) }
+{
+    let Some(text) = text_found_in(matches, DIGEST) else {
+        return Ok(None);
+    };
+    match FileDigest::parse(text) {
+        Some(digest) => Ok(Some(digest)),
+        None => Err(NoOrder::BadDigest),
+    }
+}
+
+// ---- the commands that orders send
+
+fn batch_command(matches: &ArgMatches<'_>) -> Command
+    ensures { meaning_of (codes "batch") (rows_of (found_of matches.now)) ≡ Some (sent (rows_of (found_of matches.now)) result) }
+{
+    Command::Batch(BatchCommand::Add {
+        batch: number_in(matches, BATCH),
+        ward: number_in(matches, WARD),
+        size: number_in(matches, SIZE),
+        first_clerk: number_in(matches, FIRST_CLERK),
+        second_clerk: number_in(matches, SECOND_CLERK),
+    })
+}
+
+fn verdict_command(alloc: Global, matches: &ArgMatches<'_>) -> Result<Command, NoOrder>
+    ensures ok { IfOk result (λ command. meaning_of (codes "judge") (rows_of (found_of matches.now)) ≡ Some (sent (rows_of (found_of matches.now)) command)) }
+    ensures err { IfErr result (λ why. (why ≡ NoOrder.Memory) ⊎ ((why ≡ NoOrder.BadVerdict) × (meaning_of (codes "judge") (rows_of (found_of matches.now)) ≡ Some no_verdict))) }
+{
+    match verdict_in(alloc, text_in(matches, VERDICT))? {
+        Some(verdict) => Ok(Command::Verdict(VerdictCommand {
+            batch: number_in(matches, BATCH),
+            paper: number_in(matches, PAPER),
+            verdict,
+        })),
+        None => Err(NoOrder::BadVerdict),
+    }
+}
+
+/// The command that the order of this name sends, with the values that were matched.
+fn command_named(alloc: Global, name: &str, matches: &ArgMatches<'_>) -> Result<Command, NoOrder>
+    ensures ok { IfOk result (λ command. meaning_of name.now (rows_of (found_of matches.now)) ≡ Some (sent (rows_of (found_of matches.now)) command)) }
+    ensures unknown { result ≡ Err NoOrder.Unknown → is_command_name name.now ≡ false }
+    ensures bad { result ≡ Err NoOrder.BadVerdict → meaning_of name.now (rows_of (found_of matches.now)) ≡ Some no_verdict }
+    ensures bad_origin { result ≡ Err NoOrder.BadOrigin → meaning_of name.now (rows_of (found_of matches.now)) ≡ Some no_origin }
+    ensures bad_digest { result ≡ Err NoOrder.BadDigest → meaning_of name.now (rows_of (found_of matches.now)) ≡ Some no_digest }
+{
+    let ward = number_in(matches, WARD);
+    let candidate = number_in(matches, CANDIDATE);
+    let batch = number_in(matches, BATCH);
+    match name {
+        "ward" => Ok(Command::Ward(WardCommand::Add {
+            ward,
+            seats: number_in(matches, SEATS),
+            name: text_copied(alloc, matches, NAME)?,
+        })),
+        "candidate" => Ok(Command::Candidate(CandidateCommand::Add {
+            ward,
+            candidate,
+            name: text_copied(alloc, matches, NAME)?,
+        })),
+        "withdraw" => Ok(Command::Candidate(CandidateCommand::Withdraw { ward, candidate })),
+        "close" => Ok(Command::Ward(WardCommand::Close { ward })),
+        "batch" => Ok(batch_command(matches)),
+        "again" => Ok(Command::Batch(BatchCommand::Again { batch })),
+        "third" => Ok(Command::Batch(BatchCommand::Third {
+            batch,
+            clerk: number_in(matches, CLERK),
+        })),
+        "judge" => verdict_command(alloc, matches),
+        "seal" => Ok(Command::Count(CountCommand::Seal { ward })),
+        "advance" => Ok(Command::Count(CountCommand::Advance { ward })),
+        "lot" => Ok(Command::Count(CountCommand::Lot {
+            ward,
+            stage: number_in(matches, STAGE),
+            candidate,
+        })),
+        "declare" => Ok(Command::Count(CountCommand::Declare { ward })),
+        _ => Err(NoOrder::Unknown),
+    }
+}
+
+// ---- orders
+
+/// The order of an errand in an open office.
+fn in_office<'a>(errand: Errand<'a>) -> Order<'a>
+    ensures { told result ≡ told_errand errand.entry }
+{
+    Order::Perform(Task::InOffice(Job::Run(errand)))
+}
+
+/// Sends a command of the office under the id that was matched.
+fn sending<'a>(
+    alloc: Global,
+    matches: &ArgMatches<'a>,
+    command: Command,
+) -> Result<Order<'a>, NoOrder>
+    ensures ok { IfOk result (λ o. told o ≡ sent (rows_of (found_of matches.now)) command) }
+    ensures err { IfErr result (λ why. why ≡ NoOrder.Memory) }
+{
+    let id = text_copied(alloc, matches, ID)?;
+    Ok(in_office(Errand::Send(by_office(id, command))))
+}
+
+fn import_candidates<'a>(matches: &ArgMatches<'a>) -> Result<Order<'a>, NoOrder>
+    ensures ok { IfOk result (λ o. meaning_of (codes "import-candidates") (rows_of (found_of matches.now)) ≡ Some (told o)) }
+    ensures err { IfErr result (λ why. (why ≡ NoOrder.BadDigest) × (meaning_of (codes "import-candidates") (rows_of (found_of matches.now)) ≡ Some no_digest)) }
+{
+    Ok(in_office(Errand::ImportCandidates {
+        file: text_in(matches, FILE),
+        id: text_in(matches, ID),
+        digest: digest_in(matches)?,
+    }))
+}
+
+fn import_keying<'a>(matches: &ArgMatches<'a>) -> Result<Order<'a>, NoOrder>
+    ensures ok { IfOk result (λ o. meaning_of (codes "import-keying") (rows_of (found_of matches.now)) ≡ Some (told o)) }
+    ensures err { IfErr result (λ why. (why ≡ NoOrder.BadDigest) × (meaning_of (codes "import-keying") (rows_of (found_of matches.now)) ≡ Some no_digest)) }
+{
+    Ok(in_office(Errand::ImportKeying(KeyingFile {
+        clerk: number_in(matches, CLERK),
+        batch: number_in(matches, BATCH),
+        round: number_in(matches, ROUND),
+        file: text_in(matches, FILE),
+        id: text_in(matches, ID),
+        digest: digest_in(matches)?,
+    })))
+}
+
+/// A clerk's keying of the papers that were matched, sent by the clerk.
+fn key<'a>(alloc: Global, matches: &ArgMatches<'a>) -> Result<Order<'a>, NoOrder>
+    ensures ok { IfOk result (λ o. meaning_of (codes "key") (rows_of (found_of matches.now)) ≡ Some (told o)) }
+    ensures err { IfErr result (λ why. why ≡ NoOrder.Memory) }
+{
+    let id = text_copied(alloc, matches, ID)?;
+    let command = KeyingCommand {
+        batch: number_in(matches, BATCH),
+        round: number_in(matches, ROUND),
+        papers: texts_copied(alloc, matches, MARKS)?,
+    };
+    let clerk = number_in(matches, CLERK);
+    Ok(in_office(Errand::Send(by_clerk(clerk, id, Command::Keying(command)))))
+}
+
+fn counting<'a>(matches: &ArgMatches<'a>) -> Order<'a>
+    ensures { meaning_of (codes "count") (rows_of (found_of matches.now)) ≡ Some (told result) }
+{
+    in_office(Errand::Count {
+        ward: number_in(matches, WARD),
+        id: text_in(matches, ID),
+    })
+}
+
+fn replay<'a>(matches: &ArgMatches<'a>) -> Order<'a>
+    ensures { meaning_of (codes "replay") (rows_of (found_of matches.now)) ≡ Some (told result) }
+{
+    Order::Perform(Task::InOffice(Job::Replay {
+        file: text_in(matches, SCRIPT),
+        keep_going: flag_in(matches, KEEP_GOING),
+    }))
+}
+
+fn serve<'a>(matches: &ArgMatches<'a>) -> Result<Order<'a>, NoOrder>
+    ensures ok { IfOk result (λ o. meaning_of (codes "serve") (rows_of (found_of matches.now)) ≡ Some (told o)) }
+    ensures err { IfErr result (λ why. (why ≡ NoOrder.BadOrigin) × (meaning_of (codes "serve") (rows_of (found_of matches.now)) ≡ Some no_origin)) }
+{
+    Ok(Order::Serve {
+        port: number_in(matches, PORT),
+        connections: number_found_in(matches, CONNECTIONS),
+        origin: origin_in(matches)?,
+        codes: text_found_in(matches, CODES),
+    })
+}
+
+/// The order that prints a text of the ward that was matched.
+fn printing<'a>(matches: &ArgMatches<'a>, text: Text<'a>) -> Order<'a>
+    ensures { told result ≡ told_text (number_at (codes "WARD") (rows_of (found_of matches.now))) text.entry }
+{
+    in_office(Errand::Print {
+        ward: number_in(matches, WARD),
+        text,
+    })
+}
+
+fn page<'a>(matches: &ArgMatches<'a>) -> Order<'a>
+    ensures { meaning_of (codes "page") (rows_of (found_of matches.now)) ≡ Some (told result) }
+{
+    printing(matches, Text::Page(text_in(matches, TITLE)))
+}
+
+fn index<'a>(matches: &ArgMatches<'a>) -> Order<'a>
+    ensures { meaning_of (codes "index") (rows_of (found_of matches.now)) ≡ Some (told result) }
+{
+    in_office(Errand::PrintIndex {
+        title: text_in(matches, TITLE),
+    })
+}
+
+fn asking<'a>(question: Question) -> Order<'a>
+    ensures { told result ≡ ask question }
+{
+    in_office(Errand::Ask(question))
+}
+
+/// The order of this name, with the values that were matched.
+fn order_named<'a>(
+    alloc: Global,
+    name: &str,
+    matches: &ArgMatches<'a>,
+) -> Result<Order<'a>, NoOrder>
+    ensures ok { IfOk result (λ o. meaning_of name.now (rows_of (found_of matches.now)) ≡ Some (told o)) }
+    ensures unknown { result ≡ Err NoOrder.Unknown → is_order_name name.now ≡ false }
+    ensures bad { result ≡ Err NoOrder.BadVerdict → meaning_of name.now (rows_of (found_of matches.now)) ≡ Some no_verdict }
+    ensures bad_origin { result ≡ Err NoOrder.BadOrigin → meaning_of name.now (rows_of (found_of matches.now)) ≡ Some no_origin }
+    ensures bad_digest { result ≡ Err NoOrder.BadDigest → meaning_of name.now (rows_of (found_of matches.now)) ≡ Some no_digest }
+{
+    let ward = number_in(matches, WARD);
+    let batch = number_in(matches, BATCH);
+    let actor = number_found_in(matches, ACTOR);
+    match name {
+        "init" => Ok(Order::Perform(Task::Init)),
+        "migrate" => Ok(Order::Perform(Task::Migrate)),
+        "import-candidates" => import_candidates(matches),
+        "import-keying" => import_keying(matches),
+        "key" => key(alloc, matches),
+        "count" => Ok(counting(matches)),
+        "next" => Ok(in_office(Errand::TellNext { ward })),
+        "status" => Ok(in_office(Errand::TellStatus { ward })),
+        "sheet" => Ok(printing(matches, Text::Sheet)),
+        "result" => Ok(printing(matches, Text::Declaration)),
+        "ballots" => Ok(printing(matches, Text::Ballots)),
+        "page" => Ok(page(matches)),
+        "table" => Ok(printing(matches, Text::Table)),
+        "index" => Ok(index(matches)),
+        "serve" => serve(matches),
+        "wards" => Ok(asking(Question::Wards)),
+        "batches" => Ok(asking(Question::Batches { ward })),
+        "doubtful" => Ok(asking(Question::Doubtful { ward })),
+        "differences" => Ok(asking(Question::Differences { batch })),
+        "papers" => Ok(asking(Question::Papers { batch })),
+        "receipts" => Ok(asking(Question::Receipts { actor })),
+        "journal" => Ok(Order::Journal),
+        "replay" => Ok(replay(matches)),
+        "copy" => Ok(Order::Copy {
+            path: text_in(matches, NEW),
+        }),
+        "codes" => Ok(Order::Codes {
+            path: text_in(matches, CODES_FILE),
+            clerks: text_in(matches, CLERKS),
+        }),
+        _ => sending(alloc, matches, command_named(alloc, name, matches)?),
+    }
+}
+
+/// The order that the matched words mean.
+pub(crate) fn order_in<'a>(alloc: Global, matches: &ArgMatches<'a>) -> Result<Order<'a>, NoOrder>
+    ensures ok { IfOk result (λ o. meaning (subcommand_rows_of matches.now) ≡ Some (told o)) }
+    ensures unknown { result ≡ Err NoOrder.Unknown → names_order (subcommand_rows_of matches.now) ≡ false }
+    ensures bad { result ≡ Err NoOrder.BadVerdict → meaning (subcommand_rows_of matches.now) ≡ Some no_verdict }
+    ensures bad_origin { result ≡ Err NoOrder.BadOrigin → meaning (subcommand_rows_of matches.now) ≡ Some no_origin }
+    ensures bad_digest { result ≡ Err NoOrder.BadDigest → meaning (subcommand_rows_of matches.now) ≡ Some no_digest }
+{
+    match matches.subcommand() {
+        Some((name, inner)) => order_named(alloc, name, inner),
+        None => Err(NoOrder::Unknown),
+    }
+}

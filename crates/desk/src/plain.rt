@@ -1,0 +1,61 @@
+//! An order that is performed over one file, which its caller has opened.
+
+ghost use Rattle.std.specs.Prelude.{◌-◌, ◌^◌, ◌<◌, None, IfSome, IsSome};
+ghost use Rattle.sqlite.specs.State.{HasCleanDisk};
+ghost use Rattle.sqlite.specs.Held.{state};
+ghost use Rattle.desk.specs.Headline.{Headline};
+ghost use Rattle.desk.specs.Orders.{task_of};
+ghost use Rattle.desk.specs.Pages.{Tells, outputs_of};
+
+use crate::folders::Folder;
+use crate::orders::Order;
+use sqlite::{Alter, Connection};
+use std::alloc::Global;
+use std::cell::Cell;
+use std::io::Read;
+use votes::Sink;
+
+/// A folder of one file, which is there for the first path that is opened, and for no other one.
+// No clause can say what a cell has, so none says which bytes the file has.
+#[derive(Drop)]
+struct OneFile<R> {
+    file: Cell<Option<R>>,
+}
+
+impl<R: Read + Drop> Folder for OneFile<R> {
+    type File = R;
+
+    fn open(&self, _path: &str) -> Option<R> {
+        self.file.take()
+    }
+}
+
+/// Performs an order over a connection and the file that it names, prints its lines, and returns the status and the connection.
+///
+/// `file` is `None` if the file can't be opened. It is [`perform`](crate::perform::perform) over a folder of that one file, so a script
+/// can't open the import files that it names. The order is any but those to serve, to copy, to print a journal and to make codes.
+pub fn perform<S: Alter, R: Read + Drop, O: Sink, E: Sink>(
+    alloc: Global,
+    order: &Order<'_>,
+    conn: Connection<S>,
+    file: Option<R>,
+    out: &mut O,
+    err: &mut E,
+) -> (u8, Connection<S>)
+    requires out { O.failed out.old < 2 ^ 64 - 1 }
+    requires err { E.failed err.old < 2 ^ 64 - 1 }
+    requires task { IsSome (task_of order.now) }
+    ensures headline { IfSome (task_of order.now) (λ task. let outputs = outputs_of O.taken O.failed E.taken E.failed in Tells (outputs out.old err.old) (outputs out.new err.new) result.0
+        (λ cut page. HasCleanDisk (state S.Store result.1) → Headline (λ _. None) task cut page result.0 (state S.Store conn) (state S.Store result.1))) }
+{
+    let folder = OneFile {
+        file: Cell::new(file),
+    };
+    match order {
+        Order::Perform(task) => { crate::perform::perform(alloc, task, conn, &folder, out, err) }
+        Order::Copy { .. } => unreachable!(),
+        Order::Journal => unreachable!(),
+        Order::Codes { .. } => unreachable!(),
+        Order::Serve { .. } => unreachable!(),
+    }
+}

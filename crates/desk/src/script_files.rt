@@ -1,0 +1,34 @@
+//! The files that a script names, for who hands it over: they go with it.
+
+ghost use Rattle.std.specs.Prelude.{◌≡◌, IfOk, map, string_bytes};
+ghost use Rattle.desk.specs.ScriptFiles.{AreNamedIn, files_of};
+
+use crate::scripts::{ScriptFault, ScriptStep, all_said, lines_in, turns_in};
+use std::alloc::{AllocError, Global};
+
+/// The paths of the files that turns read, in turn; a path that several turns read comes as often.
+fn files_of(alloc: Global, turns: &[ScriptStep<'_>]) -> Result<Vec<String>, AllocError>
+    ensures { IfOk result (λ paths. map string_bytes paths.items ≡ files_of turns.now) }
+{
+    let mut paths = Vec::new(alloc);
+    for turn in turns {
+        if let Some(path) = turn.errand.file() {
+            paths.push(String::from_str(alloc, path)?)?;
+        }
+    }
+    Ok(paths)
+}
+
+/// The paths of the files that the lines of a script name, in turn. A text of which a
+/// line isn't understood names none: the order reports that line, and opens no file.
+pub fn files_named_in(alloc: Global, script: &[u8]) -> Result<Vec<String>, AllocError>
+    ensures { IfOk result (λ paths. AreNamedIn script.now (map string_bytes paths.items)) }
+{
+    let lines = lines_in(alloc, script)?;
+    let said = all_said(alloc, &lines)?;
+    match turns_in(alloc, &said) {
+        Ok(turns) => files_of(alloc, &turns),
+        Err(ScriptFault::Memory) => Err(AllocError),
+        Err(ScriptFault::ScriptLine(_, _)) => Ok(Vec::new(alloc)),
+    }
+}

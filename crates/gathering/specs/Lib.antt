@@ -1,6 +1,0 @@
-pub mod Lines
-pub mod Clients
-pub mod Leavers
-pub mod Closing
-pub mod Courses
-pub mod Rooms

@@ -1,7 +1,0 @@
--- Why `make_room` keeps its promise.
-use Rattle.hall.proofs.ReadLemmas.{gone_more}
-use Rattle.hall.specs.Reads.{reads_in}
-use Rattle.hall.proofs.reads.Kept.make_room.Goals as goal
-
-pub loop-preserved : goal.loop-preserved
-loop-preserved c = gone_more (reads_in c.args.self.now) c.loop.self.answers.items c.remove-oldest.new.self.items c.loop.invariant.0 c.loop.invariant.1 c.remove-oldest.ensures.items

@@ -1,9 +1,0 @@
-pub mod Terms
-pub mod Handings
-pub mod Outlets
-pub mod Reads
-pub mod Visits
-pub mod Turns
-pub mod Guests
-pub mod Halls
-pub mod Blind

@@ -1,7 +1,0 @@
--- The lemmas, by subject.
-pub mod Fields
-pub mod Pieces
-pub mod Loop
-pub mod Written
-pub mod FrameLemmas
-pub mod HeadLemmas

@@ -1,6 +1,0 @@
--- Why `put_said` keeps its promise.
-use Rattle.handover.proofs.FrameLemmas.{said_put}
-use Rattle.handover.proofs.writing.put_said.Goals as goal
-
-pub returns-clause-heard : goal.returns-clause-heard
-returns-clause-heard c = said_put c.args.out.now.items c.put_frame.new.out.items c.args.bytes.now c.in_ok-put_frame.ensures.put c.requires

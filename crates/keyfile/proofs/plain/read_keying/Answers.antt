@@ -1,0 +1,6 @@
+-- Why `read_keying` keeps its promise.
+use Rattle.keyfile.proofs.KeyedLemmas.{read_as_keyed}
+use Rattle.keyfile.proofs.plain.read_keying.Goals as goal
+
+pub returns-clause-spelled : goal.returns-clause-spelled
+returns-clause-spelled g c = read_as_keyed c.args.columns

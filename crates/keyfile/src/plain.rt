@@ -1,0 +1,82 @@
+//! Import files read without options: no digest is asked for, and a keying's header names neither batch nor clerk.
+
+ghost use Rattle.std.specs.Prelude.{◌≡◌, false, ◌⊎◌, List, ℕ, map, IfOk, IfErr, IfSome, Ok, Err, string_bytes};
+ghost use Rattle.keyfile.specs.Candidates.{candidate_entry, candidates};
+ghost use Rattle.keyfile.specs.Faults.{is_failed_read};
+ghost use Rattle.keyfile.specs.Files.{IsFaultOf, file_rows};
+ghost use Rattle.keyfile.specs.Keying.{AreReadAsKeyed, plain_keying};
+ghost use Rattle.keyfile.specs.Reading.{Known};
+ghost use Rattle.keyfile.specs.Records.{file_records};
+
+use crate::candidates::CandidateRow;
+use crate::fault::{FileFault, Flaw};
+use crate::format::{FileFormat, read_file};
+use crate::keying::{KeyingFormat, MOST_PAPERS, are_columns};
+use paper::Columns;
+use std::alloc::Global;
+use std::io::Read;
+
+/// Returns the candidates of a file, in its order. It is [`read_candidates`](crate::read_candidates) without a digest.
+pub fn read_candidates<R: Read + Drop>(alloc: Global, r: R) -> Result<Vec<CandidateRow>, FileFault>
+    ensures rows { IfOk result (λ rows. Known (R.remaining r) (λ bytes. file_rows candidates (file_records bytes) ≡ Ok (map candidate_entry rows.items))) }
+    ensures fault { IfErr result (λ fault. Known (R.remaining r) (λ bytes. IsFaultOf candidates (file_records bytes) fault)) }
+{
+    crate::candidates::read_candidates(alloc, r, None)
+}
+
+/// Returns the marks texts of a keying of papers with some columns, in the order of the papers.
+///
+/// The header is `paper` and the columns in ascending order. One that names its batch and its clerk, such as `paper 12/4`, isn't the
+/// header here, because neither is known. All else is as in [`read_keying`](crate::read_keying).
+pub fn read_keying<R: Read + Drop>(
+    alloc: Global,
+    r: R,
+    columns: Columns,
+) -> Result<Vec<String>, FileFault>
+    ensures rows { IfOk result (λ papers. Known (R.remaining r) (λ bytes. file_rows (plain_keying columns) (file_records bytes) ≡ Ok (map string_bytes papers.items))) }
+    ensures fault { IfErr result (λ fault. Known (R.remaining r) (λ bytes. IsFaultOf (plain_keying columns) (file_records bytes) fault)) }
+    // a marks text says what the fields say
+    ensures spelled { AreReadAsKeyed columns }
+{
+    read_file(alloc, r, None, &PlainFormat { columns })
+}
+
+/// The format of the file of a keying whose header names neither its batch nor its clerk.
+#[derive(Drop)]
+struct PlainFormat {
+    columns: Columns,
+}
+
+impl FileFormat for PlainFormat {
+    type Row = String;
+
+    ghost Entry = { List ℕ };
+
+    ghost format = { λ f. plain_keying f.columns };
+
+    ghost entry = { string_bytes };
+
+    fn most(&self) -> u32 {
+        MOST_PAPERS
+    }
+
+    fn header_flaw(&self, fields: &[&str]) -> Option<Flaw> {
+        let [first, numbers @ ..] = fields else {
+            return Some(Flaw::Header);
+        };
+        if *first == "paper" && are_columns(numbers, self.columns.as_slice()) {
+            return None;
+        }
+        Some(Flaw::Header)
+    }
+
+    // A record is read whatever the header names.
+    fn read(&self, alloc: Global, number: u32, fields: &[&str]) -> Result<String, Flaw> {
+        let keying = KeyingFormat {
+            columns: self.columns,
+            batch: 0,
+            clerk: 0,
+        };
+        keying.read(alloc, number, fields)
+    }
+}

@@ -1,0 +1,158 @@
+//! What the checker prints over files that can't be read, memory that is wanting, and outputs that fail. (What else it prints is
+//! played in examples/checking.sh and examples/transcripts/checks.txt.)
+
+ghost use Rattle.std.specs.Prelude.{◌-◌, ◌^◌, ◌<◌};
+
+use crate::checker_texts::{BALLOTS, SHEET};
+use crate::sheet_outputs::is_told;
+use checker::{ArgumentsFault, InputFiles, NotRead, run};
+use std::alloc::{AllocError, Global};
+use std::process::Abort;
+use std::test::Fail;
+use votes::{Counted, Sink};
+
+/// What it prints of the sheet.
+const IS_SHEET: &str =
+    "the text is the stage sheet that these ballots, rejected papers and lots give\n";
+
+/// Two files that can be read, and others that can't.
+#[derive(Clone, Copy)]
+struct MemoryFiles<'a> {
+    alloc: Global,
+    ballots: &'a str,
+    text: &'a str,
+}
+
+impl MemoryFiles<'_> {
+    fn file(&self, text: &str) -> Result<Vec<u8>, NotRead> {
+        match Vec::from_slice(self.alloc, text.as_bytes()) {
+            Ok(bytes) => Ok(bytes),
+            Err(_) => Err(NotRead::Memory),
+        }
+    }
+}
+
+impl InputFiles for MemoryFiles<'_> {
+    fn read(&self, path: &str) -> Result<Vec<u8>, NotRead> {
+        match path {
+            "ballots" => self.file(self.ballots),
+            "text" => self.file(self.text),
+            "large" => Err(NotRead::Memory),
+            _ => match String::from_str(self.alloc, "there is none") {
+                Ok(why) => Err(NotRead::Because(why)),
+                Err(_) => Err(NotRead::Memory),
+            },
+        }
+    }
+}
+
+/// Some words, parted by spaces.
+fn words_of(alloc: Global, words: &str) -> Result<Vec<String>, AllocError> {
+    let mut all = Vec::new(alloc);
+    for word in words.split_whitespace() {
+        all.push(String::from_str(alloc, word)?)?;
+    }
+    Ok(all)
+}
+
+/// Asks the checker, of which a text lies on the shelf beside the ballots, by some words, and gives its status.
+fn asked<O: Sink, E: Sink>(
+    alloc: Global,
+    words: &Result<Vec<String>, ArgumentsFault>,
+    text: &str,
+    out: &mut O,
+    err: &mut E,
+) -> u8
+    requires out { O.failed out.old < 2 ^ 64 - 1 }
+    requires err { E.failed err.old < 2 ^ 64 - 1 }
+{
+    let folder = MemoryFiles {
+        alloc,
+        ballots: BALLOTS,
+        text,
+    };
+    run(alloc, words, &folder, out, err)
+}
+
+/// Asks the checker by some words, and compares what it prints on the output and the error output, and its status.
+fn tells(
+    rt: &(impl Abort + AllocGlobal),
+    words: &Result<Vec<String>, ArgumentsFault>,
+    told: &(&str, &str, u8),
+) {
+    let (mut out, mut err) = (Vec::new(rt.alloc()), Vec::new(rt.alloc()));
+    let (mut to_out, mut to_err) = (Counted::new(&mut out), Counted::new(&mut err));
+    let status = asked(rt.alloc(), words, SHEET, &mut to_out, &mut to_err);
+    is_told(rt, &out, told.0);
+    is_told(rt, &err, told.1);
+    assert!(rt; status == told.2);
+}
+
+/// The same by words that can be read.
+fn asks(rt: &(impl Abort + AllocGlobal), words: &str, told: &(&str, &str, u8)) -> Result<(), Fail> {
+    let words = Ok(words_of(rt.alloc(), words)?);
+    tells(rt, &words, told);
+    Ok(())
+}
+
+/// What it prints where memory is wanting.
+const MEMORY: (&str, &str, u8) = ("", "error: memory is wanting\n", 3);
+
+/// What it prints of a file that can't be read.
+const UNREAD: (&str, &str, u8) = ("", "error: no?ne can't be read: there is none\n", 3);
+
+/// The words that the checker is asked by, and what it prints.
+const ASKED: [(&str, (&str, &str, u8)); 5] = [
+    ("large text", MEMORY),
+    ("ballots large", MEMORY),
+    ("no\u{1b}ne nothing", UNREAD),
+    ("ballots no\u{1b}ne", UNREAD),
+    ("ballots text", (IS_SHEET, "", 0)),
+];
+
+/// Asks the checker over outputs that take no more bytes than they have room for, and gives its status.
+fn asked_over(alloc: Global, text: &str, out: &mut [u8], err: &mut [u8]) -> Result<u8, Fail> {
+    let words = Ok(words_of(alloc, "ballots text")?);
+    let (mut to_out, mut to_err) = (Counted::new(out), Counted::new(err));
+    Ok(asked(alloc, &words, text, &mut to_out, &mut to_err))
+}
+
+/// What it prints of a text over outputs that have room for just this.
+fn breaks(
+    rt: &(impl Abort + AllocGlobal),
+    (text, out_told, err_told): &(&str, &str, &str),
+) -> Result<(), Fail> {
+    let mut out = vec![in rt.alloc(); 0; out_told.len()]?;
+    let mut err = vec![in rt.alloc(); 0; err_told.len()]?;
+    let status = asked_over(rt.alloc(), *text, &mut out, &mut err)?;
+    assert!(rt; status == 3);
+    is_told(rt, &out, *out_told);
+    is_told(rt, &err, *err_told);
+    Ok(())
+}
+
+/// A text, and what an output and an error output take that have no room for more.
+const BROKEN: [(&str, &str, &str); 3] = [
+    (SHEET, "the text", "error: the output failed\n"),
+    (SHEET, "", "error"),
+    ("", "", "line 1"),
+];
+
+/// The checker's words can't be read.
+fn tells_no_words(rt: &(impl Abort + AllocGlobal)) {
+    let not_text = ("", "error: a word is not UTF-8\n", 2);
+    tells(rt, &Err(ArgumentsFault::NotUtf8), &not_text);
+    tells(rt, &Err(ArgumentsFault::Memory), &MEMORY);
+}
+
+#[test]
+fn what_fails_is_told(rt: HostRuntime) -> Result<(), Fail> {
+    tells_no_words(&rt);
+    for (words, told) in &ASKED {
+        asks(&rt, *words, told)?;
+    }
+    for case in &BROKEN {
+        breaks(&rt, case)?;
+    }
+    Ok(())
+}

@@ -1,0 +1,326 @@
+//! Clerks' codes: their file, who is let in, how many wrong codes reach the limit, and which codes are made.
+
+ghost use Rattle.std.specs.Prelude.{Some, take};
+
+use super::wire_requests::asks_of;
+use crate::sheet_outputs::is_text;
+use codes::{ClerkRange, Codes, CodesError, CodesFault, DrawFailed, Draws, RateLimit, make};
+use std::alloc::{AllocError, Global};
+use std::process::Abort;
+use std::test::Fail;
+use wire::{Gate, HttpSettings, Page, authentication_of};
+
+/// A file of codes, one line of which a Windows program ended.
+const FILE: &str = "4 kf7m-2wxt\r\n\n9 w3hd-4psn\n";
+
+/// What clerk 4 sends, and what clerk 9 does.
+const FOUR: &str = "Basic NDprZjdtLTJ3eHQ=";
+
+const NINE: &str = "Basic OTp3M2hkLTRwc24=";
+
+/// Texts that are no files of codes, and the fault of each.
+const FAULTS: [(&str, &str); 16] = [
+    ("4", "2 at 1"),
+    ("kf7m-2wxt\n", "1 at 1"),
+    ("0 kf7m-2wxt\n", "1 at 1"),
+    ("04 kf7m-2wxt\n", "1 at 1"),
+    ("1000 kf7m-2wxt\n", "1 at 1"),
+    ("+4 kf7m-2wxt\n", "1 at 1"),
+    (" 4 kf7m-2wxt\n", "1 at 1"),
+    ("4\tkf7m-2wxt\n", "1 at 1"),
+    ("4 kf7m-2wxt\n9 kf7m-2wa\n5 kf7m2wxb\n7 kf7m-2w\n", "2 at 4"),
+    ("4  kf7m-2wxt\n", "2 at 1"),
+    ("4 kf7m 2wxt\n", "2 at 1"),
+    ("4 kf7m-2wxt \n", "2 at 1"),
+    ("4 kf7m-2wx\u{e4}\n", "2 at 1"),
+    ("4 kf7m-2wxt\n\n4 w3hd-4psn\n", "3 at 3"),
+    ("4 kf7m-2wxt\n9 kf7m-2wxt\n", "4 at 2"),
+    ("# codes\n4 kf7m-2wxt\n", "1 at 1"),
+];
+
+/// What is asked under a clerk's number, by the values of `Authorization`.
+const SENT: [(&str, &str, &str); 19] = [
+    ("GET /clerks/4/work", FOUR, "Work { clerk: 4 }"),
+    ("GET /clerks/9/work", NINE, "Work { clerk: 9 }"),
+    (
+        "GET /clerks/4/batches/12/candidates",
+        FOUR,
+        "Candidates { clerk: 4, batch: 12 }",
+    ),
+    (
+        "GET /clerks/4/",
+        FOUR,
+        "4 sees <p>keying</p> by default-src 'none'",
+    ),
+    ("GET /clerks/4/leave", FOUR, "4 leaves"),
+    ("POST /clerks/4/", FOUR, "only Get"),
+    ("GET /clerks/4/nothing", FOUR, "NotFound"),
+    ("GET /clerks/4/work", "", "Unauthorized { clerk: 4 }"),
+    ("PUT /clerks/4/work", "", "Unauthorized { clerk: 4 }"),
+    ("GET /clerks/4/nothing", "", "Unauthorized { clerk: 4 }"),
+    ("GET /clerks/4/work", NINE, "WrongCode { clerk: 4 }"),
+    ("GET /clerks/9/work", FOUR, "WrongCode { clerk: 9 }"),
+    ("GET /clerks/5/work", FOUR, "WrongCode { clerk: 5 }"),
+    // in capitals, cut, with clerk 9's name, with clerk 9's code, with another number, under another scheme
+    (
+        "GET /clerks/4/work",
+        "Basic NDpLRjdNLTJXWFQ=",
+        "WrongCode { clerk: 4 }",
+    ),
+    (
+        "GET /clerks/4/work",
+        "Basic NDprZjdtLTJ3eA==",
+        "WrongCode { clerk: 4 }",
+    ),
+    (
+        "GET /clerks/4/work",
+        "Basic OTprZjdtLTJ3eHQ=",
+        "WrongCode { clerk: 4 }",
+    ),
+    (
+        "GET /clerks/4/work",
+        "Basic NDp3M2hkLTRwc24=",
+        "WrongCode { clerk: 4 }",
+    ),
+    (
+        "GET /clerks/4/work",
+        "Basic MDQ6a2Y3bS0yd3h0",
+        "WrongCode { clerk: 4 }",
+    ),
+    (
+        "GET /clerks/4/work",
+        "Bearer NDprZjdtLTJ3eHQ=",
+        "WrongCode { clerk: 4 }",
+    ),
+];
+
+/// What is asked by whoever isn't a clerk, by a code that comes twice, and by a page from elsewhere.
+const BESIDE: [(&str, &str, &str); 5] = [
+    ("GET /wards/7/sheet", "", "Sheet { ward: 7 }"),
+    ("GET /clerks//work", "", "NotFound"),
+    ("GET /clerks/04/work", "", "NotFound"),
+    (
+        "GET /clerks/4/work",
+        "Authorization: Basic NDprZjdtLTJ3eHQ=\r\nAuthorization: Basic NDprZjdtLTJ3eHQ=\r\n",
+        "WrongCode { clerk: 4 }",
+    ),
+    (
+        "GET /clerks/4/work",
+        "Authorization: Basic NDprZjdtLTJ3eHQ=\r\nSec-Fetch-Site: cross-site\r\n",
+        "Forbidden",
+    ),
+];
+
+/// What is knocked with under clerk 4's number, how often, and when; and whether the limit is reached then.
+const KNOCKS: [(&str, u32, u64, bool); 9] = [
+    (FOUR, 6_001, 0, false),
+    (NINE, 5_999, 100_000, false),
+    (NINE, 1, 159_999, true),
+    (FOUR, 1, 159_999, true),
+    (NINE, 0, 90_000, true),
+    (NINE, 0, 160_000, false),
+    (NINE, 5_999, 160_000, false),
+    (NINE, 2, 160_000, true),
+    (NINE, 1, 220_000, false),
+];
+
+/// Bytes that draw the codes of clerks 4 and 5: the seventh and the eleventh draw no letter.
+const DRAWN: [u8; 26] = [
+    0, 1, 2, 3, 24, 239, 240, 5, 6, 20, 255, 21, 22, 23, 8, 9, 10, 11, 12, 13, 14, 15, 16, 17, 18,
+    19,
+];
+
+/// The codes that these bytes draw.
+const MADE: &str = "4 abcd-a7fg-2347\n5 jkmn-prst-uwxy\n";
+
+/// What is reported of a text that is a file of codes, or isn't.
+fn fault_in(alloc: Global, text: &str) -> Result<String, AllocError> {
+    match Codes::read(alloc, text.as_bytes()) {
+        Ok(_) => String::from_str(alloc, "none"),
+        Err(CodesError::Memory) => String::from_str(alloc, "memory"),
+        Err(CodesError::Fault(fault)) => {
+            let line = fault.line().unwrap_or(0);
+            format!(in alloc; "{} at {line}", fault.number())
+        }
+    }
+}
+
+/// Asks with these header lines.
+fn asks_at(
+    rt: &(impl Abort + AllocGlobal),
+    given: HttpSettings<'_>,
+    line: &str,
+    headers: &str,
+    asked: &str,
+) -> Result<(), Fail> {
+    let request = format!(in rt.alloc(); "{line} HTTP/1.1\r\n{headers}\r\n")?;
+    asks_of(rt, given, request.as_bytes(), asked)
+}
+
+/// Knocks under clerk 4's number, with this value of `Authorization`, as often, at this time; whether the limit is reached then.
+fn is_reached_after(
+    alloc: Global,
+    given: HttpSettings<'_>,
+    limit: &mut RateLimit,
+    value: &str,
+    times: u32,
+    now: u64,
+) -> Result<bool, AllocError> {
+    let request = format!(in alloc; "PUT /clerks/4/x HTTP/1.1\r\nauthorization: {value}\r\n\r\n")?;
+    let is_wrong = match authentication_of(given, request.as_bytes()) {
+        Some(authentication) => authentication.is_wrong,
+        None => false,
+    };
+    if is_wrong {
+        for _ in 0..times {
+            limit.count_wrong(now);
+        }
+    }
+    Ok(limit.is_reached(now))
+}
+
+/// Draws these bytes, one after the other. Then it fails.
+#[derive(Drop)]
+struct Known<'a> {
+    bytes: &'a [u8],
+    at: usize,
+    failures: u64,
+}
+
+impl Draws for Known<'_> {
+    ghost drawn = { λ known. Some (take known.at known.bytes.now) };
+
+    ghost failed = { λ known. known.failures };
+
+    fn draw(&mut self) -> Result<u8, DrawFailed> {
+        if self.at < self.bytes.len() {
+            let byte = self.bytes[self.at];
+            self.at += 1;
+            Ok(byte)
+        } else {
+            self.failures += 1;
+            Err(DrawFailed)
+        }
+    }
+}
+
+/// The gate of these codes, and nothing else.
+fn gate_of(codes: &Codes) -> HttpSettings<'_> {
+    let page = Page {
+        text: "<p>keying</p>",
+        policy: "default-src 'none'",
+    };
+    HttpSettings {
+        origin: None,
+        gate: Some(Gate { codes, page }),
+    }
+}
+
+/// What is reported of texts that are no files of codes.
+fn faults_are_told(rt: &(impl Abort + AllocGlobal)) -> Result<(), Fail> {
+    for (text, told) in &FAULTS {
+        is_text(rt, fault_in(rt.alloc(), *text)?.as_str(), *told);
+    }
+    Ok(())
+}
+
+/// What is asked with one value of `Authorization`, or with none where it is empty.
+fn asks_sent(
+    rt: &(impl Abort + AllocGlobal),
+    given: HttpSettings<'_>,
+    line: &str,
+    value: &str,
+    asked: &str,
+) -> Result<(), Fail> {
+    if value.is_empty() {
+        return asks_at(rt, given, line, "", asked);
+    }
+    let headers = format!(in rt.alloc(); "aUTHORIZATION:\t{value} \r\n")?;
+    asks_at(rt, given, line, headers.as_str(), asked)
+}
+
+/// Each value that is sent.
+fn asks_all(rt: &(impl Abort + AllocGlobal), given: HttpSettings<'_>) -> Result<(), Fail> {
+    for (line, value, asked) in &SENT {
+        asks_sent(rt, given, *line, *value, *asked)?;
+    }
+    Ok(())
+}
+
+/// A code is wanted once, and of nobody but a clerk; and a page from elsewhere is refused first.
+fn asks_beside(rt: &(impl Abort + AllocGlobal), given: HttpSettings<'_>) -> Result<(), Fail> {
+    for (line, headers, asked) in &BESIDE {
+        asks_at(rt, given, *line, *headers, *asked)?;
+    }
+    Ok(())
+}
+
+/// When the limit of wrong codes is reached, and until when.
+fn limits_wrong_codes(
+    rt: &(impl Abort + AllocGlobal),
+    given: HttpSettings<'_>,
+) -> Result<(), Fail> {
+    let alloc = rt.alloc();
+    let mut limit = RateLimit::new();
+    for (value, times, now, is_reached) in &KNOCKS {
+        assert!(rt;
+            is_reached_after(alloc, given, &mut limit, *value, *times, *now)? == *is_reached
+        );
+    }
+    Ok(())
+}
+
+#[test]
+fn codes_of_clerks(rt: HostRuntime) -> Result<(), Fail> {
+    faults_are_told(&rt)?;
+    let Ok(held) = Codes::read(rt.alloc(), FILE.as_bytes()) else {
+        return Err(Fail::from("no codes are read"));
+    };
+    asks_all(&rt, gate_of(&held))?;
+    asks_beside(&rt, gate_of(&held))?;
+    assert_eq!(rt; held.weak_clerks(), [4, 9].as_slice());
+    limits_wrong_codes(&rt, gate_of(&held))
+}
+
+/// What is made for clerks 4 and 5 of these bytes: the text, or why there is none.
+fn made_of(alloc: Global, bytes: &[u8]) -> Result<String, AllocError> {
+    let clerks = ClerkRange { first: 4, last: 5 };
+    let mut known = Known {
+        bytes,
+        at: 0,
+        failures: 0,
+    };
+    match make(alloc, &mut known, clerks) {
+        Ok(text) => Ok(text),
+        Err(CodesError::Fault(CodesFault::NoRandom)) => format!(in alloc; "fails at {}", known.at),
+        Err(CodesError::Fault(fault)) => format!(in alloc; "{} at {}", fault.number(), known.at),
+        Err(CodesError::Memory) => Err(AllocError),
+    }
+}
+
+/// Codes are made of just the bytes that are drawn; behind such a file there is none with the same code twice.
+fn makes_codes(rt: &(impl Abort + AllocGlobal)) -> Result<(), Fail> {
+    let alloc = rt.alloc();
+    is_text(rt, made_of(alloc, &DRAWN)?.as_str(), MADE);
+    let mut twice = vec![in alloc; 0; 24]?;
+    twice.extend_from_slice(&DRAWN)?;
+    is_text(rt, made_of(alloc, twice.as_slice())?.as_str(), MADE);
+    is_text(rt, made_of(alloc, &DRAWN[..25])?.as_str(), "fails at 25");
+    is_text(rt, made_of(alloc, &[])?.as_str(), "fails at 0");
+    let none = vec![in alloc; 255; 2_400]?;
+    is_text(rt, made_of(alloc, none.as_slice())?.as_str(), "10 at 2400");
+    Ok(())
+}
+
+#[test]
+fn codes_are_made(rt: HostRuntime) -> Result<(), Fail> {
+    makes_codes(&rt)?;
+    let Some(clerks) = ClerkRange::parse("1-40") else {
+        return Err(Fail::from("no clerks"));
+    };
+    assert!(rt; clerks.count() == 40);
+    for text in &["40-1", "0-4", "1-1000", "4", "1-", "-4", "1-4-5", "1 - 4"] {
+        assert!(rt; ClerkRange::parse(*text).is_none());
+    }
+    Ok(())
+}

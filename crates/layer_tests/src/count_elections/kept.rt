@@ -1,0 +1,143 @@
+//! Counts that go on from what was kept of them.
+
+use super::worked::{Expected, Worked};
+use super::{bundles_of, first_columns, holds, record_one, with_all};
+use count::{Due, KeptCount, NextStage, Placed, Stage};
+use paper::Columns;
+use std::alloc::Global;
+use std::process::Abort;
+use std::test::Fail;
+use votes::{ONE_VOTE, Votes};
+
+/// A count of a worked election as it was kept. What a test does with one is written over any such, so a proof of that knows
+/// nothing of what is kept, and is short.
+pub trait KeptCase: Sized {
+    /// The count before its first stage.
+    fn begun(alloc: Global, worked: &Worked) -> Result<Self, Fail>;
+
+    /// The count after the next stage, taken up from what is kept of it; none where no stage is due.
+    fn following(&self, alloc: Global, worked: &Worked) -> Result<Option<Self>, Fail>;
+
+    /// The newest stage.
+    fn newest(&self) -> Option<&Stage>;
+
+    /// Who is elected.
+    fn those_elected(&self) -> Columns;
+
+    /// Whether nothing is due.
+    fn is_finished(&self, worked: &Worked) -> bool;
+}
+
+/// A count that was kept so.
+fn resumed(alloc: Global, worked: &Worked, next: NextStage) -> Result<KeptCount, Fail> {
+    let bundles = bundles_of(alloc, worked.papers)?;
+    let NextStage { places, stages } = next;
+    let candidates = first_columns(worked.candidates);
+    match KeptCount::resume(candidates, worked.seats, bundles, places, stages) {
+        Some(kept) => Ok(kept),
+        None => Err(Fail::from("what was kept is of no count")),
+    }
+}
+
+impl KeptCase for KeptCount {
+    fn begun(alloc: Global, worked: &Worked) -> Result<Self, Fail> {
+        let bundles = bundles_of(alloc, worked.papers)?;
+        let candidates = first_columns(worked.candidates);
+        Ok(KeptCount::begin(alloc, candidates, worked.seats, bundles)?)
+    }
+
+    fn following(&self, alloc: Global, worked: &Worked) -> Result<Option<Self>, Fail> {
+        match self.next_stage(alloc, worked.lots)? {
+            Some(next) => Ok(Some(resumed(alloc, worked, next)?)),
+            None => Ok(None),
+        }
+    }
+
+    fn newest(&self) -> Option<&Stage> {
+        self.stages().last()
+    }
+
+    fn those_elected(&self) -> Columns {
+        self.elected()
+    }
+
+    fn is_finished(&self, worked: &Worked) -> bool {
+        matches!(self.due_by(worked.lots), Due::Finished)
+    }
+}
+
+/// Its newest stage records this.
+fn has_recorded<K: KeptCase>(rt: &impl Abort, worked: &Worked, kept: &K, expected: &Expected) {
+    match kept.newest() {
+        Some(stage) => record_one(rt, worked, stage, expected),
+        None => holds(rt, worked, "the newest stage", false),
+    }
+}
+
+/// Goes on by a stage, which has to record this; so many are elected then.
+fn gone_on<K: KeptCase + Drop>(
+    rt: &impl Abort,
+    alloc: Global,
+    worked: &Worked,
+    kept: &K,
+    (expected, elected): (&Expected, Columns),
+) -> Result<K, Fail> {
+    let next = kept.following(alloc, worked)?.ok_or("no stage is due")?;
+    has_recorded(rt, worked, &next, expected);
+    holds(rt, worked, "those elected", next.those_elected() == elected);
+    Ok(next)
+}
+
+/// Nothing is due any more.
+fn is_at_its_end<K: KeptCase + Drop>(
+    rt: &impl Abort,
+    alloc: Global,
+    worked: &Worked,
+    kept: &K,
+) -> Result<(), Fail> {
+    holds(rt, worked, "nothing is due", kept.is_finished(worked));
+    let is_last = kept.following(alloc, worked)?.is_none();
+    holds(rt, worked, "no stage follows", is_last);
+    Ok(())
+}
+
+/// Counts a worked election stage by stage, each by what was kept of the stage before.
+pub fn goes_on_from_what_was_kept<K: KeptCase + Drop>(
+    rt: &impl Abort,
+    alloc: Global,
+    worked: &Worked,
+) -> Result<(), Fail> {
+    let mut kept = K::begun(alloc, worked)?;
+    let mut elected = Columns::empty();
+    for expected in worked.stages {
+        elected = with_all(elected, expected.elected);
+        kept = gone_on(rt, alloc, worked, &kept, (expected, elected))?;
+    }
+    is_at_its_end(rt, alloc, worked, &kept)
+}
+
+/// Whether two papers that lie so are taken up.
+fn are_taken_up(alloc: Global, holder: u8, units: u64) -> Result<bool, Fail> {
+    let bundles = bundles_of(alloc, &[(2, &[1])])?;
+    let mut places = Vec::new(alloc);
+    let value = Votes::from_units(units);
+    places.push(Placed { holder, value })?;
+    let kept = KeptCount::resume(first_columns(3), 1, bundles, places, Vec::new(alloc));
+    Ok(kept.is_some())
+}
+
+/// Who holds the papers, at how many units, and whether they are taken up.
+const PLACES: [(u8, u64, bool); 3] = [
+    (30, ONE_VOTE, true),
+    (31, ONE_VOTE, false),
+    (1, ONE_VOTE + 1, false),
+];
+
+#[test]
+fn places_that_no_count_has_are_not_taken_up(rt: HostRuntime) -> Result<(), Fail> {
+    for (holder, units, wanted) in &PLACES {
+        let found = are_taken_up(rt.alloc(), *holder, *units)?;
+        assert!(rt; found == *wanted, "{holder} {units}");
+    }
+    Ok(())
+}

@@ -1,0 +1,181 @@
+//! Marks as they are read, and papers as they are judged.
+
+use crate::sheet_outputs::is_text;
+use paper::{
+    CandidateStatus, Columns, Keyed, MarkFault, Marked, Marks, Prefs, Rejection, Standing,
+    available_from, judge, next_available,
+};
+use std::process::Abort;
+use std::test::Fail;
+
+fn three() -> Columns {
+    Columns::empty().with(3).with(1).with(2).with(1)
+}
+
+/// What is keyed by a text of a paper with columns 1, 2, 3, which is its text again.
+fn keyed(rt: &(impl Abort + AllocGlobal), text: &str) -> Result<Keyed, Fail> {
+    let keyed = Marks::read(text.as_bytes(), three())?;
+    let again = keyed.text(rt.alloc())?;
+    is_text(rt, again.as_str(), text);
+    Ok(keyed)
+}
+
+fn marked(rt: &(impl Abort + AllocGlobal), text: &str) -> Result<Marked, Fail> {
+    match keyed(rt, text)? {
+        Keyed::Marked(marked) => Ok(marked),
+        Keyed::Doubtful => Err(Fail::from("doubtful")),
+    }
+}
+
+/// What is judged of each text: the preferences, or the code of the rejection.
+const JUDGED: [(&str, &[u8], u32); 6] = [
+    ("1,3,", &[1], 0),
+    ("1,2,2", &[1], 0),
+    ("2,1,3", &[2, 1, 3], 0),
+    ("99,1,10", &[2], 0),
+    ("1,1,", &[], 2),
+    (",2,", &[], 1),
+];
+
+/// Judges a paper: the preferences or the code are those that are wanted.
+fn is_judged(rt: &impl Abort, paper: &Marked, (text, wanted, code): &(&str, &[u8], u32)) {
+    match judge(paper) {
+        Ok(prefs) => assert!(rt; prefs.as_slice() == *wanted, "{text}"),
+        Err(why) => assert!(rt; why.number() == *code, "{text}"),
+    }
+}
+
+/// A text is that of a doubtful paper.
+fn is_doubtful(rt: &(impl Abort + AllocGlobal), text: &str) -> Result<(), Fail> {
+    let keyed = keyed(rt, text)?;
+    assert!(rt; matches!(keyed, Keyed::Doubtful));
+    Ok(())
+}
+
+#[test]
+fn papers_are_judged(rt: HostRuntime) -> Result<(), Fail> {
+    for case in &JUDGED {
+        let paper = marked(&rt, case.0)?;
+        is_judged(&rt, &paper, case);
+    }
+    // Millions are held.
+    assert!(&rt; std::mem::size_of::<Prefs>() == 30);
+    is_doubtful(&rt, "D")
+}
+
+/// The fault of a text.
+fn fault_of(text: &[u8], columns: Columns) -> Option<MarkFault> {
+    Marks::read(text, columns).err()
+}
+
+/// Texts of a paper with columns 1, 2, 3, the fault of each, and its number.
+const FAULTS: [(&str, MarkFault, u32); 9] = [
+    ("1,2", MarkFault::FieldCount, 1),
+    ("", MarkFault::FieldCount, 1),
+    ("x,,", MarkFault::NotANumber, 2),
+    ("01,,", MarkFault::NotANumber, 2),
+    ("D,,", MarkFault::NotANumber, 2),
+    ("1000x,,", MarkFault::NotANumber, 2),
+    ("100,,", MarkFault::TooLarge, 3),
+    ("0,100,", MarkFault::NotANumber, 2),
+    ("100,0,", MarkFault::TooLarge, 3),
+];
+
+/// A text has its fault.
+fn has_fault(rt: &impl Abort, (text, fault, number): &(&str, MarkFault, u32)) {
+    let found = fault_of(text.as_bytes(), three());
+    assert!(rt; found == Some(*fault), "at {text}");
+    assert!(rt; fault.number() == *number, "at {text}");
+}
+
+/// What is keyed of a paper with no columns.
+fn has_no_columns(rt: &impl Abort) {
+    let none = Columns::empty();
+    assert!(rt; fault_of(b"", none) == Some(MarkFault::FieldCount));
+    assert!(rt; matches!(Marks::read(b"D", none), Ok(Keyed::Doubtful)));
+}
+
+#[test]
+fn texts_with_faults(rt: HostRuntime) {
+    for case in &FAULTS {
+        has_fault(&rt, case);
+    }
+    has_no_columns(&rt);
+}
+
+/// 2 and 4 continue, 1 is elected, 3 is excluded.
+fn standing() -> Standing {
+    Standing::new(
+        Columns::empty().with(2).with(4),
+        Columns::empty().with(1),
+        Columns::empty().with(3),
+    )
+}
+
+/// The preferences that are walked over.
+const PREFS: &[u8] = &[1, 3, 4, 5, 2];
+
+/// Where the walk over those preferences starts, and the next that is available; 0 for none.
+const NEXT: [(usize, u8); 5] = [(0, 4), (2, 4), (3, 2), (5, 0), (9, 0)];
+
+/// How some candidates stand.
+const STANDING: [(u8, CandidateStatus); 5] = [
+    (1, CandidateStatus::Elected),
+    (2, CandidateStatus::Continuing),
+    (3, CandidateStatus::Excluded),
+    (5, CandidateStatus::Absent),
+    (200, CandidateStatus::Absent),
+];
+
+/// This one is the next that is available.
+fn is_next(rt: &impl Abort, standing: &Standing, (from, wanted): &(usize, u8)) {
+    let next = next_available(PREFS, *from, standing).unwrap_or(0);
+    assert!(rt; next == *wanted, "from {from}: {next}");
+}
+
+/// A candidate stands so.
+fn stands(rt: &impl Abort, standing: &Standing, (c, status): &(u8, CandidateStatus)) {
+    assert!(rt; standing.status(*c) == *status, "at {c}");
+    let is_continuing = *status == CandidateStatus::Continuing;
+    assert!(rt; standing.continues(*c) == is_continuing, "at {c}");
+}
+
+#[test]
+fn next_available_preferences(rt: HostRuntime) {
+    let standing = standing();
+    for case in &NEXT {
+        is_next(&rt, &standing, case);
+    }
+    assert_eq!(&rt; available_from(PREFS, 1, &standing).len(), 3);
+    for case in &STANDING {
+        stands(&rt, &standing, case);
+    }
+}
+
+/// The texts of the errors, in the order of their numbers.
+const TEXTS: &str =
+    "wrong number of fields|not a number|number over 99|no first preference|more than one first preference|\
+    no official mark|voter identifiable|void for uncertainty";
+
+#[test]
+fn errors_print_their_texts(rt: HostRuntime) -> Result<(), Fail> {
+    let (fields, digits, over) = (
+        MarkFault::FieldCount,
+        MarkFault::NotANumber,
+        MarkFault::TooLarge,
+    );
+    let (none, several) = (
+        Rejection::NoFirstPreference,
+        Rejection::SeveralFirstPreferences,
+    );
+    let (mark, voter, void) = (
+        Rejection::NoOfficialMark,
+        Rejection::VoterIdentifiable,
+        Rejection::VoidForUncertainty,
+    );
+    let told = format!(in rt.alloc();
+        "{fields}|{digits}|{over}|{none}|{several}|{mark}|{voter}|{void}"
+    )?;
+    is_text(&rt, told.as_str(), TEXTS);
+    Ok(())
+}

@@ -1,0 +1,531 @@
+//! Pages, and the page of all wards, byte for byte but for their style, which its definition has.
+
+ghost use Rattle.std.specs.Prelude.{◌-◌, ◌^◌, ◌<◌};
+
+use crate::sheet_outputs::{Printed, candidates_of, is_text, print, stage_of, three_stages};
+use count::{Action, Stage};
+use paper::Columns;
+use sheet::{
+    ListedWard, Poll, Standing, Ward, can_be_printed, index_text, page_text, write_index,
+    write_page,
+};
+use std::alloc::{AllocError, Global};
+use std::process::Abort;
+use std::test::Fail;
+use votes::{Broken, Sink};
+
+/// What stands above the style.
+const HEAD: &str = r##"<!DOCTYPE html>
+<html lang="en">
+<head>
+<meta charset="utf-8">
+<meta name="viewport" content="width=device-width, initial-scale=1">
+<title>Ward 7 &lt;Harbour&gt;</title>
+"##;
+
+/// What stands below it on the page of a declared ward.
+const DECLARED: &str = r##"
+</head>
+<body>
+<p class="running" aria-hidden="true">Ward 7 <bdi>&lt;Harbour&gt;</bdi></p>
+<p class="title" dir="auto">Vote &amp; &lt;Council&gt;</p>
+<h1>Ward 7 <bdi>&lt;Harbour&gt;</bdi></h1>
+<p class="declared"><strong>Declared</strong></p>
+<div class="top">
+<div>
+<h2>Elected</h2>
+<ul class="names">
+<li><b>1 <bdi>Ann &lt;b&gt;</bdi></b> <span>6.00000 votes, elected at stage 1</span></li>
+<li><b>3 <bdi>רות</bdi></b> <span>2.66666 votes, elected at stage 3</span></li>
+</ul>
+</div>
+<div>
+<h2>Papers</h2>
+<table class="papers">
+<tr><th scope="row">Seats</th><td>2</td></tr>
+<tr><th scope="row">Valid papers</th><td>9</td></tr>
+<tr><th scope="row">Quota, in votes</th><td>4.00000</td></tr>
+<tr><th scope="row">Rejected, code 1: no first preference</th><td>1</td></tr>
+<tr><th scope="row">Rejected, code 2: several first preferences</th><td>20</td></tr>
+<tr><th scope="row">Rejected, code 3: no official mark</th><td>300</td></tr>
+<tr><th scope="row">Rejected, code 4: voter identifiable</th><td>4000</td></tr>
+<tr><th scope="row">Rejected, code 5: void for uncertainty</th><td>50000</td></tr>
+<tr><th scope="row">Rejected papers in all</th><td>54321</td></tr>
+<tr><th scope="row">Papers in all</th><td>54330</td></tr>
+</table>
+</div>
+</div>
+<h2>Lots drawn</h2>
+<ul>
+<li>Lot at stage 3 between 2 <bdi>&quot;Bob&quot; &amp; &#39;Co&#39;</bdi>: excluded 2 <bdi>&quot;Bob&quot; &amp; &#39;Co&#39;</bdi></li>
+</ul>
+<h2>Votes of each candidate</h2>
+<svg class="patterns" width="0" height="0" aria-hidden="true"><defs><pattern id="later" width="4" height="4" patternUnits="userSpaceOnUse" patternTransform="rotate(45)"><rect width="4" height="4" fill="#fff"/><rect width="1.6" height="4" fill="#000"/></pattern></defs></svg><p class="key"><svg class="bar" aria-hidden="true"><rect class="first" width="100%" height="100%"/></svg> votes at stage 1, <span class="elected"><svg class="bar" aria-hidden="true"><rect class="first" width="100%" height="100%"/></svg> of the elected</span>, <span class="excluded"><svg class="bar" aria-hidden="true"><rect class="first" width="100%" height="100%"/></svg> of the excluded</span>; <svg class="bar" aria-hidden="true"><rect class="later" width="100%" height="100%"/></svg> votes gained later; <svg class="bar" aria-hidden="true"><rect class="quota" x="45%" width="3" height="100%"/></svg> the quota, 4.00000</p>
+<ul class="chart">
+<li class="elected"><span class="who">1 <bdi>Ann &lt;b&gt;</bdi></span><svg class="bar" aria-hidden="true"><rect class="first" width="100%" height="100%"/><rect class="later" x="100%" width="0%" height="100%"/><rect class="quota" x="66%" width="3" height="100%"/></svg><span class="had">6.00000 at stage 1</span><span class="end"><b>elected</b> at stage 1, with 6.00000</span></li>
+<li class="excluded"><span class="who">2 <bdi>&quot;Bob&quot; &amp; &#39;Co&#39;</bdi></span><svg class="bar" aria-hidden="true"><rect class="first" width="16%" height="100%"/><rect class="later" x="16%" width="22%" height="100%"/><rect class="quota" x="66%" width="3" height="100%"/></svg><span class="had">1.00000 at stage 1</span><span class="end">excluded at stage 3, with 2.33332</span></li>
+<li class="elected"><span class="who">3 <bdi>רות</bdi></span><svg class="bar" aria-hidden="true"><rect class="first" width="33%" height="100%"/><rect class="later" x="33%" width="11%" height="100%"/><rect class="quota" x="66%" width="3" height="100%"/></svg><span class="had">2.00000 at stage 1</span><span class="end"><b>elected</b> at stage 3, with 2.66666</span></li>
+</ul>
+<h2>Stages</h2>
+<div class="wide" role="region" tabindex="0" aria-label="Stages 1 to 3">
+<table class="stages">
+<caption>Stages 1 to 3</caption>
+<thead>
+<tr><th scope="col">Candidate</th>
+<th scope="col">Stage 1<br>first preferences</th>
+<th scope="col">Stage 2<br>surplus of 1 <bdi>Ann &lt;b&gt;</bdi></th>
+<th scope="col">Stage 3<br>exclusion of 2 <bdi>&quot;Bob&quot; &amp; &#39;Co&#39;</bdi>, last vacancies</th>
+</tr>
+</thead>
+<tbody>
+<tr><th scope="row">1 <bdi>Ann &lt;b&gt;</bdi></th>
+<td>6.00000 <b>elected</b></td>
+<td>4.00000 <i>&minus;2.00000</i> <small>elected</small></td>
+<td>4.00000 <small>elected</small></td>
+</tr>
+<tr><th scope="row">2 <bdi>&quot;Bob&quot; &amp; &#39;Co&#39;</bdi></th>
+<td>1.00000</td>
+<td>2.33332 <i>+1.33332</i></td>
+<td>2.33332 <b>excluded</b></td>
+</tr>
+<tr><th scope="row">3 <bdi>רות</bdi></th>
+<td>2.00000</td>
+<td>2.66666 <i>+0.66666</i></td>
+<td>2.66666 <b>elected</b></td>
+</tr>
+<tr class="sum"><th scope="row">non-transferable</th>
+<td>0.00000</td>
+<td>0.00000</td>
+<td>0.00000</td>
+</tr>
+<tr class="sum"><th scope="row">lost by fractions</th>
+<td>0.00000</td>
+<td>0.00002</td>
+<td>0.00002</td>
+</tr>
+</tbody>
+</table>
+</div>
+<div class="sign">
+<h2>Ward 7 <bdi>&lt;Harbour&gt;</bdi>: elected</h2>
+<ul>
+<li><b>1 <bdi>Ann &lt;b&gt;</bdi></b> <span>6.00000 votes, elected at stage 1</span></li>
+<li><b>3 <bdi>רות</bdi></b> <span>2.66666 votes, elected at stage 3</span></li>
+</ul>
+<h2>Signed</h2>
+<p>Date</p>
+<p>Returning officer</p>
+<p>First witness</p>
+<p>Second witness</p>
+</div>
+</body>
+</html>
+"##;
+
+/// The same before the first stage.
+const NO_STAGE: &str = r##"
+</head>
+<body>
+<p class="running" aria-hidden="true">Ward 7 <bdi>&lt;Harbour&gt;</bdi></p>
+<h1>Ward 7 <bdi>&lt;Harbour&gt;</bdi></h1>
+<p class="open"><strong>This is not a declared result.</strong> The ward is not declared yet, and what stands here may change.</p>
+<div class="top">
+<div>
+<h2>Elected</h2>
+<ul class="names">
+</ul>
+<p>Seats not yet filled: 2</p>
+</div>
+<div>
+<h2>Papers</h2>
+<table class="papers">
+<tr><th scope="row">Seats</th><td>2</td></tr>
+<tr><th scope="row">Valid papers</th><td>9</td></tr>
+<tr><th scope="row">Quota, in votes</th><td>4.00000</td></tr>
+<tr><th scope="row">Rejected, code 1: no first preference</th><td>0</td></tr>
+<tr><th scope="row">Rejected, code 2: several first preferences</th><td>0</td></tr>
+<tr><th scope="row">Rejected, code 3: no official mark</th><td>0</td></tr>
+<tr><th scope="row">Rejected, code 4: voter identifiable</th><td>0</td></tr>
+<tr><th scope="row">Rejected, code 5: void for uncertainty</th><td>0</td></tr>
+<tr><th scope="row">Rejected papers in all</th><td>0</td></tr>
+<tr><th scope="row">Papers in all</th><td>9</td></tr>
+</table>
+</div>
+</div>
+<h2>Lots drawn</h2>
+<p>No lot was drawn.</p>
+<h2>Stages</h2>
+<p>No stage is done yet.</p>
+</body>
+</html>
+"##;
+
+/// The same of an uncontested ward, which has a seat more than candidates.
+const UNCONTESTED: &str = r##"
+</head>
+<body>
+<p class="running" aria-hidden="true">Ward 7 <bdi>&lt;Harbour&gt;</bdi></p>
+<h1>Ward 7 <bdi>&lt;Harbour&gt;</bdi></h1>
+<p class="declared"><strong>Declared</strong></p>
+<div class="top">
+<div>
+<h2>Elected</h2>
+<ul class="names">
+<li><b>1 <bdi>Ann &lt;b&gt;</bdi></b></li>
+<li><b>2 <bdi>&quot;Bob&quot; &amp; &#39;Co&#39;</bdi></b></li>
+<li><b>3 <bdi>רות</bdi></b></li>
+</ul>
+<p>Seats that stay empty: 1</p>
+<p>Seats: 4. The ward is uncontested: there is no poll, and all its candidates are elected.</p>
+</div>
+</div>
+<div class="sign">
+<h2>Ward 7 <bdi>&lt;Harbour&gt;</bdi>: elected</h2>
+<ul>
+<li><b>1 <bdi>Ann &lt;b&gt;</bdi></b></li>
+<li><b>2 <bdi>&quot;Bob&quot; &amp; &#39;Co&#39;</bdi></b></li>
+<li><b>3 <bdi>רות</bdi></b></li>
+</ul>
+<h2>Signed</h2>
+<p>Date</p>
+<p>Returning officer</p>
+<p>First witness</p>
+<p>Second witness</p>
+</div>
+</body>
+</html>
+"##;
+
+/// The same before its declaration: that a seat stays empty is known without a count.
+const NOT_DECLARED: &str = r##"
+</head>
+<body>
+<p class="running" aria-hidden="true">Ward 7 <bdi>&lt;Harbour&gt;</bdi></p>
+<h1>Ward 7 <bdi>&lt;Harbour&gt;</bdi></h1>
+<p class="open"><strong>This is not a declared result.</strong> The ward is not declared yet, and what stands here may change.</p>
+<div class="top">
+<div>
+<h2>Elected</h2>
+<ul class="names">
+<li><b>1 <bdi>Ann &lt;b&gt;</bdi></b></li>
+<li><b>2 <bdi>&quot;Bob&quot; &amp; &#39;Co&#39;</bdi></b></li>
+<li><b>3 <bdi>רות</bdi></b></li>
+</ul>
+<p>Seats that stay empty: 1</p>
+<p>Seats: 4. The ward is uncontested: there is no poll, and all its candidates are elected.</p>
+</div>
+</div>
+</body>
+</html>
+"##;
+
+/// What stands above the style of the page of all wards.
+const INDEX_HEAD: &str = r##"<!DOCTYPE html>
+<html lang="en">
+<head>
+<meta charset="utf-8">
+<meta name="viewport" content="width=device-width, initial-scale=1">
+<title>Wards</title>
+"##;
+
+/// What stands below it.
+const INDEX: &str = r##"
+</head>
+<body>
+<p class="title" dir="auto">Vote &amp; &lt;Council&gt;</p>
+<h1>Wards</h1>
+<table class="index">
+<thead>
+<tr><th scope="col">Ward</th><th scope="col">Seats</th><th scope="col">How it stands</th><th scope="col">Elected</th></tr>
+</thead>
+<tbody>
+<tr><th scope="row">7 <bdi>&lt;Harbour&gt;</bdi></th><td>2</td><td><b>declared</b></td><td>
+<ul>
+<li>1 <bdi>Ann &lt;b&gt;</bdi></li>
+<li>3 <bdi>רות</bdi></li>
+</ul>
+</td></tr>
+<tr><th scope="row">8 <bdi>Quay</bdi></th><td>4</td><td>sealed, not declared yet</td><td>
+<ul>
+</ul>
+</td></tr>
+<tr><th scope="row">9 <bdi>Mill</bdi></th><td>1</td><td>its papers are being keyed</td><td>
+<ul>
+</ul>
+</td></tr>
+<tr><th scope="row">10 <bdi>Hill</bdi></th><td>1</td><td>nominations are open</td><td>
+<ul>
+</ul>
+</td></tr>
+</tbody>
+</table>
+</body>
+</html>
+"##;
+
+/// A title that looks like markup.
+const TITLE: &str = "Vote & <Council>";
+
+/// What brings something in from elsewhere.
+const FOREIGN: [&str; 5] = ["//", "@import", "<script", "<link", "<img"];
+
+/// The page of a ward.
+#[derive(Drop)]
+struct WardPage<'a> {
+    ward: &'a Ward<'a>,
+    title: &'a str,
+    is_declared: bool,
+    stages: &'a [Stage],
+    lots: &'a [(u8, u8)],
+}
+
+impl<'a> Printed for WardPage<'a> {
+    fn text(&self, alloc: Global) -> Result<String, Fail> {
+        if !can_be_printed(self.ward) {
+            return Err(Fail::from("no ward that can be printed"));
+        }
+        let (stages, lots) = (self.stages, self.lots);
+        Ok(page_text(alloc, self.ward, self.title, self.is_declared, stages, lots)?)
+    }
+
+    fn write<W: Sink>(&self, sink: &mut W) -> Result<(), Broken> {
+        if !can_be_printed(self.ward) {
+            return Err(Broken);
+        }
+        let (stages, lots) = (self.stages, self.lots);
+        write_page(sink, self.ward, self.title, self.is_declared, stages, lots)
+    }
+}
+
+/// The page of all wards.
+#[derive(Drop)]
+struct WardsPage<'a> {
+    title: &'a str,
+    wards: &'a [ListedWard],
+}
+
+impl<'a> Printed for WardsPage<'a> {
+    fn text(&self, alloc: Global) -> Result<String, Fail> {
+        Ok(index_text(alloc, self.title, self.wards)?)
+    }
+
+    fn write<W: Sink>(&self, sink: &mut W) -> Result<(), Broken> {
+        write_index(sink, self.title, self.wards)
+    }
+}
+
+/// What stands above the style of a page, and what stands below it.
+fn around_style(text: &str) -> Option<(&str, &str)> {
+    let (above, behind) = text.split_once("<style>")?;
+    let (_, below) = behind.split_once("</style>")?;
+    Some((above, below))
+}
+
+/// Whether anything is brought in from elsewhere.
+fn is_foreign(text: &str) -> bool {
+    for word in &FOREIGN {
+        if text.contains(*word) {
+            return true;
+        }
+    }
+    false
+}
+
+/// Compares a page with what stands above and below its style, and sees that nothing comes from elsewhere.
+fn compare(rt: &impl Abort, text: &str, above: &str, body: &str) -> Result<(), Fail> {
+    match around_style(text) {
+        Some((head, below)) => {
+            is_text(rt, head, above);
+            is_text(rt, below, body);
+            assert!(rt; !is_foreign(text));
+            Ok(())
+        }
+        None => Err(Fail::from("no style")),
+    }
+}
+
+/// Prints a page, and compares it.
+fn prints_page<P: Printed>(
+    rt: &(impl Abort + AllocGlobal),
+    printed: &P,
+    above: &str,
+    body: &str,
+) -> Result<(), Fail> {
+    let text = print(rt, printed)?;
+    compare(rt, text.as_str(), above, body)
+}
+
+/// Sees that words stand on a page.
+fn has_words<P: Printed>(
+    rt: &(impl Abort + AllocGlobal),
+    printed: &P,
+    words: &[&str],
+) -> Result<(), Fail> {
+    let text = printed.text(rt.alloc())?;
+    for some in words {
+        assert!(rt; text.as_str().contains(*some));
+    }
+    Ok(())
+}
+
+/// The words of two tables, of eight stages and of one.
+const TABLES: [&str; 4] = [
+    " aria-label=\"Stages 1 to 8\">",
+    "<caption>Stages 1 to 8</caption>",
+    " aria-label=\"Stage 9\">",
+    "<caption>Stage 9</caption>",
+];
+
+/// Those of a lot among three, and of one whose stage isn't done yet.
+const LOTS: [&str; 2] = [
+    "<li>Lot at stage 2 between 1 <bdi>Ann &lt;b&gt;</bdi>, 2 <bdi>&quot;Bob&quot; &amp; &#39;Co&#39;</bdi> and 3 <bdi>רות</bdi>: excluded 3 <bdi>רות</bdi></li>",
+    "<li>Lot at stage 3 between 1 <bdi>Ann &lt;b&gt;</bdi> and 2 <bdi>&quot;Bob&quot; &amp; &#39;Co&#39;</bdi>: drawn 1 <bdi>Ann &lt;b&gt;</bdi></li>",
+];
+
+/// The page of a ward without a title, which isn't declared.
+fn undeclared<'a>(ward: &'a Ward<'a>, stages: &'a [Stage], lots: &'a [(u8, u8)]) -> WardPage<'a> {
+    WardPage {
+        ward,
+        title: "",
+        is_declared: false,
+        stages,
+        lots,
+    }
+}
+
+/// A ward of the page of all wards.
+fn listed(
+    alloc: Global,
+    number: u32,
+    name: &str,
+    seats: u32,
+    standing: Standing,
+) -> Result<ListedWard, AllocError> {
+    Ok(ListedWard {
+        number,
+        name: String::from_str(alloc, name)?,
+        seats,
+        standing,
+        elected: Vec::new(alloc),
+    })
+}
+
+/// A declared ward, with who is elected.
+fn declared(alloc: Global) -> Result<ListedWard, AllocError> {
+    let mut ward = listed(alloc, 7, "<Harbour>", 2, Standing::Declared)?;
+    for (c, name) in &[(1, "Ann <b>"), (3, "רות")] {
+        ward.elected.push((*c, String::from_str(alloc, *name)?))?;
+    }
+    Ok(ward)
+}
+
+/// The wards that aren't declared.
+const OTHERS: [(u32, &str, u32, Standing); 3] = [
+    (8, "Quay", 4, Standing::Sealed),
+    (9, "Mill", 1, Standing::Keying),
+    (10, "Hill", 1, Standing::Nominations),
+];
+
+/// All wards.
+fn wards_of(alloc: Global) -> Result<Vec<ListedWard>, AllocError> {
+    let mut wards = Vec::new(alloc);
+    wards.push(declared(alloc)?)?;
+    for (number, name, seats, standing) in &OTHERS {
+        wards.push(listed(alloc, *number, *name, *seats, *standing)?)?;
+    }
+    Ok(wards)
+}
+
+fn prints_index(rt: &(impl Abort + AllocGlobal)) -> Result<(), Fail> {
+    let wards = wards_of(rt.alloc())?;
+    let printed = WardsPage {
+        title: TITLE,
+        wards: &wards,
+    };
+    prints_page(rt, &printed, INDEX_HEAD, INDEX)
+}
+
+/// The ward of these candidates.
+fn harbour<'a>(candidates: &'a [(u8, String)], seats: u8, poll: Option<Poll>) -> Ward<'a> {
+    Ward {
+        number: 7,
+        name: "<Harbour>",
+        seats,
+        candidates,
+        poll,
+    }
+}
+
+/// The papers of a poll, of which so many are rejected.
+fn poll_of(rejected: [u32; 5]) -> Option<Poll> {
+    Some(Poll { valid: 9, rejected })
+}
+
+/// The ward of a poll with rejected papers of each code.
+fn with_rejected<'a>(candidates: &'a [(u8, String)]) -> Ward<'a> {
+    harbour(candidates, 2, poll_of([1, 20, 300, 4000, 50000]))
+}
+
+/// Nine stages stand in two tables; and lots.
+fn prints_tables_and_lots(
+    rt: &(impl Abort + AllocGlobal),
+    candidates: &[(u8, String)],
+) -> Result<(), Fail> {
+    let ward = with_rejected(candidates);
+    let nobody = Columns::empty();
+    let equal = stage_of(Action::First, [300000; 3], nobody, 0);
+    let excluded = stage_of(Action::Exclude(3), [300000, 300000, 0], nobody, 0);
+    let nine = [excluded; 9];
+    has_words(rt, &undeclared(&ward, &nine, &[]), &TABLES)?;
+    let stages = [equal, excluded];
+    has_words(rt, &undeclared(&ward, &stages, &[(2, 3), (3, 1)]), &LOTS)
+}
+
+/// Prints the page of a declared ward, and those before its first stage and at more of them.
+fn prints_contested(
+    rt: &(impl Abort + AllocGlobal),
+    candidates: &[(u8, String)],
+) -> Result<(), Fail> {
+    let ward = with_rejected(candidates);
+    let stages = three_stages();
+    let printed = WardPage {
+        ward: &ward,
+        title: TITLE,
+        is_declared: true,
+        stages: &stages,
+        lots: &[(3, 2)],
+    };
+    prints_page(rt, &printed, HEAD, DECLARED)?;
+    prints_tables_and_lots(rt, candidates)?;
+    let ward = harbour(candidates, 2, poll_of([0; 5]));
+    prints_page(rt, &undeclared(&ward, &[], &[]), HEAD, NO_STAGE)
+}
+
+/// Prints the pages of an uncontested ward.
+fn prints_uncontested(
+    rt: &(impl Abort + AllocGlobal),
+    candidates: &[(u8, String)],
+) -> Result<(), Fail> {
+    let ward = harbour(candidates, 4, None);
+    let stages = three_stages();
+    let printed = WardPage {
+        ward: &ward,
+        title: "",
+        is_declared: true,
+        stages: &stages,
+        lots: &[],
+    };
+    prints_page(rt, &printed, HEAD, UNCONTESTED)?;
+    prints_page(rt, &undeclared(&ward, &[], &[]), HEAD, NOT_DECLARED)
+}
+
+/// Candidates whose names look like markup or are written from right to left.
+const NAMED: [(u8, &str); 3] = [(1, "Ann <b>"), (2, "\"Bob\" & 'Co'"), (3, "רות")];
+
+#[test]
+fn pages(rt: HostRuntime) -> Result<(), Fail> {
+    let candidates = candidates_of(rt.alloc(), &NAMED)?;
+    prints_contested(&rt, &candidates)?;
+    prints_uncontested(&rt, &candidates)?;
+    prints_index(&rt)
+}

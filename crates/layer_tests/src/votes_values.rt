@@ -1,0 +1,253 @@
+//! Votes, their text, and the streams that it goes to.
+
+use crate::sheet_outputs::{is_text, is_told};
+use std::alloc::{AllocError, Global};
+use std::io;
+use std::io::{ErrorKind, Read, Write};
+use std::process::Abort;
+use std::test::Fail;
+use votes::{Broken, Counted, Sink, Source, Votes, put_all, quota, transfer_value};
+
+/// Writes three bytes at a time, and fails once it has room no more.
+#[derive(Drop)]
+struct Narrow {
+    page: Vec<u8>,
+    room: usize,
+}
+
+impl Write for Narrow {
+    fn write(&mut self, bytes: &[u8]) -> io::Result<usize> {
+        let n = bytes.len().min(3);
+        if n > self.room {
+            return Err(io::Error::from(ErrorKind::BrokenPipe));
+        }
+        self.room -= n;
+        self.page.extend_from_slice(&bytes[..n])?;
+        Ok(n)
+    }
+
+    fn flush(&mut self) -> io::Result<()> {
+        Ok(())
+    }
+}
+
+/// Takes no byte of anything.
+#[derive(Drop)]
+struct Full;
+
+impl Write for Full {
+    fn write(&mut self, _bytes: &[u8]) -> io::Result<usize> {
+        Ok(0)
+    }
+
+    fn flush(&mut self) -> io::Result<()> {
+        Ok(())
+    }
+}
+
+/// Fails at the first call and at every second one after it; in between it takes all bytes, and gives
+/// one.
+#[derive(Drop)]
+struct Torn {
+    page: Vec<u8>,
+    fails: bool,
+}
+
+impl Torn {
+    fn next(&mut self) -> io::Result<()> {
+        self.fails = !self.fails;
+        if self.fails {
+            return Err(io::Error::from(ErrorKind::BrokenPipe));
+        }
+        Ok(())
+    }
+}
+
+impl Write for Torn {
+    fn write(&mut self, bytes: &[u8]) -> io::Result<usize> {
+        self.next()?;
+        self.page.extend_from_slice(bytes)?;
+        Ok(bytes.len())
+    }
+
+    fn flush(&mut self) -> io::Result<()> {
+        Ok(())
+    }
+}
+
+impl Read for Torn {
+    fn read(&mut self, room: &mut [u8]) -> io::Result<usize> {
+        self.next()?;
+        Ok(room.len().min(1))
+    }
+}
+
+/// The text of a value.
+fn text_of(alloc: Global, votes: Votes) -> Result<String, AllocError> {
+    format!(in alloc; "{votes}")
+}
+
+/// What a sink in memory takes of a value.
+fn written(alloc: Global, votes: Votes) -> Result<Vec<u8>, Broken> {
+    let mut page = Vec::new(alloc);
+    votes.write(&mut Counted::new(&mut page))?;
+    Ok(page)
+}
+
+fn prints(rt: &(impl Abort + AllocGlobal), votes: Votes, text: &str) -> Result<(), Fail> {
+    let printed = text_of(rt.alloc(), votes)?;
+    is_text(rt, printed.as_str(), text);
+    let page = written(rt.alloc(), votes)?;
+    is_told(rt, &page, text);
+    Ok(())
+}
+
+/// Quotas, transfer values, and nothing.
+fn values() -> [Votes; 6] {
+    let surplus = Votes::from_units(250000);
+    let credited = Votes::from_units(650000);
+    [
+        quota(4999500, 1),
+        quota(4999500, 15),
+        quota(0, 15),
+        transfer_value(surplus, Votes::from_units(100000), credited),
+        transfer_value(surplus, Votes::from_units(50000), credited),
+        Votes::from_units(0),
+    ]
+}
+
+/// Their texts.
+const TEXTS: [&str; 6] = [
+    "2499751.00000",
+    "312469.00000",
+    "1.00000",
+    "0.38461",
+    "0.19230",
+    "0.00000",
+];
+
+#[test]
+fn values_and_their_text(rt: HostRuntime) -> Result<(), Fail> {
+    let values = values();
+    for (votes, text) in values.iter().zip(&TEXTS) {
+        prints(&rt, *votes, *text)?;
+    }
+    assert_eq!(&rt; quota(9, 2).units(), 400000);
+    Ok(())
+}
+
+/// Writes a value where there is so much room: whether there was enough, how many failures were counted, and what was
+/// taken.
+fn writes_narrowly(alloc: Global, room: usize) -> (bool, u64, Vec<u8>) {
+    let mut narrow = Narrow {
+        page: Vec::new(alloc),
+        room,
+    };
+    let mut sink = Counted::new(&mut narrow);
+    let is_whole = quota(4999500, 1).write(&mut sink).is_ok();
+    let failures = sink.failures();
+    let Narrow { page, .. } = narrow;
+    (is_whole, failures, page)
+}
+
+/// Whether a beginning is taken, and one failure counted, where there is less room than for all of its text.
+fn keeps_a_beginning(alloc: Global, text: &[u8], room: usize) -> bool {
+    let whole = room == text.len();
+    let (is_whole, failures, page) = writes_narrowly(alloc, room);
+    let page = page.as_slice();
+    let is_beginning = text.starts_with(page) && whole == (page == text);
+    is_beginning && is_whole == whole && failures == u64::from(!whole)
+}
+
+#[test]
+fn a_sink_that_fails_keeps_a_beginning(rt: HostRuntime) {
+    let text = b"2499751.00000".as_slice();
+    for room in 0..=text.len() {
+        assert!(rt; keeps_a_beginning(rt.alloc(), text, room), "room {room}");
+    }
+}
+
+/// How many of some bytes a sink takes, which has failed a few times at most.
+fn put<S: Sink>(sink: &mut S, bytes: &[u8]) -> Option<usize> {
+    if sink.failures() > 9 {
+        return None;
+    }
+    sink.put(bytes).ok()
+}
+
+/// How many bytes a source gives, which has failed a few times at most.
+fn fetch<S: Source>(source: &mut S, room: &mut [u8]) -> Option<usize> {
+    if source.failures() > 9 {
+        return None;
+    }
+    source.fetch(room).ok()
+}
+
+/// Whether a sink, which has failed a few times at most, takes all of some bytes.
+fn takes_all<S: Sink>(sink: &mut S, bytes: &[u8]) -> bool {
+    sink.failures() <= 9 && put_all(sink, bytes).is_ok()
+}
+
+/// A sink that takes nothing is broken.
+fn is_full<S: Sink>(rt: &impl Abort, sink: &mut S) {
+    assert!(rt; takes_all(sink, b"") && sink.failures() == 0);
+    assert!(rt; !takes_all(sink, b"x") && sink.failures() == 1);
+}
+
+/// A source gives so many bytes, and the room has these then.
+fn gives<S: Source>(
+    rt: &impl Abort,
+    source: &mut S,
+    room: &mut [u8],
+    (count, held): (usize, &[u8]),
+) {
+    assert!(rt;
+        fetch(source, room) == Some(count) && &*room == held,
+        "{count} bytes given"
+    );
+}
+
+/// A source that holds `ballot` gives it by four bytes.
+fn gives_ballot<S: Source>(rt: &impl Abort, source: &mut S) {
+    let mut room = [0; 4];
+    gives(rt, source, &mut room, (4, b"ball"));
+    gives(rt, source, &mut room, (2, b"otll"));
+    gives(rt, source, &mut room, (0, b"otll"));
+    assert_eq!(rt; source.failures(), 0);
+}
+
+/// So many bytes are taken, or none where the call fails.
+fn puts<S: Sink>(rt: &impl Abort, sink: &mut S, bytes: &[u8], taken: Option<usize>) {
+    assert!(rt; put(sink, bytes) == taken, "{taken:?} taken");
+}
+
+/// So many bytes are given, or none where the call fails.
+fn fetches<S: Source>(rt: &impl Abort, source: &mut S, room: &mut [u8], given: Option<usize>) {
+    assert!(rt; fetch(source, room) == given, "{given:?} given");
+}
+
+/// A failure is of one call.
+fn fails_call_by_call<S: Sink + Source>(
+    rt: &impl Abort,
+    torn: &mut S,
+    long: &[u8],
+    room: &mut [u8],
+) {
+    puts(rt, torn, long, None);
+    assert!(rt; Sink::failures(torn) == 1);
+    puts(rt, torn, long, Some(long.len()));
+    fetches(rt, torn, room, None);
+    fetches(rt, torn, room, Some(1));
+    assert!(rt; Source::failures(torn) == 2);
+}
+
+#[test]
+fn streams_fail_call_by_call(rt: HostRuntime) {
+    is_full(&rt, &mut Counted::new(Full));
+    gives_ballot(&rt, &mut Counted::new(b"ballot".as_slice()));
+    let torn = Torn {
+        page: Vec::new(rt.alloc()),
+        fails: false,
+    };
+    fails_call_by_call(&rt, &mut Counted::new(torn), &[b'7'; 5000], &mut [0; 5000]);
+}

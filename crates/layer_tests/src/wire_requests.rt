@@ -1,0 +1,359 @@
+//! What requests over HTTP ask, of readers that give all at once, one byte at a time, and that fail.
+
+ghost use Rattle.std.specs.Prelude.{◌-◌, ◌^◌, ◌<◌};
+
+use crate::sheet_outputs::is_text;
+use std::alloc::{AllocError, Global};
+use std::fmt::Write;
+use std::io;
+use std::io::{ErrorKind, Read};
+use std::process::Abort;
+use std::test::Fail;
+use votes::{Counted, Source};
+use wire::{HttpRequest, HttpSettings, Keying, ReadFailure, RequestError, Show, read_request};
+
+/// How long a head may be, in bytes, how many headers it may have, and how long a body may be.
+const MAX_HEAD_BYTES: usize = 8192;
+
+const MAX_HEADERS: usize = 32;
+
+const MAX_BODY_BYTES: u32 = 1_048_576;
+
+/// Gives some bytes, one at a time; behind them the end comes, or a failure.
+#[derive(Drop)]
+struct Slow<'a> {
+    left: &'a [u8],
+    fails: bool,
+}
+
+impl<'a> Read for Slow<'a> {
+    fn read(&mut self, room: &mut [u8]) -> io::Result<usize> {
+        match self.left {
+            [] if self.fails => Err(io::Error::from(ErrorKind::BrokenPipe)),
+            [byte, others @ ..] if !room.is_empty() => {
+                room[0] = *byte;
+                self.left = others;
+                Ok(1)
+            }
+            _ => Ok(0),
+        }
+    }
+}
+
+/// A keying that is asked for, in short.
+fn keying_words(alloc: Global, keying: &Keying) -> Result<String, AllocError> {
+    let (clerk, batch, round) = (keying.clerk, keying.batch, keying.round);
+    let id = keying.id.as_str();
+    let mut text = format!(in alloc; "{clerk} keys {batch} round {round} as {id}:")?;
+    for paper in &keying.papers {
+        write!(text, " [{}]", paper.as_str())?;
+    }
+    Ok(text)
+}
+
+/// Why a request is denied, in short.
+fn denial_words(alloc: Global, why: &RequestError) -> Result<String, AllocError> {
+    match why {
+        RequestError::MethodNotAllowed { allowed } => format!(in alloc; "only {allowed:?}"),
+        _ => format!(in alloc; "{why:?}"),
+    }
+}
+
+/// What a clerk is shown, in short.
+fn shown_words(alloc: Global, clerk: u32, what: &Show<'_>) -> Result<String, AllocError> {
+    match what {
+        Show::Page(page) => {
+            let (text, policy) = (page.text, page.policy);
+            format!(in alloc; "{clerk} sees {text} by {policy}")
+        }
+        Show::Left => format!(in alloc; "{clerk} leaves"),
+    }
+}
+
+/// What a request asks, or why it wasn't read, in short.
+fn words_of(alloc: Global, came: &Result<HttpRequest, ReadFailure>) -> Result<String, AllocError> {
+    match came {
+        Ok(HttpRequest::Keying(keying)) => keying_words(alloc, keying),
+        Ok(HttpRequest::Shown(clerk, what)) => shown_words(alloc, *clerk, what),
+        Ok(HttpRequest::Resource(what)) => format!(in alloc; "{what:?}"),
+        Ok(HttpRequest::Denied(why)) => denial_words(alloc, why),
+        Err(ReadFailure::Broken) => String::from_str(alloc, "broken"),
+        Err(ReadFailure::Memory) => String::from_str(alloc, "memory"),
+    }
+}
+
+/// What an office was given that has neither a proxy in front nor codes.
+pub const NOTHING: HttpSettings<'static> = HttpSettings {
+    origin: None,
+    gate: None,
+};
+
+/// What is asked, in short, of an office that was given this.
+fn asked_text<R: Source>(
+    alloc: Global,
+    given: HttpSettings<'_>,
+    reader: &mut R,
+) -> Result<String, AllocError>
+    requires { R.failed reader.old < 2 ^ 64 - 1 }
+{
+    words_of(alloc, &read_request(alloc, given, reader))
+}
+
+/// Reads a request.
+fn asks_in<R: Source>(
+    rt: &(impl Abort + AllocGlobal),
+    given: HttpSettings<'_>,
+    reader: &mut R,
+    asked: &str,
+) -> Result<(), Fail>
+    requires { R.failed reader.old < 2 ^ 64 - 1 }
+{
+    let text = asked_text(rt.alloc(), given, reader)?;
+    is_text(rt, text.as_str(), asked);
+    Ok(())
+}
+
+/// Reads a request given at once, and one byte at a time.
+pub fn asks_of(
+    rt: &(impl Abort + AllocGlobal),
+    given: HttpSettings<'_>,
+    request: &[u8],
+    asked: &str,
+) -> Result<(), Fail> {
+    asks_in(rt, given, &mut Counted::new(request), asked)?;
+    let slow = Slow {
+        left: request,
+        fails: false,
+    };
+    asks_in(rt, given, &mut Counted::new(slow), asked)
+}
+
+/// The same of an office that was given nothing.
+pub fn asks(rt: &(impl Abort + AllocGlobal), request: &[u8], asked: &str) -> Result<(), Fail> {
+    asks_of(rt, NOTHING, request, asked)
+}
+
+/// A keying with these headers and this body.
+fn keying(alloc: Global, headers: &str, body: &str) -> Result<String, AllocError> {
+    format!(in alloc; "POST /clerks/4/batches/12/keying HTTP/1.1\r\n{headers}\r\n{body}")
+}
+
+/// Its body.
+pub const BODY: &str = r#"{"id":"h1","round":1,"papers":["1,2,","D"]}"#;
+
+/// What it asks.
+pub const KEYED: &str = "4 keys 12 round 1 as h1: [1,2,] [D]";
+
+/// First lines, behind each of which no length is one.
+const TARGETS: [(&str, &str); 23] = [
+    ("GET /clerks/4/work HTTP/1.1", "Work { clerk: 4 }"),
+    ("GET /clerks/99999/work HTTP/1.0", "Work { clerk: 99999 }"),
+    ("GET /wards/7/sheet HTTP/1.1", "Sheet { ward: 7 }"),
+    ("GET /wards/7/result HTTP/1.1", "Declaration { ward: 7 }"),
+    ("GET /wards/07/sheet HTTP/1.1", "NotFound"),
+    ("GET /wards/100000/sheet HTTP/1.1", "NotFound"),
+    ("GET /wards/+7/sheet HTTP/1.1", "NotFound"),
+    ("GET /wards//sheet HTTP/1.1", "NotFound"),
+    ("GET /wards/7/sheet/ HTTP/1.1", "NotFound"),
+    ("GET /wards/7/sheet?x HTTP/1.1", "NotFound"),
+    ("GET /wards/%37/sheet HTTP/1.1", "NotFound"),
+    ("GET /w\u{e4}rds/7/sheet HTTP/1.1", "NotFound"),
+    ("POST /nothing HTTP/1.1", "NotFound"),
+    ("GET /clerks/4/ HTTP/1.1", "NotFound"),
+    ("GET /clerks/4/leave HTTP/1.1", "NotFound"),
+    ("GET /clerks/4/batches/12/candidates HTTP/1.1", "NotFound"),
+    ("POST /wards/7/sheet HTTP/1.1", "only Get"),
+    ("get /wards/7/sheet HTTP/1.1", "only Get"),
+    ("GET /clerks/4/batches/12/keying HTTP/1.1", "only Post"),
+    ("PUT /clerks/4/batches/12/keying HTTP/1.1", "only Post"),
+    ("POST /clerks/4/batches/0/keying HTTP/1.1", "NotFound"),
+    ("GET /wards/7/sheet HTTP/2.0", "BadRequest"),
+    ("X", "BadRequest"),
+];
+
+/// Headers of a keying whose body has 43 bytes.
+const LENGTHS: [(&str, &str); 14] = [
+    ("Content-Length: 43\r\n", KEYED),
+    ("cONTENT-lENGTH:\t0043 \r\nHost: x\r\n", KEYED),
+    ("Content-Length: 42\r\n", "BadRequest"),
+    ("Content-Length: 44\r\n", "BadRequest"),
+    ("", "BadRequest"),
+    ("Content-Length:\r\n", "BadRequest"),
+    ("Content-Length: +43\r\n", "BadRequest"),
+    ("Content-Length: 4 3\r\n", "BadRequest"),
+    ("Content-Length: 43\r\nContent-Length: 43\r\n", "BadRequest"),
+    (
+        "Content-Length: 43\r\nTransfer-Encoding: identity\r\n",
+        "BadRequest",
+    ),
+    ("Transfer-Encoding: chunked\r\n", "BadRequest"),
+    ("Content-Length: 1048577\r\n", "TooLarge"),
+    (
+        "Content-Length: 123456789012345678901234567890\r\n",
+        "TooLarge",
+    ),
+    (
+        "Content-Length: 1048577\r\nContent-Length: 1048577\r\n",
+        "BadRequest",
+    ),
+];
+
+/// Bodies of a keying, of the length that its header says.
+const BODIES: [(&str, &str); 13] = [
+    (
+        r#" { "papers" : [] , "round" : 4294967295 , "id" : "" } "#,
+        "4 keys 12 round 4294967295 as :",
+    ),
+    (
+        r#"{"id":"a","id":"b","round":1,"papers":["\u0044"]}"#,
+        "4 keys 12 round 1 as b: [D]",
+    ),
+    (r#"{"id":"h1","round":1,"papers":[],"x":1}"#, "BadRequest"),
+    (r#"{"id":"h1","round":1}"#, "BadRequest"),
+    (r#"{"id":"h1","round":"1","papers":[]}"#, "BadRequest"),
+    (
+        r#"{"id":"h1","round":4294967296,"papers":[]}"#,
+        "BadRequest",
+    ),
+    (r#"{"id":"h1","round":1.0,"papers":[]}"#, "BadRequest"),
+    (r#"{"id":"h1","round":-0,"papers":[]}"#, "BadRequest"),
+    (r#"{"id":"h1","round":1,"papers":[1]}"#, "BadRequest"),
+    (r#"{"id":1,"round":1,"papers":[]}"#, "BadRequest"),
+    (r#"["h1",1,[]]"#, "BadRequest"),
+    (r#"{"id":"h1","round":1,"papers":[]"#, "BadRequest"),
+    ("", "BadRequest"),
+];
+
+fn asks_target(rt: &(impl Abort + AllocGlobal), (line, asked): &(&str, &str)) -> Result<(), Fail> {
+    let request = format!(in rt.alloc(); "{line}\r\nContent-Length: x\r\n\r\n")?;
+    asks(rt, request.as_bytes(), *asked)
+}
+
+fn asks_keying(
+    rt: &(impl Abort + AllocGlobal),
+    headers: &str,
+    body: &str,
+    asked: &str,
+) -> Result<(), Fail> {
+    let request = keying(rt.alloc(), headers, body)?;
+    asks(rt, request.as_bytes(), asked)
+}
+
+fn asks_body(rt: &(impl Abort + AllocGlobal), (body, asked): &(&str, &str)) -> Result<(), Fail> {
+    let headers = format!(in rt.alloc(); "Content-Length: {}\r\n", body.len())?;
+    asks_keying(rt, headers.as_str(), *body, *asked)
+}
+
+#[test]
+fn targets_lengths_and_bodies(rt: HostRuntime) -> Result<(), Fail> {
+    for case in &TARGETS {
+        asks_target(&rt, case)?;
+    }
+    for (headers, asked) in &LENGTHS {
+        asks_keying(&rt, *headers, BODY, *asked)?;
+    }
+    for case in &BODIES {
+        asks_body(&rt, case)?;
+    }
+    Ok(())
+}
+
+/// A text with another behind it so many times.
+fn repeated(alloc: Global, text: &str, more: &str, times: usize) -> Result<String, AllocError> {
+    let mut long = String::from_str(alloc, text)?;
+    for _ in 0..times {
+        long.push_str(more)?;
+    }
+    Ok(long)
+}
+
+/// A text with another, of which there are so many, and its end behind it.
+fn asks_long(
+    rt: &(impl Abort + AllocGlobal),
+    text: &str,
+    (more, times): (&str, usize),
+    end: &str,
+    asked: &str,
+) -> Result<(), Fail> {
+    let mut request = repeated(rt.alloc(), text, more, times)?;
+    request.push_str(end)?;
+    asks(rt, request.as_bytes(), asked)
+}
+
+/// A head that is one header of so many bytes, with such an end.
+fn asks_long_head(
+    rt: &(impl Abort + AllocGlobal),
+    (length, end, asked): &(usize, &str, &str),
+) -> Result<(), Fail> {
+    let begun = "GET /wards/7/sheet HTTP/1.1\r\nA: ";
+    let times = length.saturating_sub(begun.len()).saturating_sub(end.len());
+    asks_long(rt, begun, ("x", times), *end, *asked)
+}
+
+/// How long a head is, its end, and what it asks.
+const LONG_HEADS: [(usize, &str, &str); 3] = [
+    (MAX_HEAD_BYTES, "\r\n\r\n", "Sheet { ward: 7 }"),
+    (MAX_HEAD_BYTES + 1, "\r\n\r\n", "BadRequest"),
+    (MAX_HEAD_BYTES + 1, "xxxx", "BadRequest"),
+];
+
+/// How many headers there are, and what is asked with them.
+const MANY_HEADERS: [(usize, &str); 2] = [
+    (MAX_HEADERS, "Sheet { ward: 7 }"),
+    (MAX_HEADERS + 1, "BadRequest"),
+];
+
+/// A body that is nothing but brackets.
+fn asks_nested(rt: &(impl Abort + AllocGlobal)) -> Result<(), Fail> {
+    let nested = repeated(rt.alloc(), "", "[", 200)?;
+    asks_keying(rt, "Content-Length: 200\r\n", nested.as_str(), "BadRequest")
+}
+
+/// A keying whose body is the longest that may be, of spaces alone.
+fn spaces(alloc: Global) -> Result<String, AllocError> {
+    let headers = format!(in alloc; "Content-Length: {MAX_BODY_BYTES}\r\n")?;
+    let head = keying(alloc, headers.as_str(), "")?;
+    repeated(alloc, head.as_str(), " ", MAX_BODY_BYTES as usize)
+}
+
+/// It is read at once: one byte at a time it would take long.
+fn asks_spaces(rt: &(impl Abort + AllocGlobal)) -> Result<(), Fail> {
+    let request = spaces(rt.alloc())?;
+    let mut reader = Counted::new(request.as_bytes());
+    asks_in(rt, NOTHING, &mut reader, "BadRequest")
+}
+
+#[test]
+fn long_heads_and_bodies(rt: HostRuntime) -> Result<(), Fail> {
+    for case in &LONG_HEADS {
+        asks_long_head(&rt, case)?;
+    }
+    let line = "GET /wards/7/sheet HTTP/1.1\r\n";
+    for (count, asked) in &MANY_HEADERS {
+        asks_long(&rt, line, ("A: b\r\n", *count), "\r\n", *asked)?;
+    }
+    asks_nested(&rt)?;
+    asks_spaces(&rt)
+}
+
+/// Reads a request of which no more than this comes before the reader fails: nothing is asked, and one failure is counted,
+/// unless it is whole.
+fn breaks_off(rt: &(impl Abort + AllocGlobal), left: &[u8], is_whole: bool) -> Result<(), Fail> {
+    let mut reader = Counted::new(Slow { left, fails: true });
+    let wanted = if is_whole { KEYED } else { "broken" };
+    asks_in(rt, NOTHING, &mut reader, wanted)?;
+    assert_eq!(rt; reader.failures(), u64::from(!is_whole));
+    Ok(())
+}
+
+#[test]
+fn a_reader_that_fails(rt: HostRuntime) -> Result<(), Fail> {
+    let request = keying(rt.alloc(), "Content-Length: 43\r\n", BODY)?;
+    let bytes = request.as_bytes();
+    for length in 0..bytes.len() + 1 {
+        let (left, is_whole) = (&bytes[..length], length == bytes.len());
+        breaks_off(&rt, left, is_whole)?;
+        asks(&rt, left, if is_whole { KEYED } else { "BadRequest" })?;
+    }
+    Ok(())
+}

@@ -1,7 +1,0 @@
--- What holds each time round the loop of `is_drawn`: none of the lots so far is for the stage.
-use Rattle.std.proofs.Common.{◌≡◌, drop}
-use Rattle.recount.specs.Comments.{is_drawn}
-use Rattle.recount.proofs.comments.is_drawn.Given as goal
-
-abbrev pub invariant-loop-lot : goal.invariant-loop-lot
-invariant-loop-lot l = is_drawn l.stage (drop l.lot-index l.lots) ≡ is_drawn l.stage l.lots

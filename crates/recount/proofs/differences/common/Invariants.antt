@@ -1,7 +1,0 @@
--- What holds each time round the loop of `common`: the bytes so far, followed by what those that are left share, are what both share.
-use Rattle.std.proofs.Common.{◌≡◌, ◌++◌, take, drop}
-use Rattle.recount.specs.Differences.{common}
-use Rattle.recount.proofs.differences.common.Given as goal
-
-abbrev pub invariant-loop-i : goal.invariant-loop-i
-invariant-loop-i l = take l.i l.text ++ common (drop l.i l.text) (drop l.i l.other) ≡ common l.text l.other

@@ -1,5 +1,0 @@
--- Why `should_be_text` keeps its promise.
-use Rattle.recount.proofs.pages.should_be_text.Goals as goal
-
-pub returns : goal.returns
-returns c = rw (c.hint_text-hint.ensures, c.in_ok-should_be.ensures) at c.format.ensures.ok

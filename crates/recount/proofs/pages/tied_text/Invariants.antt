@@ -1,8 +1,0 @@
--- What holds each time round the loop of `tied_text`: the text has the numbers so far.
-use Rattle.std.proofs.Common.{◌≡◌, take}
-use Rattle.std.specs.Prelude.{string_bytes}
-use Rattle.recount.specs.Pages.{tied_text}
-use Rattle.recount.proofs.pages.tied_text.Given as goal
-
-abbrev pub invariant-loop-c : goal.invariant-loop-c
-invariant-loop-c l = string_bytes l.text ≡ tied_text (take l.c-index l.c-items)

@@ -1,7 +1,0 @@
--- What holds each time round the loop of `withdrawn_from`: the words that are left, behind the numbers so far, give all of them.
-use Rattle.std.proofs.Common.{◌≡◌, map, drop}
-use Rattle.recount.specs.Papers.{withdrawn_from}
-use Rattle.recount.proofs.papers.withdrawn_from.Given as goal
-
-abbrev pub invariant-loop-word : goal.invariant-loop-word
-invariant-loop-word l = withdrawn_from l.highest l.withdrawn (map (λ w. w.now) (drop l.word-index l.words)) ≡ withdrawn_from l.highest l.initial.withdrawn (map (λ w. w.now) l.words)

@@ -1,7 +1,0 @@
--- What holds each time round the loop of `behind_number_sign`: none of the bytes so far is a `#`.
-use Rattle.std.proofs.Common.{◌≡◌, drop}
-use Rattle.recount.specs.Passing.{behind_number_sign}
-use Rattle.recount.proofs.passing.behind_number_sign.Given as goal
-
-abbrev pub invariant-loop-i : goal.invariant-loop-i
-invariant-loop-i l = behind_number_sign (drop l.i l.line) ≡ behind_number_sign l.line

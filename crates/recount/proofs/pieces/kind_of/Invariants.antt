@@ -1,7 +1,0 @@
--- What holds each time round the loop of `kind_of`: the bytes so far are blanks.
-use Rattle.std.proofs.Common.{◌≡◌, drop}
-use Rattle.recount.specs.Pieces.{kind_of}
-use Rattle.recount.proofs.pieces.kind_of.Given as goal
-
-abbrev pub invariant-loop-byte : goal.invariant-loop-byte
-invariant-loop-byte l = kind_of (drop l.byte-index l.line) ≡ kind_of l.line

@@ -1,9 +1,0 @@
--- What holds each time round the loop of `candidates_of`: those so far, followed by those of the names that are left, are all of them.
-use Rattle.std.proofs.Common.{◌≡◌, ◌+◌, ◌++◌, map, drop}
-use Rattle.std.specs.Prelude.{string_bytes}
-use Rattle.recount.specs.Wards.{candidates_from, candidates_of}
-use Rattle.recount.proofs.wards.candidates_of.Given as goal
-
-abbrev pub invariant-loop-i : goal.invariant-loop-i
-invariant-loop-i l =
-    map (λ candidate. (candidate.0, string_bytes candidate.1)) l.candidates.items ++ candidates_from l.withdrawn (1 + l.i) (map string_bytes (drop l.i l.names)) ≡ candidates_of l.withdrawn (map string_bytes l.names)

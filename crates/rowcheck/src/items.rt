@@ -1,0 +1,40 @@
+//! The two last conditions, each answered by itself.
+
+ghost use Rattle.std.specs.Prelude.{◌≡◌, ◌↔◌, true, IfOk, IsTrue};
+ghost use Rattle.register.specs.Offices.{MapsRise};
+ghost use Rattle.register.specs.Items.{all_in_range, all_keyed, all_counted};
+ghost use Rattle.register.specs.Tabulated.{IsTabulationOf};
+ghost use Rattle.rowcheck.specs.States.{state_of, tabulated};
+
+use crate::counts::all_counted;
+use crate::rows::Rows;
+use crate::tabulated::is_tabulated;
+use std::alloc::{AllocError, Global};
+
+/// Returns whether the counts are as the rows say. This is the seventh condition, asked of rows that meet the first and the fourth.
+/// [`all_counted`](crate::all_counted) answers the same, with what is tabulated of the counts. The only error is out of memory.
+pub fn item7(alloc: Global, rows: &Rows) -> Result<bool, AllocError>
+    requires rise { MapsRise (state_of rows.now) }
+    requires in_range { all_in_range (state_of rows.now) ≡ true }
+    requires keyed { all_keyed (state_of rows.now) ≡ true }
+    ensures { IfOk result (λ yes. yes ≡ all_counted (state_of rows.now)) }
+{
+    let found = all_counted(alloc, rows)?;
+    Ok(found.is_some())
+}
+
+/// Returns whether bundles and figures are those of the counts. This is the eighth condition, asked of rows that meet the first, the
+/// fourth and the seventh. The counts are counted for it; who has counted them compares by [`is_tabulated`](crate::is_tabulated).
+/// The only error is out of memory.
+pub fn item8(alloc: Global, rows: &Rows) -> Result<bool, AllocError>
+    requires rise { MapsRise (state_of rows.now) }
+    requires in_range { all_in_range (state_of rows.now) ≡ true }
+    requires keyed { all_keyed (state_of rows.now) ≡ true }
+    requires counted { all_counted (state_of rows.now) ≡ true }
+    ensures { IfOk result (λ yes. IsTrue yes ↔ IsTabulationOf (tabulated rows.now) (state_of rows.now)) }
+{
+    match all_counted(alloc, rows)? {
+        Some(counted) => Ok(is_tabulated(rows, &counted)),
+        None => unreachable!(),
+    }
+}

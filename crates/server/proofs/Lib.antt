@@ -1,0 +1,12 @@
+-- The lemmas, by subject.
+pub mod WordLemmas
+pub mod FrameSinkLemmas
+pub mod ReadLemmas
+pub mod OrderLemmas
+pub mod KeptLemmas
+pub mod AnswerLemmas
+pub mod ServicingLemmas
+pub mod ConnectionLemmas
+pub mod ServerLemmas
+pub mod BlindLemmas
+pub mod AlikeLemmas

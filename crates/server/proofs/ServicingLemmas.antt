@@ -1,0 +1,241 @@
+-- A client who goes on, part by part.
+use Rattle.std.proofs.Common.{◌≡◌, ◌∙◌, ◌∷◌, ℕ, Bool, List, [], false, true, None, Option, Some, ap, inl, inr, is_some, map, option_map, refl, subst, sym}
+use Rattle.std.specs.Prelude.{Err, Ok, Result}
+use Rattle.votes.specs.declared.streams.Broken.{Broken as Failure}
+use Rattle.connections.specs.Closing.{EndsFor}
+use Rattle.connections.specs.Traces.{IsServiceOutcome, IsMomentOf}
+use Rattle.connections.specs.Tables.{NetworkEntry, with_failure, with_moment}
+use Rattle.connections.specs.declared.removed.CloseReason.{CloseReason}
+use Rattle.connections.specs.declared.removed.CloseReason.TheVariants.{Broken, Closing, Done, Evicted, TimedOut, Unreadable}
+use Rattle.server.specs.declared.servicing.Serviced.{Serviced}
+use Rattle.server.specs.declared.servicing.Serviced.TheVariants.{Leaves, Served, Waits}
+use Rattle.sqlite.specs.Held.{Held}
+use Rattle.sqlite.specs.State.{HasCleanDisk, State}
+use Rattle.register.specs.Offices.{OfficeState}
+use Rattle.store.specs.Offices.{IsAt}
+use Rattle.office.specs.Values.{OfficeValue}
+use Rattle.office.specs.Answers.{IsOpenAt}
+use Rattle.wire.specs.Responses.{ResponseEntry, fault_response, waits_response}
+use Rattle.wire.specs.Serving.{EndsWith, IsServed, OnReadFailed, ReadiesClosed, ReadiesFor, Serves, ServesClosed}
+use Rattle.wire.specs.Told.{IsWritten}
+use Rattle.wire.specs.declared.serving.Served.{Served as Ending}
+use Rattle.wire.specs.declared.serving.Served.TheVariants.{Answered, ReadFailed, WriteFailed}
+use Rattle.connections.specs.Streams.{Delivers, Receives, HasFailed, Stream}
+use Rattle.connections.specs.Clients.{IsReceived, IsOf, IsServedSo, IsSent}
+use Rattle.connections.specs.declared.client.PendingResponse.{PendingResponse}
+use Rattle.connections.specs.declared.client.Client.{Client}
+use Rattle.wire.specs.Gates.{HttpSettingsEntry}
+use Rattle.wire.specs.Completeness.{IsCompletenessOf, IsWhole}
+use Rattle.wire.specs.declared.completeness.Completeness.TheVariants.{Complete}
+use Rattle.connections.proofs.StreamLemmas.{heard_more, told_more, told_none}
+use Rattle.server.specs.Settings.{ServerSettingsEntry}
+use Rattle.server.specs.Servicing.{Services, HasCome, HasComeAt, HasResponded, HasExchanges, IsAtGate, IsLostOnly, LooksAtGate, MayHaveResponded, WasServiced, answer_of, moment_of, response_at}
+use Rattle.server.specs.Reads.{ServedOffice}
+use Rattle.server.specs.Exchanges.{EndsIn, HasServed, IsGoneResponse, IsWaitResponse, ServesExchange, Exchange}
+
+pub none_from : {X : Type 0} (found : Option X) → is_some found ≡ false → found ≡ None
+none_from None is = refl
+none_from (Some x) is = absurd (cc is)
+
+-- an answer that is as it was, of which more may have been told
+pub same_answer : (old new : PendingResponse) (before : Option PendingResponse) → before ≡ Some old → new.bytes.items ≡ old.bytes.items
+    → option_map (λ (a : PendingResponse). a.bytes.items) (Some new) ≡ option_map (λ (a : PendingResponse). a.bytes.items) before
+same_answer old new before is same = ap Some same ∙ sym (ap (option_map (λ (a : PendingResponse). a.bytes.items)) is)
+
+-- bytes that lack nothing have come to their end
+pub lacks_nothing : (settings : HttpSettingsEntry) (held : Option (List ℕ)) (seen got : List ℕ) (lacking : _) → seen ≡ got → lacking ≡ Complete → IsCompletenessOf settings seen lacking → HasCome settings held got
+lacks_nothing settings held seen got lacking same nothing it = inl (subst (λ (bytes : List ℕ). IsWhole settings bytes) same (subst (λ l. IsCompletenessOf settings seen l) nothing it))
+
+-- neither of two has an answer
+pub no_answer : {L : Type 0} (old new : Client L) → old.answer ≡ None → new.answer ≡ None → answer_of new ≡ answer_of old
+no_answer old new none still = ap (option_map (λ (a : PendingResponse). a.bytes.items)) (still ∙ sym none)
+
+-- an answer was put for a visit, where the reader, which doesn't fail, didn't
+ends_so : (IsReady : _) (ReadFailure : Type 0) (answer : List ℕ) (served : Ending) (failed : Type 0) → (failed → ⊥) → OnReadFailed served failed
+    → EndsWith IsReady ReadFailure (Some []) (Some answer) served → EndsIn answer (IsServed IsReady)
+ends_so IsReady ReadFailure answer (Answered status) failed never read it = (Answered status, it)
+ends_so IsReady ReadFailure answer ReadFailed failed never read it = absurd (never read)
+ends_so IsReady ReadFailure answer WriteFailed failed never read it = (WriteFailed, it)
+
+-- a client was served from what was gathered of him, by the clauses of the call that served him
+pub visit_served : {S : Type 0} (settings : HttpSettingsEntry) (state_of : Held S → State) (old new : OfficeValue S) (held got before after answer : List ℕ) (served : Ending) (failed : Type 0)
+    → held ≡ got → before ≡ [] → answer ≡ after → (failed → ⊥) → OnReadFailed served failed
+    → (HasCleanDisk (state_of new.held) → old.closed ≡ false → (s : OfficeState) → IsAt s (state_of old.held)
+    → Serves settings (Some held) (Some before) (Some after) s served new.closed (state_of new.held))
+    → (old.closed ≡ true → ServesClosed settings (Some held) (Some before) (Some after) served) → (old.closed ≡ true → new ≡ old)
+    → (HasCleanDisk (state_of new.held) → HasCleanDisk (state_of old.held)) → HasServed settings state_of old got answer new
+visit_served settings state_of old new held got before after answer served failed is_got is_before is_answer never read serves away stays clean = record {
+  serves = λ clean is_open s at.
+      ends_so (λ response. ReadiesFor settings (Some got) s response new.closed (state_of new.held)) (IsOpenAt s new.closed (state_of new.held)) answer served failed never read
+      (these (λ g b a. Serves settings (Some g) (Some b) (Some a) s served new.closed (state_of new.held)) (serves clean is_open s at));
+  turned_away = λ was. (
+    ends_so (ReadiesClosed settings (Some got)) (Some answer ≡ Some []) answer served failed never read (these (λ g b a. ServesClosed settings (Some g) (Some b) (Some a) served) (away was)),
+    stays was,
+  );
+  clean = clean;
+}
+  where
+    these : (P : List ℕ → List ℕ → List ℕ → Type 0) → P held before after → P got [] answer
+    these P p =
+        subst (λ (a : List ℕ). P got [] a) (sym is_answer) (subst (λ (b : List ℕ). P got b after) is_before (subst (λ (g : List ℕ). P g before after) is_got p))
+
+-- a client was told one thing, by the clauses of the call that told it
+told_one : (response : ResponseEntry) (exchange : Exchange) (before after : List ℕ) (served : Ending) → before ≡ [] → exchange.answer ≡ after → IsServed (IsWritten response) (Some before) (Some after) served
+    → EndsIn exchange.answer (IsServed (IsWritten response))
+told_one response exchange before after served is_before is_answer it = (
+  served,
+  subst (λ (a : List ℕ). IsServed (IsWritten response) (Some []) (Some a) served) (sym is_answer)
+      (subst (λ (b : List ℕ). IsServed (IsWritten response) (Some b) (Some after) served) is_before it),
+)
+
+pub told_waiting : (exchange : Exchange) (before after : List ℕ) (served : Ending) → before ≡ [] → exchange.answer ≡ after → IsServed (IsWritten waits_response) (Some before) (Some after) served → IsWaitResponse exchange
+told_waiting exchange before after served is_before is_answer it = told_one waits_response exchange before after served is_before is_answer it
+
+pub told_gone : (exchange : Exchange) (before after : List ℕ) (served : Ending) → before ≡ [] → exchange.answer ≡ after → IsServed (IsWritten (fault_response 113)) (Some before) (Some after) served → IsGoneResponse exchange
+told_gone exchange before after served is_before is_answer it = told_one (fault_response 113) exchange before after served is_before is_answer it
+
+-- it leaves for one reason
+pub left_as : (was why : CloseReason) → Leaves was ≡ Leaves why → was ≡ why
+left_as was why is = cc is
+
+module _ {L : Type 0} (stream : Stream L) where
+  -- who has no answer was heard, and told nothing
+  pub is_heard : (start : L) (client : Client L) → client.answer ≡ None → IsOf stream start client → IsReceived stream start client.stream client.got.items
+  is_heard start client none of = subst (λ (a : Option PendingResponse). IsServedSo stream start client.stream client.got.items a) none of
+
+  pub of_heard : (start : L) (client : Client L) → client.answer ≡ None → IsReceived stream start client.stream client.got.items → IsOf stream start client
+  of_heard start client none received = subst (λ (a : Option PendingResponse). IsServedSo stream start client.stream client.got.items a) (sym none) received
+
+  -- more was heard of him
+  pub heard_on : (start : L) (old new : Client L) → old.answer ≡ None → Receives stream old.stream new.stream old.got.items new.got.items → IsOf stream start old
+      → IsReceived stream start new.stream new.got.items
+  heard_on start old new none receives of = heard_more stream start old.stream new.stream old.got.items new.got.items (is_heard start old none of) receives
+
+  -- more of his answer was told him
+  pub told_on : (start old now : L) (got : List ℕ) (before : Option PendingResponse) (answer told : PendingResponse) → before ≡ Some answer → Delivers stream old now answer.bytes.items answer.sent told.sent
+      → told.bytes.items ≡ answer.bytes.items → IsServedSo stream start old got before → IsServedSo stream start now got (Some told)
+  told_on start old now got before answer told is delivers same of =
+      let his = subst (λ (a : Option PendingResponse). IsServedSo stream start old got a) is of in
+      subst (λ (bytes : List ℕ). IsSent stream now bytes told.sent) (sym same) (told_more stream old now answer.bytes.items answer.sent told.sent his delivers)
+
+  -- he has an answer now, of which nothing was told
+  pub told_nothing : (start now : L) (got answer : List ℕ) (sent : ℕ) → sent ≡ 0 → IsReceived stream start now got → IsSent stream now answer sent
+  told_nothing start now got answer sent none received = subst (λ (n : ℕ). IsSent stream now answer n) (sym none) (told_none stream start now got answer received)
+
+  -- he has his turn, of whom all was heard
+  pub has_turn : {S : Type 0} (settings : ServerSettingsEntry) (state_of : Held S → State) (now : ℕ) (old mid new : Client L) (before later : ServedOffice S) → old.answer ≡ None
+      → Receives stream old.stream mid.stream old.got.items mid.got.items → mid.listener ≡ old.listener → mid.number ≡ old.number → HasComeAt old.listener settings (stream.held mid.stream) mid.got.items
+      → (exchange : Exchange) × (exchange.listener ≡ mid.listener) × (exchange.number ≡ mid.number) × (exchange.moment ≡ now) × (exchange.got ≡ mid.got.items) × ServesExchange settings state_of before exchange later × (answer_of new ≡ Some exchange.answer)
+      → HasResponded settings stream state_of now old new before later
+  has_turn settings state_of now old mid new before later none receives listener number come (exchange, same, mine, at, got, served, his) = record {
+    exchange = exchange;
+    listener = same ∙ listener;
+    number = mine ∙ number;
+    moment = at;
+    unanswered = none;
+    received = mid.stream;
+    own = subst (λ (bytes : List ℕ). Receives stream old.stream mid.stream old.got.items bytes) (sym got) receives;
+    come = subst (λ (bytes : List ℕ). HasComeAt old.listener settings (stream.held mid.stream) bytes) (sym got) come;
+    served = served;
+    his = his;
+  }
+
+  -- what became of one that had its turn, and of one that had none
+  pub attends_turn : {S : Type 0} (settings : ServerSettingsEntry) (state_of : Held S → State) (now : ℕ) (serviced : Serviced) (old new : Client L) (before later : ServedOffice S) → (serviced ≡ Waits → ⊥)
+      → HasResponded settings stream state_of now old new before later → Services settings stream state_of now serviced old new before later
+  attends_turn settings state_of now Waits old new before later apart turn = absurd (apart refl)
+  attends_turn settings state_of now Served old new before later apart turn = turn
+  attends_turn settings state_of now (Leaves why) old new before later apart turn = inl turn
+
+  pub attends_none : {S : Type 0} (settings : ServerSettingsEntry) (state_of : Held S → State) (now : ℕ) (serviced : Serviced) (old new : Client L) (before later : ServedOffice S) → (serviced ≡ Served → ⊥)
+      → later ≡ before → answer_of new ≡ answer_of old → Services settings stream state_of now serviced old new before later
+  attends_none settings state_of now Waits old new before later apart same answer = (same, answer)
+  attends_none settings state_of now Served old new before later apart same answer = absurd (apart refl)
+  attends_none settings state_of now (Leaves why) old new before later apart same answer = inr (same, answer)
+
+  -- one that can't be heard leaves as broken or unheard
+  pub ends_lost : {A : Type 0} (result : Result A CloseReason) (why : CloseReason) (client : Client L) → result ≡ Err why → IsLostOnly result → (result ≡ Err Broken → HasFailed (stream.failed client.stream)) → client.answer ≡ None
+      → EndsFor stream why client
+  ends_lost result Done client is lost broken none = absurd (lost.0 is)
+  ends_lost result Broken client is lost broken none = broken is
+  ends_lost result Unreadable client is lost broken none = none
+  ends_lost result TimedOut client is lost broken none = absurd (lost.1 is)
+  ends_lost result Evicted client is lost broken none = absurd (lost.2 is)
+  ends_lost result Closing client is lost broken none = absurd (lost.3 is)
+
+  -- the visits of one, by what became of it
+  pub has_some : {S : Type 0} (settings : ServerSettingsEntry) (state_of : Held S → State) (now : ℕ) (old new : Client L) (before later : ServedOffice S) → MayHaveResponded settings stream state_of now old new before later
+      → (exchanges : List Exchange) × HasExchanges settings stream state_of now exchanges old new before later
+  has_some settings state_of now old new before later (inl turn) = (turn.exchange ∷ [], (turn, refl))
+  has_some settings state_of now old new before later (inr still) = ([], still)
+
+  -- ---- the clock at the gate
+
+  abbrev Comes : {S : Type 0} → ServerSettingsEntry → (Held S → State) → ℕ → Result (Option CloseReason) Failure → NetworkEntry L → NetworkEntry L → Client L → Client L → ServedOffice S → ServedOffice S → Type 0
+  Comes settings state_of now result before later old new at behind =
+      (exchanges : List Exchange) × HasExchanges settings stream state_of now exchanges old new at behind × IsServiceOutcome stream (map response_at exchanges) old new result before later
+
+  -- it had its turn, and its half minute begins anew
+  pub went_served : {S : Type 0} (settings : ServerSettingsEntry) (state_of : Held S → State) (now : ℕ) (serviced : Serviced) (old mid new : Client L) (at behind : ServedOffice S) (before later : NetworkEntry L)
+      → Services settings stream state_of now serviced old mid at behind → serviced ≡ Served → answer_of new ≡ answer_of mid → later ≡ with_moment before new.since → Comes settings state_of now (Ok None) before later old new at behind
+  went_served settings state_of now serviced old mid new at behind before later attends is same shown =
+      let turn : HasResponded settings stream state_of now old mid at behind = subst (λ (a : Serviced). Services settings stream state_of now a old mid at behind) is attends in
+      let his : HasResponded settings stream state_of now old new at behind = record {
+        exchange = turn.exchange;
+        listener = turn.listener;
+        number = turn.number;
+        moment = turn.moment;
+        unanswered = turn.unanswered;
+        received = turn.received;
+        own = turn.own;
+        come = turn.come;
+        served = turn.served;
+        his = same ∙ turn.his;
+      } in
+      (turn.exchange ∷ [], (his, refl), inr ((response_at turn.exchange, refl), shown))
+
+  -- so it did, and the clock failed
+  pub went_stopped : {S : Type 0} (settings : ServerSettingsEntry) (state_of : Held S → State) (now : ℕ) (serviced : Serviced) (broken : Failure) (old new : Client L) (at behind : ServedOffice S) (before later : NetworkEntry L)
+      → Services settings stream state_of now serviced old new at behind → serviced ≡ Served → new.since ≡ old.since → later ≡ with_failure before → Comes settings state_of now (Err broken) before later old new at behind
+  went_stopped settings state_of now serviced broken old new at behind before later attends is since failed =
+      let turn : HasResponded settings stream state_of now old new at behind = subst (λ (a : Serviced). Services settings stream state_of now a old new at behind) is attends in
+      (turn.exchange ∷ [], (turn, refl), (since, failed))
+
+  -- it leaves, with its turn or without
+  pub went_away : {S : Type 0} (settings : ServerSettingsEntry) (state_of : Held S → State) (now : ℕ) (serviced : Serviced) (why : CloseReason) (old new : Client L) (at behind : ServedOffice S) (before : NetworkEntry L)
+      → Services settings stream state_of now serviced old new at behind → serviced ≡ Leaves why → new.since ≡ old.since → EndsFor stream why new → Comes settings state_of now (Ok (Some why)) before before old new at behind
+  went_away settings state_of now serviced why old new at behind before attends is since ends =
+      let (exchanges, had) = has_some settings state_of now old new at behind (subst (λ (a : Serviced). Services settings stream state_of now a old new at behind) is attends) in
+      (exchanges, had, (since, ends, refl))
+
+  -- the moment of the turns that one had
+  at_moment : {S : Type 0} (settings : ServerSettingsEntry) (state_of : Held S → State) (gated : Bool) (gate : Option ℕ) (exchanges : List Exchange) (old new : Client L) (at behind : ServedOffice S) → ((moment : ℕ) → moment ≡ moment_of gate → IsMomentOf gated gate moment)
+      → HasExchanges settings stream state_of (moment_of gate) exchanges old new at behind → IsAtGate gated gate exchanges
+  at_moment settings state_of gated gate [] old new at behind is had = tt
+  at_moment settings state_of gated gate (exchange ∷ []) old new at behind is (turn, one) = is exchange.moment (sym (ap (λ (v : Exchange). v.moment) one) ∙ turn.moment)
+  at_moment settings state_of gated gate (exchange ∷ other ∷ more) old new at behind is never = absurd never
+
+  pub went_at : {S : Type 0} (gated : Bool) (settings : ServerSettingsEntry) (state_of : Held S → State) (now : ℕ) (result : Result (Option CloseReason) Failure) (before ready later : NetworkEntry L) (old new : Client L) (at behind : ServedOffice S)
+      → LooksAtGate gated (Ok now) before ready → Comes settings state_of now result ready later old new at behind → WasServiced gated settings stream state_of result before later old new at behind
+  went_at true settings state_of now result before ready later old new at behind looked (exchanges, had, comes) = record {
+    gate = Some now;
+    exchanges = exchanges;
+    had = had;
+    at_gate = at_moment settings state_of true (Some now) exchanges old new at behind (λ moment is. is) had;
+    comes = subst (λ (d : NetworkEntry L). IsServiceOutcome stream (map response_at exchanges) old new result d later) looked comes;
+  }
+  went_at {S} false settings state_of now result before ready later old new at behind (none, still) comes =
+      let zero : now ≡ 0 = cc none in
+      let (exchanges, had, came) = subst (λ (n : ℕ). Comes settings state_of n result ready later old new at behind) zero comes in record {
+        gate = None;
+        exchanges = exchanges;
+        had = had;
+        at_gate = at_moment settings state_of false None exchanges old new at behind (λ moment is. is) had;
+        comes = subst (λ (d : NetworkEntry L). IsServiceOutcome stream (map response_at exchanges) old new result d later) still came;
+      }
+
+  -- the clock failed there, so it didn't go on
+  pub went_nowhere : {S : Type 0} (gated : Bool) (settings : ServerSettingsEntry) (state_of : Held S → State) (broken : Failure) (before later : NetworkEntry L) (client : Client L) (at : ServedOffice S)
+      → LooksAtGate gated (Err broken) before later → WasServiced gated settings stream state_of (Err broken) before later client client at at
+  went_nowhere true settings state_of broken before later client at looked = record { gate = None; exchanges = []; had = (refl, refl); at_gate = tt; comes = (refl, looked) }
+  went_nowhere false settings state_of broken before later client at (none, still) = absurd (cc none)

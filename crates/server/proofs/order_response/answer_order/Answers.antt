@@ -1,0 +1,19 @@
+-- Why `answer_order` keeps its promise.
+use Rattle.std.proofs.Common.{◌-◌, ◌∙◌, arith, drop, length, refl, sym, take}
+use Rattle.std.proofs.lemmas.List.{length-drop, take_all}
+use Rattle.sqlite.specs.Held.{state}
+use Rattle.desk.specs.declared.lines.Failure.TheVariants.{Office}
+use Rattle.server.specs.declared.served_order.ServedOrder.TheVariants as asked
+use Rattle.server.proofs.OrderLemmas.{follows_unread, order_unread}
+use Rattle.server.proofs.order_response.answer_order.Goals as goal
+
+pub returns-in-Ok-clause-followed : goal.returns-in-Ok-clause-followed
+returns-in-Ok-clause-followed g c =
+    let rest = take_all (length c.args.got.now - 8) (drop 8 c.args.got.now) (omega (arith, length-drop 8 c.args.got.now)) in
+    c.respond_to_message.ensures.followed c.args.got.now (record { fits = c.in-Ok.ensures.ok.0; is = sym rest ∙ c.in-Ok.ensures.ok.1 })
+
+pub returns-in-Err-clause-followed : goal.returns-in-Err-clause-followed
+returns-in-Err-clause-followed g c =
+    let rest = take_all (length c.args.got.now - 8) (drop 8 c.args.got.now) (omega (arith, length-drop 8 c.args.got.now)) in
+    follows_unread c.args.file (state g.S.Store) c.args.office.now c.respond_to_asked.new.office c.args.got.now c.respond_to_asked.result.1.bytes.items _ (asked.Refused (Office c.in-Err.fault))
+    (order_unread c.args.file c.args.got.now (take (length c.args.got.now - 8) (drop 8 c.args.got.now)) c.in-Err.fault rest c.in-Err.ensures.err) refl c.respond_to_asked.ensures.followed

@@ -1,0 +1,156 @@
+-- The requests of clients and orders, which are processed in one office, one after the other; and what is kept of them.
+use Rattle.std.specs.Prelude.{◌≡◌, ◌⊎◌, ⊤, Bool, true, false, List, [], ◌∷◌, ◌++◌, Option, Some, length, ℕ}
+use Rattle.sqlite.specs.Held.{Held}
+use Rattle.sqlite.specs.State.{HasCleanDisk, State}
+use Rattle.register.specs.Machine.{after}
+use Rattle.register.specs.Offices.{OfficeState, empty_office}
+use Rattle.register.specs.declared.command.Request.{Request}
+use Rattle.office.specs.Answers.{IsOpenAt, IsReadAt, WhenOpenAt}
+use Rattle.office.specs.Runs.{Keeps}
+use Rattle.office.specs.Values.{OfficeValue}
+use Rattle.connections.specs.declared.client.Listener.{Listener}
+use Rattle.connections.specs.declared.client.Listener.TheVariants.{Clients, Orders}
+use Rattle.wire.specs.Bodies.{KeyingEntry}
+use Rattle.wire.specs.Requests.{Asks, keying, reading}
+use Rattle.wire.specs.Gates.{HttpSettingsEntry, IsAuthentication, AuthenticationEntry}
+use Rattle.wire.specs.Responses.{fault_response, waits_response}
+use Rattle.wire.specs.Told.{IsWritten}
+use Rattle.wire.specs.Serving.{IsHandedOn, IsServed, ReadiesClosed, ReadiesFor, TellsFault, TellsFor}
+use Rattle.wire.specs.declared.serving.Served.{Served}
+use Rattle.wire.specs.declared.target.Resource.{Resource}
+use Rattle.server.specs.ServedOrders.{FollowsOrder, IsTurnedAway, TellsOrder}
+use Rattle.server.specs.Reads.{AreReadAt, ServedOffice, limit_after, must_wait}
+use Rattle.server.specs.Settings.{ServerSettingsEntry}
+
+-- A request and its response, of a client or an order: the listener at which its connection came in, the connection's number, and the moment when it was processed, by a
+-- clock in milliseconds. Then the bytes that were received, and the response.
+pub record Exchange : Type 0 where
+  pub listener : Listener
+  pub number : ℕ
+  pub moment : ℕ
+  pub got : List ℕ
+  pub answer : List ℕ
+
+-- ---- one request, in an office that has the origin of a proxy or none, and its file
+
+-- a response was written, from its first byte on, and ended so
+abbrev pub EndsIn : List ℕ → (Option (List ℕ) → Option (List ℕ) → Served → Type 0) → Type 0
+EndsIn answer IsEnd = (served : Served) × IsEnd (Some []) (Some answer) served
+
+abbrev pub EndsSo : Exchange → (Option (List ℕ) → Option (List ℕ) → Served → Type 0) → Type 0
+EndsSo exchange IsEnd = EndsIn exchange.answer IsEnd
+
+-- The office served these bytes with this response. If it was open, the response has what they ask, with what that left. If it was closed, the response says so.
+pub record HasServed {S : Type 0} (settings : HttpSettingsEntry) (state_of : Held S → State) (old : OfficeValue S) (got answer : List ℕ) (new : OfficeValue S) : Type 0 where
+  pub serves : WhenOpenAt state_of old new (λ s. EndsIn answer (IsServed (λ response. ReadiesFor settings (Some got) s response new.closed (state_of new.held))))
+  pub turned_away : old.closed ≡ true → EndsIn answer (IsServed (ReadiesClosed settings (Some got))) × (new ≡ old)
+  pub clean : HasCleanDisk (state_of new.held) → HasCleanDisk (state_of old.held)
+
+-- what a request leaves in the cache: nothing; or it asks for a read, and what is cached is right at the same state as before
+abbrev pub KeepsReads : {S : Type 0} → HttpSettingsEntry → (Held S → State) → ServedOffice S → List ℕ → ServedOffice S → Type 0
+KeepsReads settings state_of old got new =
+    (new.kept.reads ≡ [])
+    ⊎ (((what : Resource) × Asks settings got (reading what))
+    × WhenOpenAt state_of old.office new.office (λ s. AreReadAt settings s old.kept.reads → AreReadAt settings s new.kept.reads × IsReadAt s new.office.closed (state_of new.office.held)))
+
+-- A client was served, by the office or from the cache. If the office was open and the cache was right, the response has what the client asks, with what that left. If the
+-- office was closed, the response says so.
+pub record ServesClient {S : Type 0} (settings : HttpSettingsEntry) (state_of : Held S → State) (old : ServedOffice S) (exchange : Exchange) (new : ServedOffice S) : Type 0 where
+  pub serves : WhenOpenAt state_of old.office new.office
+      (λ s. AreReadAt settings s old.kept.reads → EndsSo exchange (IsServed (λ response. ReadiesFor settings (Some exchange.got) s response new.office.closed (state_of new.office.held))))
+  pub keeps : KeepsReads settings state_of old exchange.got new
+  pub turned_away : old.office.closed ≡ true → EndsSo exchange (IsServed (ReadiesClosed settings (Some exchange.got))) × (new.office ≡ old.office)
+  pub clean : HasCleanDisk (state_of new.office.held) → HasCleanDisk (state_of old.office.held)
+
+-- the response is that the client must wait
+abbrev pub IsWaitResponse : Exchange → Type 0
+IsWaitResponse exchange = EndsSo exchange (IsServed (IsWritten waits_response))
+
+-- the response is that the file of the office is gone or replaced
+abbrev pub IsGoneResponse : Exchange → Type 0
+IsGoneResponse exchange = EndsSo exchange (IsServed (IsWritten (fault_response 113)))
+
+-- a client is turned away: it must wait, or the file is gone
+abbrev pub IsSentAway : Exchange → Type 0
+IsSentAway exchange = IsWaitResponse exchange ⊎ IsGoneResponse exchange
+
+-- the file of the office is gone or replaced: the response says so, and all stays as it is
+pub record IsWithoutFile {S : Type 0} (old : ServedOffice S) (exchange : Exchange) (new : ServedOffice S) : Type 0 where
+  pub told : IsGoneResponse exchange
+  pub stays : new ≡ old
+
+-- a client's code is wrong, and the rate limit is reached: the response is to wait, and all stays as it is
+pub record IsKeptWaiting {S : Type 0} (settings : HttpSettingsEntry) (old : ServedOffice S) (exchange : Exchange) (new : ServedOffice S) : Type 0 where
+  pub authentication : Option AuthenticationEntry
+  pub is : IsAuthentication settings exchange.got authentication
+  pub waits : must_wait authentication exchange.moment old.kept.limit ≡ true
+  pub told : IsWaitResponse exchange
+  pub stays : new ≡ old
+
+-- otherwise the client is served; and if its code was wrong, that is counted
+pub record IsLetIn {S : Type 0} (settings : HttpSettingsEntry) (state_of : Held S → State) (old : ServedOffice S) (exchange : Exchange) (new : ServedOffice S) : Type 0 where
+  pub authentication : Option AuthenticationEntry
+  pub is : IsAuthentication settings exchange.got authentication
+  pub free : must_wait authentication exchange.moment old.kept.limit ≡ false
+  pub serves : ServesClient settings state_of old exchange new
+  pub noted : new.kept.limit ≡ limit_after authentication exchange.moment old.kept.limit
+
+-- the request of a client was processed: it must wait, or the file is gone, or it is let in
+abbrev pub RespondsToClient : {S : Type 0} → HttpSettingsEntry → (Held S → State) → ServedOffice S → Exchange → ServedOffice S → Type 0
+RespondsToClient settings state_of old exchange new = (IsKeptWaiting settings old exchange new ⊎ IsWithoutFile old exchange new) ⊎ IsLetIn settings state_of old exchange new
+
+-- The request of a connection of this listener was processed: a client's so; or an order is followed, the cache is emptied, and no wrong code is counted.
+abbrev pub ServesAt : {S : Type 0} → Listener → ServerSettingsEntry → (Held S → State) → ServedOffice S → Exchange → ServedOffice S → Type 0
+ServesAt Clients settings state_of old exchange new = RespondsToClient settings.clients state_of old exchange new
+ServesAt Orders settings state_of old exchange new =
+    FollowsOrder settings.file state_of old.office exchange.got exchange.answer new.office × (new.kept.reads ≡ []) × (new.kept.limit ≡ old.kept.limit)
+
+abbrev pub ServesExchange : {S : Type 0} → ServerSettingsEntry → (Held S → State) → ServedOffice S → Exchange → ServedOffice S → Type 0
+ServesExchange settings state_of old exchange new = ServesAt exchange.listener settings state_of old exchange new
+
+-- ---- one request after the other
+
+-- the last request is a clerk's keying, which these bytes ask; or there is none
+abbrev pub IsLastFor : HttpSettingsEntry → List ℕ → List Request → Type 0
+IsLastFor settings bytes last =
+    (last ≡ [])
+    ⊎ ((clerk batch : ℕ) × (entry : KeyingEntry) × (request : Request) × Asks settings bytes (keying clerk batch entry) × IsHandedOn clerk batch entry request × (last ≡ request ∷ []))
+
+-- a client that asks a closed office anything gets the response that it is closed; or it is turned away
+abbrev pub IsToldClosed : Listener → ServerSettingsEntry → Exchange → Type 0
+IsToldClosed Clients settings exchange = IsSentAway exchange ⊎ EndsSo exchange (IsServed (ReadiesClosed settings.clients (Some exchange.got)))
+IsToldClosed Orders settings exchange = IsTurnedAway settings.file exchange.got exchange.answer
+
+-- the same of each of these
+abbrev pub AreTurnedAway : ServerSettingsEntry → List Exchange → Type 0
+AreTurnedAway settings [] = ⊤
+AreTurnedAway settings (exchange ∷ exchanges) = IsToldClosed exchange.listener settings exchange × AreTurnedAway settings exchanges
+
+-- A request is processed at a state, and these commands were answered for it. A client's is none, or one keying, and then its response is the office's reply to it. A
+-- client that must wait has none. An order's are those that its output has.
+abbrev pub IsAnsweredAt : {S : Type 0} → Listener → (Held S → State) → ServerSettingsEntry → OfficeState → Exchange → List Request → Type 0
+IsAnsweredAt Clients state_of settings s exchange sent = (IsSentAway exchange × (sent ≡ [])) ⊎ EndsSo exchange (IsServed (TellsFor settings.clients (Some exchange.got) s sent))
+IsAnsweredAt Orders state_of settings s exchange sent = (last : List Request) × TellsOrder state_of settings.file s exchange.got exchange.answer sent last
+
+-- A fault, which is the response, closed the office during a request: these commands were answered for it, and one more may be kept or not.
+abbrev pub IsStoppedAt : {S : Type 0} → Listener → (Held S → State) → ServerSettingsEntry → OfficeState → Exchange → List Request → List Request → Type 0
+IsStoppedAt Clients state_of settings s exchange answered last = EndsSo exchange (IsServed TellsFault) × (answered ≡ []) × IsLastFor settings.clients exchange.got last
+IsStoppedAt Orders state_of settings s exchange answered last = TellsOrder state_of settings.file s exchange.got exchange.answer answered last
+
+-- All requests are processed in turn, each as the office's machine says at the state at which it is processed, and these commands were answered for them. Or a fault closed
+-- the office during one of them, and every later one gets the response that the office is closed.
+abbrev pub AnswersInTurn : {S : Type 0} → (Held S → State) → ServerSettingsEntry → OfficeState → List Exchange → List Request → List Request → Type 0
+AnswersInTurn state_of settings s [] answered last = (answered ≡ []) × (last ≡ [])
+AnswersInTurn state_of settings s (exchange ∷ exchanges) answered last =
+    ((sent : List Request) × (others : List Request) × IsAnsweredAt exchange.listener state_of settings s exchange sent × (answered ≡ sent ++ others)
+    × AnswersInTurn state_of settings (after s sent) exchanges others last)
+    ⊎ (IsStoppedAt exchange.listener state_of settings s exchange answered last × AreTurnedAway settings exchanges)
+
+-- What is kept of the requests that were processed, after earlier ones. An open office is at the state after all that were answered. Whatever a stop leaves is the state
+-- after the accepted requests of a beginning. That beginning contains every earlier request, every one that was answered, and at most one more.
+pub record IsKeptOf {S : Type 0} (state_of : Held S → State) (settings : ServerSettingsEntry) (earlier : List Request) (exchanges : List Exchange) (closed : Bool) (st : State) : Type 0 where
+  pub answered : List Request
+  pub last : List Request
+  pub in_turn : AnswersInTurn state_of settings (after empty_office earlier) exchanges answered last
+  pub open_at : closed ≡ false → IsOpenAt (after empty_office (earlier ++ answered)) closed st
+  pub keeps : Keeps earlier (answered ++ last) (length answered) st

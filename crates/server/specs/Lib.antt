@@ -1,0 +1,9 @@
+pub mod Settings
+pub mod ServedOrders
+pub mod FrameSinks
+pub mod Reads
+pub mod Exchanges
+pub mod Servicing
+pub mod ServedConnections
+pub mod Servers
+pub mod Blind

@@ -1,0 +1,78 @@
+-- What is kept in memory: the responses to reads, which are sent again while nothing changes; and the wrong codes that came.
+use Rattle.std.specs.Prelude.{◌≡◌, ◌&&◌, Bool, false, List, [], None, Option, Some, if◌then◌else◌, map, ℕ}
+use Rattle.std.specs.List.{All}
+use Rattle.register.specs.Offices.{OfficeState}
+use Rattle.office.specs.Values.{OfficeValue}
+use Rattle.codes.specs.RateLimits.{LimitEntry, counted, is_reached, limit_entry, none_wrong}
+use Rattle.wire.specs.Requests.{Asks, reading}
+use Rattle.wire.specs.Gates.{HttpSettingsEntry, AuthenticationEntry}
+use Rattle.wire.specs.Serving.{IsServed, reading_response}
+use Rattle.wire.specs.Told.{IsTold}
+use Rattle.wire.specs.declared.serving.Served.{Served}
+use Rattle.wire.specs.declared.serving.Served.TheVariants.{Answered, ReadFailed, WriteFailed}
+use Rattle.wire.specs.declared.target.Resource.{Resource}
+use Rattle.server.specs.declared.read_cache.ReadCache.{ReadCache}
+use Rattle.server.specs.declared.read_cache.CachedRead.{CachedRead}
+use Rattle.server.specs.declared.server_memory.ServerMemory.{ServerMemory}
+
+-- the bytes of a request, and those of its response
+pub record ReadEntry : Type 0 where
+  pub got : List ℕ
+  pub answer : List ℕ
+
+abbrev pub read_entry : CachedRead → ReadEntry
+read_entry k = record { got = k.got.items; answer = k.answer.items }
+
+abbrev pub reads_in : ReadCache → List ReadEntry
+reads_in kept = map read_entry kept.answers.items
+
+-- These bytes ask for a read, and this is the response to it at a state, byte for byte.
+pub record IsRead (settings : HttpSettingsEntry) (s : OfficeState) (got answer : List ℕ) : Type 0 where
+  pub what : Resource
+  pub asks : Asks settings got (reading what)
+  pub status : ℕ
+  pub told : IsServed (λ response. IsTold (reading_response s what) response) (Some []) (Some answer) (Answered status)
+
+-- a response was written whole, and it is no fault (503)
+abbrev pub TellsNoFault : Served → Type 0
+TellsNoFault (Answered status) = status ≡ 503 → ⊥
+TellsNoFault ReadFailed = ⊥
+TellsNoFault WriteFailed = ⊥
+
+-- each response in the cache is the one at this state
+abbrev pub AreReadAt : HttpSettingsEntry → OfficeState → List ReadEntry → Type 0
+AreReadAt settings s reads = All (λ r. IsRead settings s r.got r.answer) reads
+
+-- ---- wrong codes
+
+-- whether a client must wait: its code is wrong, and the rate limit is reached
+abbrev pub must_wait : Option AuthenticationEntry → ℕ → LimitEntry → Bool
+must_wait None now limit = false
+must_wait (Some authentication) now limit = authentication.is_wrong && is_reached limit now
+
+-- the wrong codes that came, including this client's
+abbrev pub limit_after : Option AuthenticationEntry → ℕ → LimitEntry → LimitEntry
+limit_after None now limit = limit
+limit_after (Some authentication) now limit = if authentication.is_wrong then counted now limit else limit
+
+-- ---- both
+
+-- the responses to reads that are kept, and how many wrong codes came
+pub record MemoryEntry : Type 0 where
+  pub reads : List ReadEntry
+  pub limit : LimitEntry
+
+abbrev pub memory_entry : ServerMemory → MemoryEntry
+memory_entry kept = record { reads = reads_in kept.reads; limit = limit_entry kept.limit }
+
+-- an office that is served, and what is kept in memory
+pub record ServedOffice (S : Type 0) : Type 0 where
+  pub office : OfficeValue S
+  pub kept : MemoryEntry
+
+abbrev pub served_office : {S : Type 0} → OfficeValue S → MemoryEntry → ServedOffice S
+served_office office kept = record { office = office; kept = kept }
+
+-- an office with an empty cache, and without wrong codes
+abbrev pub with_none_kept : {S : Type 0} → OfficeValue S → ServedOffice S
+with_none_kept office = served_office office (record { reads = []; limit = none_wrong })

@@ -1,0 +1,193 @@
+-- An order that is handed over to the server: what its message asks, the outcome, and its output in frames.
+use Rattle.std.specs.Prelude.{◌≡◌, ◌⊎◌, ⊤, Bool, true, List, [], ◌∷◌, None, Some, bytes_eq, drop, if◌then◌else◌, length, map, option_map, take, ◌≤◌, ◌+◌, ℕ}
+use Rattle.std.specs.Int.{from_be_bytes, w64}
+use Rattle.std.specs.List.{list_all}
+use Rattle.std.specs.Str.{is_utf8}
+use Rattle.clap.specs.Words.{Text, subcommand_of}
+use Rattle.sqlite.specs.Held.{Held}
+use Rattle.sqlite.specs.State.{HasCleanDisk, State}
+use Rattle.register.specs.Offices.{OfficeState}
+use Rattle.register.specs.declared.command.Request.{Request}
+use Rattle.tables.specs.declared.fault.Fault.TheVariants.{Memory, Store}
+use Rattle.store.specs.Copies.{holdings_of}
+use Rattle.office.specs.Answers.{IsOpenAt, IsReadAt, WhenOpenAt}
+use Rattle.office.specs.Values.{OfficeValue}
+use Rattle.order_protocol.specs.Frames.{AreWhole, IsOver, error_output_of, output_of}
+use Rattle.order_protocol.specs.Messages.{Fits, OrderMessageEntry, MessagePartEntry, encoding_of}
+use Rattle.desk.specs.Copying.{copied_text}
+use Rattle.desk.specs.Folders.{File, Folder}
+use Rattle.desk.specs.Headline.{IsDone}
+use Rattle.desk.specs.Journals.{IsJournalTold}
+use Rattle.desk.specs.Orders.{told}
+use Rattle.desk.specs.Pages.{Cut, IsShown, Outputs, Page, below, closed_page, failed, replied, words_page}
+use Rattle.desk.specs.Parts.{ComesTo}
+use Rattle.desk.specs.Words.{IsNoneMeant, meaning, office_words}
+use Rattle.desk.specs.declared.lines.Failure.{Failure}
+use Rattle.desk.specs.declared.lines.Failure.TheVariants.{BeingServed, CopyFailed, FileGone, Office}
+use Rattle.desk.specs.declared.orders.Job.{Job}
+use Rattle.desk.specs.declared.orders.Order.{Order}
+use Rattle.desk.specs.declared.orders.Order.TheVariants as order
+use Rattle.desk.specs.declared.orders.Task.TheVariants as task
+use Rattle.desk.specs.declared.version.TheConstants.{VERSION}
+use Rattle.server.specs.declared.served_order.ServedOrder.{ServedOrder}
+use Rattle.server.specs.declared.served_order.ServedOrder.TheVariants as asked
+use Rattle.server.specs.declared.server_settings.FileNumbers.{FileNumbers}
+
+-- ---- the message
+
+-- eight bytes, which say how many follow, and after them the encoding of an order
+pub record IsMessage (bytes : List ℕ) (h : OrderMessageEntry) : Type 0 where
+  pub fits : Fits h
+  pub is : drop 8 bytes ≡ encoding_of h
+
+-- a message is complete: it has at least as many bytes as its first eight say
+pub record HasCameWhole (bytes : List ℕ) : Type 0 where
+  pub front : 8 ≤ length bytes
+  pub whole : 8 + from_be_bytes w64 (take 8 bytes) ≤ length bytes
+
+-- the words of an order that is handed over
+abbrev pub words_in : OrderMessageEntry → List Text
+words_in h = map (λ piece. piece.name) h.words
+
+-- its words mean this order
+abbrev pub MeansOrder : OrderMessageEntry → Order → Type 0
+MeansOrder h o = meaning (subcommand_of office_words (words_in h)) ≡ Some (told o)
+
+-- the order comes from this version of the program, and is for the file that is served
+pub record IsForFile (file : FileNumbers) (h : OrderMessageEntry) : Type 0 where
+  pub version : h.version ≡ VERSION.now
+  pub device : h.device ≡ file.device
+  pub inode : h.inode ≡ file.inode
+
+-- an order that can't be done while the office is served
+abbrev pub IsForNone : Order → Type 0
+IsForNone (order.Perform task.Init) = ⊤
+IsForNone (order.Perform task.Migrate) = ⊤
+IsForNone (order.Serve port connections origin codes) = ⊤
+IsForNone (order.Codes path clerks) = ⊤
+IsForNone other = ⊥
+
+-- What an order asks that is for this file: a job, a copy, the journal; or why it isn't followed: its words are no order, or the file is gone.
+abbrev pub AsksSo : OrderMessageEntry → ServedOrder → Type 0
+AsksSo h (asked.Do job) = MeansOrder h (order.Perform (task.InOffice job))
+AsksSo h (asked.Copy path) = MeansOrder h (order.Copy path)
+AsksSo h asked.Journal = MeansOrder h order.Journal
+AsksSo h (asked.Refused failure) = ((failure ≡ BeingServed) × ((o : Order) × MeansOrder h o × IsForNone o)) ⊎ ((failure ≡ FileGone) × ((job : Job) × MeansOrder h (order.Perform (task.InOffice job))))
+AsksSo h (asked.Misread fault) = IsNoneMeant (meaning (subcommand_of office_words (words_in h))) fault
+
+-- No order is decoded: an allocation failed; or the bytes are no message of text, or that of another version of the program, or for another file.
+abbrev pub IsUnread : FileNumbers → List ℕ → ServedOrder → Type 0
+IsUnread file got what =
+    (what ≡ asked.Refused (Office Memory))
+    ⊎ ((what ≡ asked.Refused (Office Store)) × ((h : OrderMessageEntry) → IsMessage got h → IsForFile file h → list_all is_utf8 (words_in h) ≡ true → ⊥))
+
+-- these bytes ask this, with the files that came with it
+abbrev pub AsksOrder : FileNumbers → List ℕ → List MessagePartEntry → ServedOrder → Type 0
+AsksOrder file got files what = ((h : OrderMessageEntry) × IsMessage got h × IsForFile file h × (files ≡ h.files) × AsksSo h what) ⊎ (IsUnread file got what × (files ≡ []))
+
+-- ---- its files
+
+-- the file that came at a path: `None` if none came, or if it couldn't be read
+abbrev pub attached_at : List MessagePartEntry → Text → File
+attached_at [] path = None
+attached_at (p ∷ ps) path = if bytes_eq p.name path then option_map Some p.bytes else attached_at ps path
+
+-- the files that came with an order, as a folder
+abbrev pub folder_of : List MessagePartEntry → Folder
+folder_of files path = Some (attached_at files path)
+
+-- ---- its output
+
+-- two outputs to which nothing was written yet
+abbrev pub untold : Outputs
+untold = record { out = Some []; out_failed = 0; err = Some []; err_failed = 0 }
+
+-- What the outputs of an order accepted is sent in frames: all of the output, and all of the error output. The last frame has the status. Or an allocation failed, and that
+-- frame is missing.
+pub record IsToldInFrames (told : Outputs) (status : ℕ) (frames : List ℕ) : Type 0 where
+  pub err : List ℕ
+  pub is_err : told.err ≡ Some err
+  pub out : told.out ≡ Some (output_of frames)
+  pub end : (IsOver frames status [] × (error_output_of frames ≡ err)) ⊎ AreWhole frames
+
+-- so much of a page is sent in frames
+pub record IsFramed (cut : Cut) (page : Page) (frames : List ℕ) : Type 0 where
+  pub told : Outputs
+  pub status : ℕ
+  pub shown : IsShown cut untold told page status
+  pub framed : IsToldInFrames told status frames
+
+-- The page of a copy of the office of a state: how much the copy has, and perhaps that its log couldn't be merged into it; or why none is made.
+abbrev pub IsCopyTold : OfficeState → Page → Type 0
+IsCopyTold s page =
+    (page ≡ replied (copied_text (holdings_of s)))
+    ⊎ ((page ≡ below (replied (copied_text (holdings_of s))) (failed CopyFailed)) ⊎ ((failure : Failure) × (page ≡ failed failure)))
+
+-- The outcome of what is asked at a state, and what that leaves of the office, whose connection was at `old`. A job is done in it. For a copy and for the journal it is
+-- only read. What isn't followed leaves it as it was.
+abbrev pub IsOrderOutcome : State → Bool → State → Folder → OfficeState → ServedOrder → Cut → Page → Type 0
+IsOrderOutcome old closed st folder s (asked.Do job) cut page = ComesTo cut page (IsDone old closed st folder s job)
+IsOrderOutcome old closed st folder s (asked.Copy path) cut page = IsCopyTold s page × IsReadAt s closed st
+IsOrderOutcome old closed st folder s asked.Journal cut page = IsJournalTold s page × IsReadAt s closed st
+IsOrderOutcome old closed st folder s (asked.Refused failure) cut page = (page ≡ failed failure) × IsOpenAt s closed st
+IsOrderOutcome old closed st folder s (asked.Misread fault) cut page = (page ≡ words_page fault) × IsOpenAt s closed st
+
+-- the page of a closed office: that it is closed, of anything it would do; and otherwise why the order isn't followed
+abbrev pub shut_page : ServedOrder → Page
+shut_page (asked.Do job) = closed_page
+shut_page (asked.Copy path) = closed_page
+shut_page asked.Journal = closed_page
+shut_page (asked.Refused failure) = failed failure
+shut_page (asked.Misread fault) = words_page fault
+
+-- What is asked with these files was done, and these frames are the response. If the office was open, they have the outcome as far as its outputs accepted it, with what it
+-- left. If the office was closed, they say so.
+pub record TellsAsked {S : Type 0} (state_of : Held S → State) (old : OfficeValue S) (files : List MessagePartEntry) (asked : ServedOrder) (frames : List ℕ) (new : OfficeValue S) : Type 0 where
+  pub cut : Cut
+  pub page : Page
+  pub told : IsFramed cut page frames
+  pub does : WhenOpenAt state_of old new (λ s. IsOrderOutcome (state_of old.held) new.closed (state_of new.held) (folder_of files) s asked cut page)
+  pub turned_away : old.closed ≡ true → (page ≡ shut_page asked) × (new ≡ old)
+  pub clean : HasCleanDisk (state_of new.held) → HasCleanDisk (state_of old.held)
+
+-- the order that these bytes ask was processed, and these frames are the response
+pub record FollowsOrder {S : Type 0} (file : FileNumbers) (state_of : Held S → State) (old : OfficeValue S) (got frames : List ℕ) (new : OfficeValue S) : Type 0 where
+  pub files : List MessagePartEntry
+  pub asked : ServedOrder
+  pub is : AsksOrder file got files asked
+  pub tells : TellsAsked state_of old files asked frames new
+
+-- ---- its output at a state
+
+-- of requests that were sent, the first so many were answered, and the next one, if there is one, was the last that was sent
+abbrev pub AreAnswered : List Request → ℕ → List Request → List Request → Type 0
+AreAnswered requests answered sent last = (sent ≡ take answered requests) × (last ≡ take 1 (drop answered requests))
+
+-- The page of what is asked at a state, for which these requests were answered, and this one more was sent, if any. A job prints it in an office that was open at that
+-- state, over some connection, whose failure may be the cause of a fault on it.
+abbrev pub TellsSo : {S : Type 0} → (Held S → State) → Folder → OfficeState → ServedOrder → Cut → Page → List Request → List Request → Type 0
+TellsSo {S} state_of folder s (asked.Do job) cut page sent last =
+    (old new : OfficeValue S)
+    × ComesTo cut page (λ course. IsDone (state_of old.held) new.closed (state_of new.held) folder s job course × AreAnswered course.requests course.answered sent last)
+TellsSo state_of folder s (asked.Copy path) cut page sent last = IsCopyTold s page × (sent ≡ []) × (last ≡ [])
+TellsSo state_of folder s asked.Journal cut page sent last = IsJournalTold s page × (sent ≡ []) × (last ≡ [])
+TellsSo state_of folder s (asked.Refused failure) cut page sent last = (page ≡ failed failure) × (sent ≡ []) × (last ≡ [])
+TellsSo state_of folder s (asked.Misread fault) cut page sent last = (page ≡ words_page fault) × (sent ≡ []) × (last ≡ [])
+
+-- an order that these bytes ask printed its page at a state, in these frames
+pub record TellsOrder {S : Type 0} (state_of : Held S → State) (file : FileNumbers) (s : OfficeState) (got frames : List ℕ) (sent last : List Request) : Type 0 where
+  pub files : List MessagePartEntry
+  pub asked : ServedOrder
+  pub is : AsksOrder file got files asked
+  pub cut : Cut
+  pub page : Page
+  pub told : IsFramed cut page frames
+  pub tells : TellsSo state_of (folder_of files) s asked cut page sent last
+
+-- an order that these bytes ask found the office closed, and these frames say so
+pub record IsTurnedAway (file : FileNumbers) (got frames : List ℕ) : Type 0 where
+  pub files : List MessagePartEntry
+  pub asked : ServedOrder
+  pub is : AsksOrder file got files asked
+  pub cut : Cut
+  pub told : IsFramed cut (shut_page asked) frames

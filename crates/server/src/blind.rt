@@ -1,0 +1,38 @@
+//! Blind keying, for a server.
+
+ghost use Rattle.sqlite.specs.Held.{state};
+ghost use Rattle.connections.specs.Streams.{stream_of};
+ghost use Rattle.server.specs.Blind.{ClerksAreAnsweredAsSeen, ClerksCannotTell, ServersAnswerAsSeen, KeptAreAnsweredAsSeen};
+
+use connections::Network;
+use laws::clerks_are_blind;
+use register::lists_make_states;
+use sqlite::Alter;
+
+/// The law of blind keying, for a server. What that clerk sees alone determines the response to each request under a clerk's
+/// number: the wards and their phases, the candidates, the batches, the clerk's own keyings and receipts. Nothing that another
+/// clerk sends changes it. An order may, since it is the office's.
+///
+/// So take two services whose offices look alike to a clerk, and that receive no orders. If both receive the same bytes under the
+/// clerk's number, in the same order, both send the clerk the same, whatever other clerks keyed.
+///
+/// The law doesn't speak of faults, nor of the responses to wait (429) and that the file is gone (113). It says nothing of how long
+/// a response takes, nor of what everyone may read, which is a stage sheet or a declaration.
+pub fn clerks_are_answered_as_seen<S: Alter>()
+    ensures own { ClerksAreAnsweredAsSeen (state S.Store) }
+    ensures kept { KeptAreAnsweredAsSeen (state S.Store) }
+    ensures alike { ClerksCannotTell (state S.Store) }
+{
+    // for their laws
+    clerks_are_blind();
+    lists_make_states();
+}
+
+/// The law of blind keying for what [`serve_connections`](crate::serve_connections) promises. In an office that was open, and at
+/// the state after any earlier requests, what each clerk sees of that state determines the responses to that clerk.
+pub fn servers_answer_as_seen<D: Network, S: Alter>()
+    ensures { ServersAnswerAsSeen (stream_of D.Stream.held D.Stream.taken D.Stream.failed) (state S.Store) }
+{
+    // for its law
+    clerks_are_answered_as_seen::<S>();
+}

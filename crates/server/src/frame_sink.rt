@@ -1,0 +1,112 @@
+//! The sink for the output of an order while it is processed: frames, on a stream.
+
+ghost use Rattle.std.specs.Prelude.{◌≡◌, ◌++◌, ◌≤◌, [], List, OnErr, OnOk, Some, length, take, ℕ};
+ghost use Rattle.connections.specs.Streams.{HasTaken, stream_of};
+ghost use Rattle.order_protocol.specs.Frames.{AreWhole, IsOver, SaysMore, output_of};
+ghost use Rattle.server.specs.FrameSinks.{IsEnded, IsGoingOut, said_through};
+
+use connections::{PendingResponse, Stream, deliver};
+use order_protocol::{MAX_FRAME, put_end_frame, put_error_frames, put_output};
+use std::alloc::{AllocError, Global};
+use votes::{Broken, Sink};
+
+/// The most bytes of the response to one order. For more, end `serve` first.
+const MAX_ANSWER: usize = 32 << 20;
+
+/// The sink for an order's replies: appends them to what it has printed already, in frames, and sends as much as the stream accepts
+/// now. It fails if the stream does, if an allocation does, or if the response gets too long.
+///
+/// It owns the stream. An order is processed by code that knows only of a `Sink`, so nothing would be known afterwards of a stream
+/// that it borrows.
+pub struct FrameSink<L> {
+    pub stream: L,
+    pub answer: PendingResponse,
+    pub failed: u64,
+}
+
+/// Appends frames with these bytes of the error output, and the last frame, with the status. If an allocation fails, the bytes are
+/// those from before, or all but the last frame.
+fn put_end(out: &mut Vec<u8>, status: u8, err: &[u8]) -> Result<(), AllocError>
+    ensures says { AreWhole out.old.items → (rest : List ℕ) × SaysMore out.old.items out.new.items [] rest × OnOk result ((rest ≡ err.now) × IsOver out.new.items status []) }
+    ensures begins { take (length out.old.items) out.new.items ≡ out.old.items }
+{
+    put_error_frames(out, err)?;
+    put_end_frame(out, status, &[])
+}
+
+impl<L: Stream> FrameSink<L> {
+    /// Returns a sink to which nothing is printed yet. Allocates nothing.
+    pub fn new(alloc: Global, stream: L) -> FrameSink<L>
+        requires { HasTaken (L.taken stream) [] }
+        ensures taken { said_through (stream_of L.held L.taken L.failed) result ≡ Some [] }
+        ensures failed { result.failed ≡ 0 }
+    {
+        FrameSink {
+            stream,
+            answer: PendingResponse {
+                bytes: Vec::new(alloc),
+                sent: 0,
+            },
+            failed: 0,
+        }
+    }
+
+    /// Appends the error output, in as many frames as it takes, and the last frame. Returns the stream and the response. If an
+    /// allocation fails, the response ends before a frame, without the last one.
+    pub fn end(self, status: u8, err: &[u8]) -> (L, PendingResponse)
+        ensures { (said : List ℕ) → said_through (stream_of L.held L.taken L.failed) self ≡ Some said → IsEnded (stream_of L.held L.taken L.failed) said status err.now result.0 result.1 }
+    {
+        let FrameSink {
+            stream,
+            mut answer,
+            failed: _,
+        } = self;
+        match put_end(&mut answer.bytes, status, err) {
+            Ok(()) => (stream, answer),
+            Err(_) => (stream, answer),
+        }
+    }
+}
+
+/// Appends bytes to a response, in one frame, and sends as much of the response as the stream accepts now. After `Broken` nothing
+/// was appended: the stream or an allocation failed, or the response got too long.
+fn say<L: Stream>(stream: &mut L, answer: &mut PendingResponse, bytes: &[u8]) -> Result<(), Broken>
+    requires { length bytes.now ≤ MAX_FRAME }
+    ensures goes_out { IsGoingOut (stream_of L.held L.taken L.failed) stream.old answer.old → IsGoingOut (stream_of L.held L.taken L.failed) stream.new answer.new }
+    ensures said { IsGoingOut (stream_of L.held L.taken L.failed) stream.old answer.old → OnOk result (output_of answer.new.bytes.items ≡ output_of answer.old.bytes.items ++ bytes.now) }
+    ensures unsaid { OnErr result (answer.new.bytes.items ≡ answer.old.bytes.items) }
+{
+    deliver(stream, answer)?;
+    if answer.bytes.len() >= MAX_ANSWER {
+        return Err(Broken);
+    }
+    match put_output(&mut answer.bytes, bytes) {
+        Ok(()) => {
+            // If the stream fails now, the next call reports it.
+            let _ = deliver(stream, answer);
+            Ok(())
+        }
+        Err(_) => Err(Broken),
+    }
+}
+
+impl<L: Stream> Sink for FrameSink<L> {
+    ghost taken = { λ o. said_through (stream_of L.held L.taken L.failed) o };
+
+    ghost failed = { λ o. o.failed };
+
+    fn put(&mut self, bytes: &[u8]) -> Result<usize, Broken> {
+        let count = bytes.len().min(MAX_FRAME);
+        match say(&mut self.stream, &mut self.answer, &bytes[..count]) {
+            Ok(()) => Ok(count),
+            Err(Broken) => {
+                self.failed += 1;
+                Err(Broken)
+            }
+        }
+    }
+
+    fn failures(&self) -> u64 {
+        self.failed
+    }
+}

@@ -1,0 +1,243 @@
+//! The response to an order: it is processed in the open office, and its output is sent in frames.
+
+ghost use Rattle.std.specs.Prelude.{◌≡◌, ◌-◌, ◌^◌, ◌<◌, ℕ, List, [], true};
+ghost use Rattle.sqlite.specs.State.{HasCleanDisk};
+ghost use Rattle.sqlite.specs.Held.{state};
+ghost use Rattle.office.specs.Answers.{IsReadAt, WhenOpenAt};
+ghost use Rattle.connections.specs.Streams.{HasTaken, stream_of};
+ghost use Rattle.connections.specs.Clients.{IsSent};
+ghost use Rattle.order_protocol.specs.Messages.{OrderMessageEntry, order_message_entry, message_part_entries};
+ghost use Rattle.desk.specs.Pages.{Shows, Tells, outputs_of};
+ghost use Rattle.server.specs.ServedOrders.{AsksSo, IsOrderOutcome, FollowsOrder, HasCameWhole, IsCopyTold, IsMessage, TellsAsked, folder_of, shut_page};
+
+use crate::frame_sink::FrameSink;
+use crate::order_arrival::LENGTH;
+use crate::served_order::{ServedOrder, is_for_file, read_message, served_order_by, words_of};
+use crate::server_settings::FileNumbers;
+use crate::side_jobs::SideJobs;
+use connections::{PendingResponse, Stream, VecSink};
+use desk::{Failure, Folder, follow, tell_failure, tell_words};
+use office::Office;
+use order_protocol::{MessagePart, OrderMessage};
+use sqlite::Alter;
+use std::alloc::Global;
+use store::Fault;
+use votes::Sink;
+
+/// The files that came with an order, and the folder in which it was typed. At any other path there is no file.
+#[derive(Clone, Copy)]
+struct AttachedFiles<'b> {
+    folder: &'b [u8],
+    files: &'b [MessagePart<'b>],
+}
+
+impl<'b> Folder for AttachedFiles<'b> {
+    type File = &'b [u8];
+
+    ghost held = { λ attached path. folder_of (message_part_entries attached.files.now) path };
+
+    fn open(&self, path: &str) -> Option<&'b [u8]> {
+        for file in self.files {
+            if file.name == path.as_bytes() {
+                return file.bytes;
+            }
+        }
+        None
+    }
+}
+
+/// Prints what a closed office says of an order: that it is closed, of anything it would do; and otherwise why the order isn't
+/// followed.
+fn print_closed<O: Sink, E: Sink>(asked: &ServedOrder<'_>, out: &mut O, err: &mut E) -> u8
+    requires out { O.failed out.old < 2 ^ 64 - 1 }
+    requires err { E.failed err.old < 2 ^ 64 - 1 }
+    ensures { let outputs = outputs_of O.taken O.failed E.taken E.failed in Shows (outputs out.old err.old) (outputs out.new err.new) (shut_page asked.now) result }
+{
+    match asked {
+        ServedOrder::Refused(failure) => tell_failure(*failure, err),
+        ServedOrder::Misread(fault) => tell_words(fault, out, err),
+        ServedOrder::Do(_) => tell_failure(Failure::Office(Fault::Closed), err),
+        ServedOrder::Copy(_) => tell_failure(Failure::Office(Fault::Closed), err),
+        ServedOrder::Journal => tell_failure(Failure::Office(Fault::Closed), err),
+    }
+}
+
+/// Copies the office for an order, to a path as seen from the order's folder. There is no folder if its name isn't UTF-8.
+fn copy_for_order<A: SideJobs, S: Alter, O: Sink, E: Sink>(
+    side_jobs: &A,
+    attached: AttachedFiles<'_>,
+    path: &str,
+    office: &mut Office<S>,
+    out: &mut O,
+    err: &mut E,
+) -> u8
+    requires out { O.failed out.old < 2 ^ 64 - 1 }
+    requires err { E.failed err.old < 2 ^ 64 - 1 }
+    ensures told { let outputs = outputs_of O.taken O.failed E.taken E.failed in Tells (outputs out.old err.old) (outputs out.new err.new) result
+        (λ _ page. WhenOpenAt (state S.Store) office.old office.new (λ s. IsCopyTold s page × IsReadAt s office.new.closed (state S.Store office.new.held))) }
+    ensures clean { HasCleanDisk (state S.Store office.new.held) → HasCleanDisk (state S.Store office.old.held) }
+{
+    match str::from_utf8(attached.folder) {
+        Ok(folder) => side_jobs.copy(office, folder, path, out, err),
+        Err(_) => tell_failure(Failure::CopyFailed, err),
+    }
+}
+
+/// Does what an order asks in an office that is open, and returns the status.
+fn do_open<A: SideJobs, S: Alter, O: Sink, E: Sink>(
+    alloc: Global,
+    side_jobs: &A,
+    asked: &ServedOrder<'_>,
+    attached: AttachedFiles<'_>,
+    office: &mut Office<S>,
+    out: &mut O,
+    err: &mut E,
+) -> u8
+    requires out { O.failed out.old < 2 ^ 64 - 1 }
+    requires err { E.failed err.old < 2 ^ 64 - 1 }
+    ensures did { let outputs = outputs_of O.taken O.failed E.taken E.failed in Tells (outputs out.old err.old) (outputs out.new err.new) result
+        (λ cut page. WhenOpenAt (state S.Store) office.old office.new
+        (λ s. IsOrderOutcome (state S.Store office.old.held) office.new.closed (state S.Store office.new.held) (folder_of (message_part_entries attached.entry.files.now)) s asked.now cut page)) }
+    ensures clean { HasCleanDisk (state S.Store office.new.held) → HasCleanDisk (state S.Store office.old.held) }
+{
+    match asked {
+        ServedOrder::Refused(failure) => tell_failure(*failure, err),
+        ServedOrder::Misread(fault) => tell_words(fault, out, err),
+        ServedOrder::Do(job) => follow(alloc, office, job, &attached, out, err),
+        ServedOrder::Copy(path) => copy_for_order(side_jobs, attached, path, office, out, err),
+        ServedOrder::Journal => side_jobs.journal(office, out, err),
+    }
+}
+
+/// Does what an order asks in the office, which is open or closed, and returns the status. A closed office reports that it is
+/// closed, for anything it would do otherwise.
+fn do_asked<A: SideJobs, S: Alter, O: Sink, E: Sink>(
+    alloc: Global,
+    side_jobs: &A,
+    asked: &ServedOrder<'_>,
+    attached: AttachedFiles<'_>,
+    office: &mut Office<S>,
+    out: &mut O,
+    err: &mut E,
+) -> u8
+    requires out { O.failed out.old < 2 ^ 64 - 1 }
+    requires err { E.failed err.old < 2 ^ 64 - 1 }
+    ensures did { let outputs = outputs_of O.taken O.failed E.taken E.failed in Tells (outputs out.old err.old) (outputs out.new err.new) result
+        (λ cut page. WhenOpenAt (state S.Store) office.old office.new
+        (λ s. IsOrderOutcome (state S.Store office.old.held) office.new.closed (state S.Store office.new.held) (folder_of (message_part_entries attached.entry.files.now)) s asked.now cut page)
+        × (office.old.closed ≡ true → page ≡ shut_page asked.now)) }
+    ensures closed { office.old.closed ≡ true → office.new ≡ office.old }
+    ensures clean { HasCleanDisk (state S.Store office.new.held) → HasCleanDisk (state S.Store office.old.held) }
+{
+    if office.is_closed() {
+        return print_closed(asked, out, err);
+    }
+    do_open(alloc, side_jobs, asked, attached, office, out, err)
+}
+
+/// Does what an order asks, and sends its output in frames on its stream, which is returned. What the stream doesn't accept now
+/// stays in the response, which is sent side by side with those of others. If the allocation for the last frame fails, the response
+/// ends without it.
+fn respond_to_asked<L: Stream, A: SideJobs, S: Alter>(
+    alloc: Global,
+    side_jobs: &A,
+    asked: &ServedOrder<'_>,
+    attached: AttachedFiles<'_>,
+    stream: L,
+    office: &mut Office<S>,
+) -> (L, PendingResponse)
+    requires { HasTaken (L.taken stream) [] }
+    ensures told { IsSent (stream_of L.held L.taken L.failed) result.0 result.1.bytes.items result.1.sent }
+    ensures followed { TellsAsked (state S.Store) office.old (message_part_entries attached.entry.files.now) asked.now result.1.bytes.items office.new }
+{
+    let mut out = FrameSink::new(alloc, stream);
+    let mut err = VecSink::new(alloc);
+    let status = do_asked(
+        alloc, side_jobs, asked, attached, office, &mut out, &mut err,
+    );
+    out.end(status, err.into_bytes().as_slice())
+}
+
+/// Returns what an order asks; or that it isn't followed, if the office is to do something, and its file isn't whole.
+fn unless_gone<'w, A: SideJobs>(asked: ServedOrder<'w>, side_jobs: &A) -> ServedOrder<'w>
+    ensures { (h : OrderMessageEntry) → AsksSo h asked.entry → AsksSo h result }
+{
+    match asked {
+        ServedOrder::Do(job) => {
+            if side_jobs.is_whole() {
+                ServedOrder::Do(job)
+            } else {
+                ServedOrder::Refused(Failure::FileGone)
+            }
+        }
+        other => other,
+    }
+}
+
+/// Responds to an order that was decoded: with the output of what it asks, or with why it isn't followed.
+fn respond_to_message<L: Stream, A: SideJobs, S: Alter>(
+    alloc: Global,
+    file: FileNumbers,
+    side_jobs: &A,
+    message: &OrderMessage<'_>,
+    stream: L,
+    office: &mut Office<S>,
+) -> (L, PendingResponse)
+    requires { HasTaken (L.taken stream) [] }
+    ensures told { IsSent (stream_of L.held L.taken L.failed) result.0 result.1.bytes.items result.1.sent }
+    ensures followed { (got : List ℕ) → IsMessage got (order_message_entry message.now) → FollowsOrder file (state S.Store) office.old got result.1.bytes.items office.new }
+{
+    let none = AttachedFiles {
+        folder: &[],
+        files: &[],
+    };
+    if !is_for_file(message, file) {
+        let refused = ServedOrder::Refused(Failure::Office(Fault::Store));
+        return respond_to_asked(alloc, side_jobs, &refused, none, stream, office);
+    }
+    let words = match words_of(alloc, &message.words) {
+        Ok(words) => words,
+        Err(fault) => {
+            let refused = ServedOrder::Refused(Failure::Office(fault));
+            return respond_to_asked(alloc, side_jobs, &refused, none, stream, office);
+        }
+    };
+    let attached = AttachedFiles {
+        folder: message.folder,
+        files: &message.files,
+    };
+    let asked = unless_gone(served_order_by(alloc, &words), side_jobs);
+    respond_to_asked(alloc, side_jobs, &asked, attached, stream, office)
+}
+
+/// Responds to an order whose message was received: it is processed in the office, and its output is sent in frames on its stream,
+/// which is returned.
+///
+/// The response is fault 102, as for a file that another program holds, if the bytes are no message, or if the order is from
+/// another version of the program or for another file. For `init`, `migrate` and `serve` it is that the office is being served
+/// (111).
+pub fn answer_order<L: Stream, A: SideJobs, S: Alter>(
+    alloc: Global,
+    file: FileNumbers,
+    side_jobs: &A,
+    got: &[u8],
+    stream: L,
+    office: &mut Office<S>,
+) -> (L, PendingResponse)
+    requires fresh { HasTaken (L.taken stream) [] }
+    requires whole { HasCameWhole got.now }
+    ensures told { IsSent (stream_of L.held L.taken L.failed) result.0 result.1.bytes.items result.1.sent }
+    ensures followed { FollowsOrder file (state S.Store) office.old got.now result.1.bytes.items office.new }
+{
+    match read_message(alloc, &got[LENGTH..]) {
+        Ok(message) => respond_to_message(alloc, file, side_jobs, &message, stream, office),
+        Err(fault) => {
+            let refused = ServedOrder::Refused(Failure::Office(fault));
+            let none = AttachedFiles {
+                folder: &[],
+                files: &[],
+            };
+            respond_to_asked(alloc, side_jobs, &refused, none, stream, office)
+        }
+    }
+}

@@ -1,0 +1,85 @@
+//! What an order asks of the server.
+
+ghost use Rattle.std.specs.Prelude.{◌≡◌, ◌⊎◌, ◌↔◌, IfErr, IfOk, map, true};
+ghost use Rattle.std.specs.List.{list_all};
+ghost use Rattle.std.specs.Str.{is_utf8};
+ghost use Rattle.order_protocol.specs.Messages.{OrderMessageEntry, Fits, order_message_entry, encoding_of};
+ghost use Rattle.server.specs.ServedOrders.{AsksSo, IsForFile};
+
+use crate::server_settings::FileNumbers;
+use desk::version::VERSION;
+use desk::{Failure, Job, Order, Task, WordsFault, order};
+use order_protocol::{DecodeError, MessagePart, OrderMessage, decode_message};
+use std::alloc::Global;
+use store::Fault;
+
+/// What an order asks of the server.
+#[derive(Drop)]
+pub enum ServedOrder<'a> {
+    /// To do this in the office.
+    Do(Job<'a>),
+    /// A copy of the office at a path, at which there is nothing yet.
+    Copy(&'a str),
+    /// The journal of the office.
+    Journal,
+    /// Nothing that is followed, for this reason.
+    Refused(Failure),
+    /// Nothing: its words are no order.
+    Misread(WordsFault),
+}
+
+/// Decodes the order of a message. The errors are that an allocation failed, and that the bytes are no message.
+pub fn read_message<'b>(alloc: Global, message: &'b [u8]) -> Result<OrderMessage<'b>, Fault>
+    ensures ok { IfOk result (λ h. Fits (order_message_entry h) × (message.now ≡ encoding_of (order_message_entry h))) }
+    ensures err { IfErr result (λ fault. (fault ≡ Fault.Memory) ⊎ ((fault ≡ Fault.Store) × ((h : OrderMessageEntry) → Fits h → message.now ≡ encoding_of h → ⊥))) }
+{
+    match decode_message(alloc, message) {
+        Ok(handed) => Ok(handed),
+        Err(DecodeError::Memory) => Err(Fault::Memory),
+        Err(DecodeError::FormatError(_)) => Err(Fault::Store),
+    }
+}
+
+/// Returns the words of an order. The errors are that an allocation failed, and that a word isn't UTF-8.
+pub fn words_of<'b>(alloc: Global, words: &[MessagePart<'b>]) -> Result<Vec<&'b str>, Fault>
+    ensures ok { IfOk result (λ texts. map (λ text. text.now) texts.items ≡ map (λ p. p.name.now) words.now) }
+    ensures err { IfErr result (λ fault. (fault ≡ Fault.Memory) ⊎ ((fault ≡ Fault.Store) × (list_all is_utf8 (map (λ p. p.name.now) words.now) ≡ true → ⊥))) }
+{
+    let mut texts = Vec::new(alloc);
+    for word in words {
+        match str::from_utf8(word.name) {
+            Ok(text) => {
+                if texts.push(text).is_err() {
+                    return Err(Fault::Memory);
+                }
+            }
+            Err(_) => return Err(Fault::Store),
+        }
+    }
+    Ok(texts)
+}
+
+/// Returns whether an order comes from this version of the program, and is for the file that is served.
+pub fn is_for_file(handed: &OrderMessage<'_>, file: FileNumbers) -> bool
+    ensures { (result ≡ true) ↔ IsForFile file (order_message_entry handed.now) }
+{
+    handed.version == VERSION.as_bytes()
+        && handed.device == file.device
+        && handed.inode == file.inode
+}
+
+/// Returns what an order asks that is for the file that is served. For `init`, `migrate` and `serve` that is refused: the office is
+/// being served.
+pub fn served_order_by<'w>(alloc: Global, words: &'w [&'w str]) -> ServedOrder<'w>
+    ensures { (h : OrderMessageEntry) → map (λ p. p.name) h.words ≡ map (λ word. word.now) words.entry.now → AsksSo h result }
+{
+    match order(alloc, words) {
+        Ok(Order::Perform(Task::InOffice(job))) => ServedOrder::Do(job),
+        Ok(Order::Copy { path }) => ServedOrder::Copy(path),
+        Ok(Order::Journal) => ServedOrder::Journal,
+        Ok(
+            Order::Perform(Task::Init | Task::Migrate) | Order::Serve { .. } | Order::Codes { .. },
+        ) => { ServedOrder::Refused(Failure::BeingServed) }
+        Err(fault) => ServedOrder::Misread(fault),
+    }
+}

@@ -1,0 +1,53 @@
+//! What a server keeps in memory.
+
+ghost use Rattle.std.specs.Prelude.{◌≡◌, [], option_map};
+ghost use Rattle.codes.specs.RateLimits.{limit_entry, none_wrong};
+ghost use Rattle.wire.specs.Gates.{authentication_entry};
+ghost use Rattle.server.specs.Reads.{memory_entry, limit_after, must_wait, reads_in};
+
+use crate::read_cache::ReadCache;
+use codes::RateLimit;
+use std::alloc::Global;
+use wire::Authentication;
+
+/// The cache of reads; and the wrong codes that came.
+#[derive(Drop)]
+pub struct ServerMemory {
+    pub reads: ReadCache,
+    pub limit: RateLimit,
+}
+
+impl ServerMemory {
+    /// Returns a memory without responses, and without wrong codes. Allocates nothing.
+    pub fn new(alloc: Global) -> ServerMemory
+        ensures { memory_entry result ≡ record { reads = []; limit = none_wrong } }
+    {
+        ServerMemory {
+            reads: ReadCache::new(alloc),
+            limit: RateLimit::new(),
+        }
+    }
+
+    /// Returns whether a client must wait at a moment: its code is wrong, and the rate limit is reached.
+    pub fn must_wait(&self, authentication: Option<Authentication>, now: u64) -> bool
+        ensures { result ≡ must_wait (option_map authentication_entry authentication) now (limit_entry self.now.limit) }
+    {
+        match authentication {
+            Some(authentication) => authentication.is_wrong && self.limit.is_reached(now),
+            None => false,
+        }
+    }
+
+    /// Counts a wrong code, if this client sent one.
+    pub fn note(&mut self, authentication: Option<Authentication>, now: u64)
+        ensures reads { reads_in self.new.reads ≡ reads_in self.old.reads }
+        ensures limit { limit_entry self.new.limit ≡ limit_after (option_map authentication_entry authentication) now (limit_entry self.old.limit) }
+    {
+        let Some(authentication) = authentication else {
+            return;
+        };
+        if authentication.is_wrong {
+            self.limit.count_wrong(now);
+        }
+    }
+}

@@ -1,0 +1,50 @@
+//! What an order needs next to the office that is open: a new file for a copy, and an empty database for the trial of a journal.
+
+ghost use Rattle.std.specs.Prelude.{◌≡◌, ◌-◌, ◌^◌, ◌<◌, true};
+ghost use Rattle.sqlite.specs.Held.{state};
+ghost use Rattle.sqlite.specs.State.{HasCleanDisk};
+ghost use Rattle.office.specs.Answers.{IsReadAt, WhenOpenAt};
+ghost use Rattle.desk.specs.Journals.{IsJournalTold};
+ghost use Rattle.desk.specs.Pages.{Tells, outputs_of};
+ghost use Rattle.server.specs.ServedOrders.{IsCopyTold};
+
+use office::Office;
+use sqlite::Alter;
+use votes::Sink;
+
+/// Copies an open office to a new file, and prints its journal. The office continues, and is only read; the program decides which
+/// files these are.
+pub trait SideJobs {
+    /// Returns whether the file of the office is still there, whole, and no other in its place. Nothing can be promised of a file.
+    fn is_whole(&self) -> bool;
+
+    /// Copies the office to the file at a path, as seen from a folder, and prints how much the copy has.
+    fn copy<S: Alter, O: Sink, E: Sink>(
+        &self,
+        office: &mut Office<S>,
+        folder: &str,
+        path: &str,
+        out: &mut O,
+        err: &mut E,
+    ) -> u8
+        requires out { O.failed out.old < 2 ^ 64 - 1 }
+        requires err { E.failed err.old < 2 ^ 64 - 1 }
+        ensures told { let outputs = outputs_of O.taken O.failed E.taken E.failed in Tells (outputs out.old err.old) (outputs out.new err.new) result
+            (λ _ page. WhenOpenAt (state S.Store) office.old office.new (λ s. IsCopyTold s page)) }
+        ensures stays { WhenOpenAt (state S.Store) office.old office.new (λ s. IsReadAt s office.new.closed (state S.Store office.new.held)) }
+        ensures clean { HasCleanDisk (state S.Store office.new.held) → HasCleanDisk (state S.Store office.old.held) };
+
+    /// Prints the journal of the office.
+    fn journal<S: Alter, O: Sink, E: Sink>(
+        &self,
+        office: &mut Office<S>,
+        out: &mut O,
+        err: &mut E,
+    ) -> u8
+        requires out { O.failed out.old < 2 ^ 64 - 1 }
+        requires err { E.failed err.old < 2 ^ 64 - 1 }
+        ensures told { let outputs = outputs_of O.taken O.failed E.taken E.failed in Tells (outputs out.old err.old) (outputs out.new err.new) result
+            (λ _ page. WhenOpenAt (state S.Store) office.old office.new (λ s. IsJournalTold s page)) }
+        ensures stays { WhenOpenAt (state S.Store) office.old office.new (λ s. IsReadAt s office.new.closed (state S.Store office.new.held)) }
+        ensures clean { HasCleanDisk (state S.Store office.new.held) → HasCleanDisk (state S.Store office.old.held) };
+}

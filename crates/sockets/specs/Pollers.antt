@@ -1,0 +1,70 @@
+-- What is polled.
+use Rattle.std.specs.Prelude.{◌≡◌, ⊤, Bool, true, false, Option, Some, None}
+use Rattle.mio.specs.declared.net.uds.listener.UnixListener.{UnixListener}
+use Rattle.connections.specs.declared.client.Listener.{Listener}
+use Rattle.connections.specs.declared.client.Listener.TheVariants as listeners
+use Rattle.connections.specs.declared.network.AcceptOutcome.{AcceptOutcome}
+use Rattle.connections.specs.declared.network.AcceptOutcome.TheVariants.{One, Nobody, NotNow, Full}
+use Rattle.sockets.specs.declared.loopback.Address.{Address}
+use Rattle.sockets.specs.declared.loopback.Address.TheVariants.{Ipv4, Ipv6}
+use Rattle.sockets.specs.declared.loopback.Loopback.{Loopback}
+use Rattle.sockets.specs.declared.socket.Socket.{Socket}
+use Rattle.sockets.specs.declared.socket.Socket.TheVariants as lines
+use Rattle.sockets.specs.declared.poller.Waiting.{Waiting}
+use Rattle.sockets.specs.declared.poller.Waiting.TheVariants as waiting
+use Rattle.sockets.specs.declared.poller.Poller.{Poller}
+use Rattle.connections.specs.Tables.{NetworkEntry}
+
+-- a listener is polled, otherwise as before; or there is none
+abbrev pub IsWatched : {S : Type 0} → (S → S → Type 0) → Option S → Option S → Type 0
+IsWatched keeps None None = ⊤
+IsWatched keeps (Some old) (Some new) = keeps old new
+IsWatched keeps None (Some new) = ⊥
+IsWatched keeps (Some old) None = ⊥
+
+-- the other loopback address
+abbrev pub other_address : Address → Address
+other_address Ipv4 = Ipv6
+other_address Ipv6 = Ipv4
+
+-- the listeners of clients: at 127.0.0.1 and, if there is one, at [::1]
+abbrev pub clients_of : Poller → Loopback
+clients_of poller = poller.clients
+
+-- the listener of orders, if there is one
+abbrev pub orders_of : Poller → Option UnixListener
+orders_of poller = poller.orders
+
+-- the socket is of the listener's kind: a client's comes through the port, an order's through the file next to the database
+abbrev pub FitsListener : Listener → Socket → Type 0
+FitsListener listeners.Clients (lines.Client stream) = ⊤
+FitsListener listeners.Clients (lines.Order stream) = ⊥
+FitsListener listeners.Orders (lines.Client stream) = ⊥
+FitsListener listeners.Orders (lines.Order stream) = ⊤
+
+-- a connection was accepted at this listener, and its socket is of the listener's kind
+abbrev pub IsAtListener : Listener → AcceptOutcome Socket → Type 0
+IsAtListener listener (One accepted) = (accepted.listener ≡ listener) × FitsListener listener accepted.stream
+IsAtListener listener Nobody = ⊤
+IsAtListener listener NotNow = ⊤
+IsAtListener listener Full = ⊤
+
+-- the socket of an accepted connection is of its listener's kind: so no order comes through the port
+abbrev pub ComesByListener : AcceptOutcome Socket → Type 0
+ComesByListener (One accepted) = FitsListener accepted.listener accepted.stream
+ComesByListener Nobody = ⊤
+ComesByListener NotNow = ⊤
+ComesByListener Full = ⊤
+
+-- a connection may be pending, unless it is known that none is
+abbrev pub is_known_waiting : Waiting → Bool
+is_known_waiting waiting.Nobody = false
+is_known_waiting waiting.Unknown = true
+is_known_waiting waiting.Somebody = true
+
+abbrev pub has_pending : Poller → Bool
+has_pending poller = is_known_waiting poller.waiting
+
+-- nothing is known of sockets: neither which connections came and were closed, nor how many calls failed, nor what the clock showed
+abbrev pub unknown : {L : Type 0} → NetworkEntry L
+unknown = record { came = None; left = None; failed = None; waits = None; events = None }

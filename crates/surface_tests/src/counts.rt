@@ -1,0 +1,119 @@
+//! Of `count`: both books, their stages, and what is due.
+
+ghost use Rattle.std.specs.Prelude.{◌≡◌, map, reverse, length, ◌<◌};
+ghost use Rattle.count.specs.Books.{placed};
+ghost use Rattle.count.specs.Bundles.{papers_of};
+ghost use Rattle.count.specs.Law.Contest.{IsContest, contest_for};
+ghost use Rattle.count.specs.Law.Places.{place as place_of};
+ghost use Rattle.count.specs.Law.Right.{IsRight, IsRightForSome};
+
+use count::{
+    Action, AdvanceError, BundleBook, Bundles, CountBook, CountEnd, Due, Kind, ParcelBook, Placed,
+    Stage, is_bundled_contest, is_contest, run_count,
+};
+use paper::{Columns, Prefs};
+use std::alloc::{AllocError, Global};
+use std::process::Abort;
+use std::test::Fail;
+
+fn stages<B: CountBook>(book: &B) -> &[Stage] {
+    book.stages()
+}
+
+fn due<B: CountBook>(book: &B) -> Due {
+    book.due()
+}
+
+fn advance<B: CountBook>(book: &mut B, lot: Option<u8>) -> Result<(), AdvanceError> {
+    book.advance(lot)
+}
+
+fn run<B: CountBook>(book: &mut B, lots: &[(u8, u8)]) -> Result<CountEnd, AllocError>
+    requires { IsRight (B.contest book.old) lots.now (B.history book.old) }
+{
+    run_count(book, lots)
+}
+
+fn resume<'a>(
+    alloc: Global,
+    candidates: Columns,
+    seats: u8,
+    bundles: &'a Bundles,
+    places: &[Placed],
+    stages: &[Stage],
+) -> Result<BundleBook<'a>, AllocError>
+    requires contest { IsContest (contest_for candidates seats (papers_of bundles.now)) }
+    requires right { IsRightForSome (contest_for candidates seats (papers_of bundles.now)) (reverse stages.now) }
+    requires places { places.now ≡ map (λ b. placed (place_of (contest_for candidates seats (papers_of bundles.now)) (reverse stages.now) b.0)) bundles.now }
+{
+    BundleBook::resume(alloc, candidates, seats, bundles, places, stages)
+}
+
+fn place(book: &BundleBook<'_>, i: usize) -> Placed
+    requires { i < length book.now.bundles }
+{
+    book.place(i)
+}
+
+/// Who is tied for a surplus.
+fn tied_for_surplus(due: &Due) -> Option<(u8, Columns)> {
+    match due {
+        Due::Lot {
+            stage,
+            kind: Kind::Surplus,
+            among,
+        } => Some((*stage, *among)),
+        _ => None,
+    }
+}
+
+/// Whom an action is about, 0 for no one.
+fn candidate_of(action: Action) -> u8 {
+    match action {
+        Action::First => 0,
+        Action::Surplus(c) => c,
+        Action::Exclude(c) => c,
+        Action::ExcludeLast(c) => c,
+    }
+}
+
+/// Two candidates for one seat.
+fn two() -> Columns {
+    Columns::empty().with(1).with(2)
+}
+
+/// The end of a count of no papers by parcels, and of one by bundles: each waits for a lot.
+fn ends(rt: &impl Abort, alloc: Global, papers: &[Prefs]) -> Result<(CountEnd, CountEnd), Fail> {
+    let candidates = two();
+    assert!(rt; is_contest(&candidates, 1, papers));
+    let mut by_parcels = ParcelBook::new(alloc, candidates, 1, papers)?;
+    let bundles = Bundles::new(alloc);
+    assert!(rt; is_bundled_contest(&candidates, 1, &bundles));
+    let mut by_bundles = BundleBook::new(alloc, candidates, 1, &bundles)?;
+    Ok((run(&mut by_parcels, &[])?, run(&mut by_bundles, &[])?))
+}
+
+/// A list and how many papers have it, of one paper that is added.
+fn added(alloc: Global, paper: Prefs) -> Result<(u32, usize, u32), AllocError> {
+    let mut bundles = Bundles::new(alloc);
+    bundles.add(paper)?;
+    let (papers, len) = (bundles.papers(), bundles.len());
+    if len == 0 {
+        return Ok((papers, len, 0));
+    }
+    let (_, equal) = bundles.get(0);
+    Ok((papers, len, equal))
+}
+
+#[test]
+fn counts_keep_their_calls(rt: HostRuntime) -> Result<(), Fail> {
+    let (by_parcels, by_bundles) = ends(&rt, rt.alloc(), &[])?;
+    let among = two();
+    assert_eq!(&rt; by_parcels, CountEnd::LotNeeded { stage: 2, among });
+    assert_eq!(&rt; by_bundles, by_parcels);
+    let paper = Prefs::from_slice(&[2]).ok_or("no ranking")?;
+    assert_eq!(&rt; added(rt.alloc(), paper)?, (1, 1, 1));
+    assert_eq!(&rt; candidate_of(Action::Surplus(2)), 2);
+    assert!(&rt; tied_for_surplus(&Due::Finished).is_none());
+    Ok(())
+}

@@ -1,9 +1,0 @@
--- Why `clerk_under` keeps its promise.
-use Rattle.std.proofs.Common.{◌-◌, drop, length, take}
-use Rattle.wire.proofs.KnockLemmas.{digits-text}
-use Rattle.wire.proofs.knock.clerk_under.Goals as goal
-
-pub returns-in-Err : goal.returns-in-Err
-returns-in-Err c =
-    let target = c.args.target.now in
-    absurd (c.in-Err.ensures.cases.0 (rw c.digits_length-length.ensures.is (digits-text (take (length target - 8) (drop 8 target)))))

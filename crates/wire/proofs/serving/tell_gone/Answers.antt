@@ -1,6 +1,0 @@
--- Why `tell_gone` keeps its promise.
-use Rattle.wire.proofs.ServingLemmas.{IsServed-put}
-use Rattle.wire.proofs.serving.tell_gone.Goals as goal
-
-pub returns-clause-told : goal.returns-clause-told
-returns-clause-told g c = IsServed-put _ (g.W.Sink.taken c.args.writer.now) (g.W.Sink.taken c.put.new.writer) c.gone.result c.put.result c.gone.ensures c.put.ensures.puts

@@ -1,7 +1,0 @@
--- Why `tell_to_wait` keeps its promise.
-use Rattle.wire.proofs.ServingLemmas.{IsServed-put}
-use Rattle.wire.proofs.serving.tell_to_wait.Goals as goal
-
--- the name of this goal is a guess: nothing has checked it yet
-pub returns-clause-told : goal.returns-clause-told
-returns-clause-told g c = IsServed-put _ (g.W.Sink.taken c.args.writer.now) (g.W.Sink.taken c.put.new.writer) c.waits.result c.put.result c.waits.ensures c.put.ensures.puts

@@ -1,0 +1,6 @@
+-- Why `write_gone_response` keeps its promise.
+use Rattle.wire.proofs.ServingLemmas.{IsServed-put}
+use Rattle.wire.proofs.serving.write_gone_response.Goals as goal
+
+pub returns-clause-told : goal.returns-clause-told
+returns-clause-told g c = IsServed-put _ (g.W.Sink.taken c.args.writer.now) (g.W.Sink.taken c.put.new.writer) c.gone.result c.put.result c.gone.ensures c.put.ensures.puts

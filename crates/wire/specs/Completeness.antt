@@ -1,0 +1,19 @@
+-- Whether a request is complete of which some bytes came.
+use Rattle.std.specs.Prelude.{◌<◌, ◌++◌, List, length, ℕ}
+use Rattle.wire.specs.Requests.{HttpRequestEntry, Asks, IsWanting}
+use Rattle.wire.specs.Gates.{HttpSettingsEntry}
+use Rattle.wire.specs.declared.completeness.Completeness.{Completeness}
+use Rattle.wire.specs.declared.completeness.Completeness.TheVariants.{Complete, AtLeast}
+
+-- the bytes ask the same whatever follows them
+abbrev pub IsWhole : HttpSettingsEntry → List ℕ → Type 0
+IsWhole settings got = (more : List ℕ) (asked : HttpRequestEntry) → Asks settings got asked → Asks settings (got ++ more) asked
+
+-- whatever follows them, fewer bytes than so many in all don't say yet what is asked
+abbrev pub IsShortOf : HttpSettingsEntry → List ℕ → ℕ → Type 0
+IsShortOf settings got least = (more : List ℕ) → length (got ++ more) < least → IsWanting settings (got ++ more)
+
+-- They are complete; or they, and any fewer than so many bytes in all, don't say yet what is asked.
+abbrev pub IsCompletenessOf : HttpSettingsEntry → List ℕ → Completeness → Type 0
+IsCompletenessOf settings got Complete = IsWhole settings got
+IsCompletenessOf settings got (AtLeast least) = IsWanting settings got × (length got < least) × IsShortOf settings got least

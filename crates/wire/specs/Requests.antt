@@ -1,0 +1,207 @@
+-- What a request asks, or why it is rejected before the office is asked: by its head and the bytes that follow it.
+use Rattle.std.specs.Prelude.{◌≡◌, ◌⊎◌, ◌+◌, ◌<◌, ◌++◌, ⊤, Bool, List, [], ◌∷◌, Option, Some, None, Result}
+use Rattle.std.specs.Prelude.{Ok, Err, bytes_eq, codes, drop, false, if◌then◌else◌, length, map, option_and_then, string_bytes, take, true, ℕ}
+use Rattle.std.specs.Io.KnownBytes.{Consumes}
+use Rattle.httparse.specs.Grammar.{RequestHead}
+use Rattle.httparse.specs.Spans.{header_bytes, name_and_value, span_bytes}
+use Rattle.httparse.specs.declared.spans.HeaderSpan.{HeaderSpan}
+use Rattle.httparse.specs.declared.spans.RequestSpans.{RequestSpans}
+use Rattle.codes.specs.Codes.{is_of}
+use Rattle.wire.specs.declared.request.HttpRequest.{HttpRequest}
+use Rattle.wire.specs.declared.request.HttpRequest.TheVariants.{Denied, Keying, Resource as Reads, Shown}
+use Rattle.wire.specs.declared.settings.Show.{Show}
+use Rattle.wire.specs.declared.settings.Show.TheVariants.{Left, Page}
+use Rattle.wire.specs.declared.read_failure.ReadFailure.{ReadFailure}
+use Rattle.wire.specs.declared.read_failure.ReadFailure.TheVariants.{Broken, Memory}
+use Rattle.wire.specs.declared.request_error.RequestError.{RequestError}
+use Rattle.wire.specs.declared.request_error.RequestError.TheVariants.{BadRequest, Forbidden, MethodNotAllowed, NotFound}
+use Rattle.wire.specs.declared.request_error.Verb.{Verb}
+use Rattle.wire.specs.declared.request_error.Verb.TheVariants.{Get, Post}
+use Rattle.wire.specs.declared.target.Resource.{Resource}
+use Rattle.wire.specs.declared.target.Target.{Target}
+use Rattle.wire.specs.declared.target.Target.TheVariants as target
+use Rattle.wire.specs.Bodies.{KeyingEntry, body_in, keying_of}
+use Rattle.wire.specs.Gates.{GateEntry, HttpSettingsEntry, PageEntry, clerk_under, kept_out, page_entry, reader_of, sent_codes, served_at}
+use Rattle.wire.specs.Heads.{BeginsWith, HasNoHead, IsHeadWanting}
+use Rattle.wire.specs.Lengths.{NamedValue, body_length}
+use Rattle.wire.specs.Origins.{is_foreign}
+use Rattle.wire.specs.Targets.{named_by}
+
+-- what is shown to a clerk whatever the state is: the clerk's page; or that the clerk is signed out, and the browser is to forget the code
+pub data ShowEntry : Type 0 where
+  page : PageEntry → ShowEntry
+  has_left : ShowEntry
+
+abbrev pub show_entry : Show → ShowEntry
+show_entry (Page its) = page (page_entry its)
+show_entry Left = has_left
+
+-- what is asked: nothing, since it is rejected; to be shown something for a clerk; to keep a clerk's keying of a batch; or to read
+pub data HttpRequestEntry : Type 0 where
+  denied : RequestError → HttpRequestEntry
+  shown : ℕ → ShowEntry → HttpRequestEntry
+  keying : ℕ → ℕ → KeyingEntry → HttpRequestEntry
+  reading : Resource → HttpRequestEntry
+
+-- what is asked, as it was read
+abbrev pub http_request_entry : HttpRequest → HttpRequestEntry
+http_request_entry (Denied why) = denied why
+http_request_entry (Shown clerk show) = shown clerk (show_entry show)
+http_request_entry (Keying k) = keying k.clerk k.batch (record { id = string_bytes k.id; round = k.round; papers = map string_bytes k.papers.items })
+http_request_entry (Reads what) = reading what
+
+-- why a request wasn't read, by what the source counts: one failure more, or none if an allocation failed
+abbrev pub IsUnread : ℕ → ℕ → ReadFailure → Type 0
+IsUnread old new Broken = new ≡ old + 1
+IsUnread old new Memory = new ≡ old
+
+-- a verb as it is written
+abbrev pub verb_text : Verb → List ℕ
+verb_text Get = codes "GET"
+verb_text Post = codes "POST"
+
+-- the only verb for a target
+abbrev pub verb_of : Target → Verb
+verb_of (target.Keying clerk batch) = Post
+verb_of (target.Page clerk) = Get
+verb_of (target.Leave clerk) = Get
+verb_of (target.Resource what) = Get
+
+-- a clerk's keying, by its body
+abbrev pub asked_in : ℕ → ℕ → Option KeyingEntry → HttpRequestEntry
+asked_in clerk batch (Some entry) = keying clerk batch entry
+asked_in clerk batch None = denied BadRequest
+
+-- a clerk's keying, by the length of its body and the bytes that follow the head
+abbrev pub asked_with : ℕ → ℕ → Result ℕ RequestError → List ℕ → HttpRequestEntry
+asked_with clerk batch (Ok n) behind = asked_in clerk batch (option_and_then keying_of (body_in n behind))
+asked_with clerk batch (Err why) behind = denied why
+
+-- what is asked for there, if the verb is the right one
+abbrev pub asked_for : List ℕ → Option Target → Result Target RequestError
+asked_for method None = Err NotFound
+asked_for method (Some there) = if bytes_eq method (verb_text (verb_of there)) then Ok there else Err (MethodNotAllowed (verb_of there))
+
+-- the same if authentication didn't fail
+abbrev pub let_in : Option RequestError → List ℕ → Option Target → Result Target RequestError
+let_in (Some why) method there = Err why
+let_in None method there = asked_for method there
+
+-- what is asked for after the gate: nothing if authentication failed there, whatever the target names
+abbrev pub wanted_behind : Option GateEntry → List NamedValue → List ℕ → List ℕ → Result Target RequestError
+wanted_behind gate fields method target = let_in (kept_out gate (clerk_under target) fields) method (served_at gate (named_by target))
+
+-- what is asked for by a request with these header fields: nothing by a foreign one
+abbrev pub wanted_by : Bool → Option GateEntry → List NamedValue → List ℕ → List ℕ → Result Target RequestError
+wanted_by true gate fields method target = Err Forbidden
+wanted_by false gate fields method target = wanted_behind gate fields method target
+
+abbrev pub wanted : HttpSettingsEntry → List NamedValue → List ℕ → List ℕ → Result Target RequestError
+wanted settings fields method target = wanted_by (is_foreign settings.origin fields) settings.gate fields method target
+
+-- the page of a gate, for a clerk
+abbrev pub page_at : Option GateEntry → ℕ → HttpRequestEntry
+page_at None clerk = denied NotFound
+page_at (Some gate) clerk = shown clerk (page gate.page)
+
+-- what is asked of it; except for a keying, neither the length of a body nor any byte after the head counts
+abbrev pub asked_of : Option GateEntry → Result Target RequestError → Result ℕ RequestError → List ℕ → HttpRequestEntry
+asked_of gate (Ok (target.Keying clerk batch)) size behind = asked_with clerk batch size behind
+asked_of gate (Ok (target.Page clerk)) size behind = page_at gate clerk
+asked_of gate (Ok (target.Leave clerk)) size behind = shown clerk has_left
+asked_of gate (Ok (target.Resource what)) size behind = reading what
+asked_of gate (Err why) size behind = denied why
+
+-- what a head and the bytes that follow it ask, by these settings
+abbrev pub asked_by : HttpSettingsEntry → RequestHead → List ℕ → HttpRequestEntry
+asked_by settings head behind =
+    asked_of settings.gate (wanted settings (map name_and_value head.fields) head.method head.target) (body_length (map name_and_value head.fields)) behind
+
+-- the same for a head that was found in what was read, and for what is left
+abbrev pub asked_at : HttpSettingsEntry → List ℕ → List HeaderSpan → RequestSpans → List ℕ → HttpRequestEntry
+asked_at settings got headers spans left =
+    asked_of settings.gate (wanted settings (map (header_bytes got) (take spans.headers headers)) (span_bytes got spans.method) (span_bytes got spans.path))
+    (body_length (map (header_bytes got) (take spans.headers headers))) (drop spans.len got ++ left)
+
+-- what the bytes that a client sends ask
+abbrev pub Asks : HttpSettingsEntry → List ℕ → HttpRequestEntry → Type 0
+Asks settings bytes asked =
+    (HasNoHead bytes × (asked ≡ denied BadRequest)) ⊎ ((head : RequestHead) × (behind : List ℕ) × BeginsWith bytes head behind × (asked ≡ asked_by settings head behind))
+
+-- the same bytes ask one thing
+abbrev pub AsksOneThing : HttpSettingsEntry → List ℕ → Type 0
+AsksOneThing settings bytes = (one two : HttpRequestEntry) → Asks settings bytes one → Asks settings bytes two → one ≡ two
+
+-- A request that a page from elsewhere sent, or that came by a foreign name, asks nothing but to be rejected, whatever else it says.
+abbrev pub DeniesForeign : HttpSettingsEntry → List ℕ → Type 0
+DeniesForeign settings bytes =
+    (head : RequestHead) (behind : List ℕ) → BeginsWith bytes head behind → is_foreign settings.origin (map name_and_value head.fields) ≡ true
+    → (asked : HttpRequestEntry) → Asks settings bytes asked → asked ≡ denied Forbidden
+
+-- Every other one asks what its target names, whatever origin the settings have, unless authentication fails at the gate.
+abbrev pub TakesOwn : HttpSettingsEntry → List ℕ → Type 0
+TakesOwn settings bytes =
+    (head : RequestHead) (behind : List ℕ) → BeginsWith bytes head behind → is_foreign settings.origin (map name_and_value head.fields) ≡ false
+    → (asked : HttpRequestEntry) → Asks settings bytes asked
+    → asked ≡ asked_of settings.gate (wanted_behind settings.gate (map name_and_value head.fields) head.method head.target) (body_length (map name_and_value head.fields)) behind
+
+-- the clerk under whose number something is asked: the page, signing out, a keying, the work, or the candidates of a batch
+abbrev pub clerk_asked : HttpRequestEntry → Option ℕ
+clerk_asked (denied why) = None
+clerk_asked (shown clerk show) = Some clerk
+clerk_asked (keying clerk batch entry) = Some clerk
+clerk_asked (reading what) = reader_of what
+
+-- A request has a clerk's code: it has one `Authorization`, and that is this clerk's.
+pub record HoldsCode (gate : GateEntry) (clerk : ℕ) (fields : List NamedValue) : Type 0 where
+  pub value : List ℕ
+  pub once : sent_codes fields ≡ value ∷ []
+  pub is_his : is_of gate.holders clerk value ≡ true
+
+-- At a gate, what is asked under a clerk's number is asked only by the holder of that clerk's code. Anyone else who asks for it asks nothing but to be rejected.
+abbrev pub AsksByHolder : HttpSettingsEntry → List ℕ → Type 0
+AsksByHolder settings bytes =
+    (head : RequestHead) (behind : List ℕ) → BeginsWith bytes head behind → (asked : HttpRequestEntry) → Asks settings bytes asked
+    → (clerk : ℕ) → clerk_asked asked ≡ Some clerk → (gate : GateEntry) → settings.gate ≡ Some gate → HoldsCode gate clerk (map name_and_value head.fields)
+
+-- ---- what doesn't say yet what is asked
+
+-- fewer bytes follow the head than the length of its body
+abbrev pub MissesBody : Result ℕ RequestError → List ℕ → Type 0
+MissesBody (Ok n) behind = length behind < n
+MissesBody (Err why) behind = ⊥
+
+-- what is asked for needs more than the bytes that follow the head: only a keying does, until its body is complete
+abbrev pub MissesBytes : Result Target RequestError → Result ℕ RequestError → List ℕ → Type 0
+MissesBytes (Ok (target.Keying clerk batch)) size behind = MissesBody size behind
+MissesBytes (Ok (target.Page clerk)) size behind = ⊥
+MissesBytes (Ok (target.Leave clerk)) size behind = ⊥
+MissesBytes (Ok (target.Resource what)) size behind = ⊥
+MissesBytes (Err why) size behind = ⊥
+
+-- the same for a head and the bytes that follow it
+abbrev pub MissesBehind : HttpSettingsEntry → RequestHead → List ℕ → Type 0
+MissesBehind settings head behind = MissesBytes (wanted settings (map name_and_value head.fields) head.method head.target) (body_length (map name_and_value head.fields)) behind
+
+-- the same for a head that was found in what was read, and for the bytes that follow it
+abbrev pub MissesFound : HttpSettingsEntry → List ℕ → List HeaderSpan → RequestSpans → List ℕ → Type 0
+MissesFound settings got headers spans behind =
+    MissesBytes (wanted settings (map (header_bytes got) (take spans.headers headers)) (span_bytes got spans.method) (span_bytes got spans.path))
+    (body_length (map (header_bytes got) (take spans.headers headers))) behind
+
+-- the same for the bytes that were read with the head, and for what was read then
+abbrev pub MissesAt : HttpSettingsEntry → List ℕ → List HeaderSpan → RequestSpans → List ℕ → Type 0
+MissesAt settings got headers spans more = MissesFound settings got headers spans (drop spans.len got ++ more)
+
+-- What was read doesn't say yet what is asked: it has no complete head yet, or the head of a keying whose body isn't complete.
+abbrev pub IsWanting : HttpSettingsEntry → List ℕ → Type 0
+IsWanting settings got = IsHeadWanting got ⊎ ((head : RequestHead) × (behind : List ℕ) × BeginsWith got head behind × MissesBehind settings head behind)
+
+-- something was read for which P holds, and of known bytes exactly that
+abbrev pub HasRead : Option (List ℕ) → Option (List ℕ) → (List ℕ → Type 0) → Type 0
+HasRead old new P = (got : List ℕ) × Consumes old new got × P got
+
+-- if the source failed, P holds for what was read before
+abbrev pub FailsAfter : Option (List ℕ) → Option (List ℕ) → (List ℕ → Type 0) → ReadFailure → Type 0
+FailsAfter old new P Broken = HasRead old new P
+FailsAfter old new P Memory = ⊤

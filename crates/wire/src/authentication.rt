@@ -1,0 +1,154 @@
+//! Whose code came with a request, at the gate.
+
+ghost use Rattle.std.specs.Prelude.{◌≡◌, ◌≤◌, length, map, option_map};
+ghost use Rattle.std.specs.Char.{is_ascii_digit};
+ghost use Rattle.std.specs.List.{All, prefix_len};
+ghost use Rattle.httparse.specs.Spans.{IsHeaderWithin, header_bytes};
+ghost use Rattle.codes.specs.Codes.{holders_of};
+ghost use Rattle.wire.specs.Gates.{IsAuthentication, clerk_under, gate_entry, settings_entry, is_wrong_code, kept_out, kept_out_by, authentication_at, authentication_entry, sent_codes};
+
+use crate::digits::number_in;
+use crate::head::{MAX_HEAD_BYTES, MAX_HEADERS};
+use crate::length::value_of;
+use crate::origin::is_foreign;
+use crate::request_error::RequestError;
+use crate::settings::{Gate, HttpSettings};
+use codes::Codes;
+use httparse::Status;
+use httparse::spans::{EMPTY_HEADER_SPAN, HeaderSpan, parse_request};
+use std::str;
+
+/// The beginning of a target that belongs to a clerk.
+const CLERKS: &[u8] = b"/clerks/";
+
+/// A request under a clerk's number, and whether a wrong code came with it.
+#[derive(Clone, Copy)]
+pub struct Authentication {
+    pub clerk: u32,
+    pub is_wrong: bool,
+}
+
+/// Returns how many digits a text begins with.
+fn digits_length(text: &[u8]) -> usize
+    ensures bound { result ≤ length text.now }
+    ensures is { result ≡ prefix_len is_ascii_digit text.now }
+{
+    let mut length = 0;
+    for byte in text {
+        if !byte.is_ascii_digit() {
+            return length;
+        }
+        length += 1;
+    }
+    length
+}
+
+/// Returns the clerk whose number is in a target, whether something is served there or not.
+pub(crate) fn clerk_under(target: &[u8]) -> Option<u32>
+    ensures { result ≡ clerk_under target.now }
+{
+    if !target.starts_with(CLERKS) {
+        return None;
+    }
+    let behind = &target[CLERKS.len()..];
+    let length = digits_length(behind);
+    if length == behind.len() || behind[length] != b'/' {
+        return None;
+    }
+    match str::from_utf8(&behind[..length]) {
+        Ok(number) => number_in(number),
+        Err(_) => None,
+    }
+}
+
+/// Returns why authentication of a clerk failed, by the header fields, whose names and values are in a buffer.
+fn kept_out_by(
+    held: &Codes,
+    clerk: u32,
+    buffer: &[u8],
+    headers: &[HeaderSpan],
+) -> Option<RequestError>
+    requires { All (IsHeaderWithin (length buffer.now)) headers.now }
+    ensures { result ≡ kept_out_by (holders_of held.now) clerk (sent_codes (map (header_bytes buffer.now) headers.now)) }
+{
+    match value_of(buffer, headers, b"authorization") {
+        Ok(Some(value)) => {
+            if held.admits(clerk, value) {
+                None
+            } else {
+                Some(RequestError::WrongCode { clerk })
+            }
+        }
+        Ok(None) => Some(RequestError::Unauthorized { clerk }),
+        Err(_) => Some(RequestError::WrongCode { clerk }),
+    }
+}
+
+/// Returns why authentication failed at the gate, by the clerk whose number is in the target.
+pub(crate) fn kept_out(
+    gate: Option<Gate<'_>>,
+    clerk: Option<u32>,
+    buffer: &[u8],
+    headers: &[HeaderSpan],
+) -> Option<RequestError>
+    requires { All (IsHeaderWithin (length buffer.now)) headers.now }
+    ensures { result ≡ kept_out (option_map gate_entry gate.entry) clerk (map (header_bytes buffer.now) headers.now) }
+{
+    match gate {
+        Some(gate) => match clerk {
+            Some(clerk) => kept_out_by(gate.codes, clerk, buffer, headers),
+            None => None,
+        },
+        None => None,
+    }
+}
+
+/// Returns whether a code was sent, and is wrong.
+fn is_wrong_code(why: Option<RequestError>) -> bool
+    ensures { result ≡ is_wrong_code why }
+{
+    match why {
+        Some(RequestError::WrongCode { .. }) => true,
+        Some(_) => false,
+        None => false,
+    }
+}
+
+/// Returns the authentication of a request with these header fields and this target.
+fn authentication_at(
+    settings: HttpSettings<'_>,
+    buffer: &[u8],
+    headers: &[HeaderSpan],
+    target: &[u8],
+) -> Option<Authentication>
+    requires { All (IsHeaderWithin (length buffer.now)) headers.now }
+    ensures { option_map authentication_entry result ≡ authentication_at (settings_entry settings.entry) (map (header_bytes buffer.now) headers.now) target.now }
+{
+    if is_foreign(settings.origin, buffer, headers) {
+        return None;
+    }
+    let gate = settings.gate?;
+    let clerk = clerk_under(target)?;
+    let why = kept_out_by(gate.codes, clerk, buffer, headers);
+    Some(Authentication {
+        clerk,
+        is_wrong: is_wrong_code(why),
+    })
+}
+
+/// Returns the authentication of a request by its head alone, whatever its method is, and whether anything is served at its target.
+/// There is none without a gate. Allocates nothing.
+pub fn authentication_of(settings: HttpSettings<'_>, got: &[u8]) -> Option<Authentication>
+    ensures { IsAuthentication (settings_entry settings.entry) got.now (option_map authentication_entry result) }
+{
+    let mut headers = [EMPTY_HEADER_SPAN; MAX_HEADERS];
+    let front = &got[..got.len().min(MAX_HEAD_BYTES)];
+    match parse_request(front, &mut headers) {
+        Ok(Status::Complete(spans)) => {
+            let headers = &headers[..spans.headers];
+            authentication_at(settings, front, headers, spans.path.of(front))
+        }
+        Ok(Status::Partial) => None,
+        Err(_) => None,
+    }
+}

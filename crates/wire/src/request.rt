@@ -1,0 +1,297 @@
+//! What a request asks.
+
+ghost use Rattle.std.specs.Prelude.{◌≡◌, ◌≢◌, ◌-◌, ◌^◌, ◌<◌, ◌++◌, IfErr, IfOk, IfSome, List, Ok, OnOk, Option, length, map, option_map, take, ℕ};
+ghost use Rattle.wire.specs.Requests.{Asks, AsksByHolder, AsksOneThing, ShowEntry, DeniesForeign, FailsAfter, IsUnread, IsWanting, MissesAt};
+ghost use Rattle.wire.specs.Requests.{MissesBody, TakesOwn, asked_at, http_request_entry, asked_for, asked_with, page_at, verb_of, verb_text, wanted};
+ghost use Rattle.wire.specs.Gates.{GateEntry, HttpSettingsEntry, gate_entry, settings_entry, needs_gate, reading_needs_gate, served_at};
+ghost use Rattle.wire.specs.Targets.{NamesItsOwn, named_by};
+ghost use Rattle.wire.specs.Serving.{IsDeniedAlike, IsShownAlike};
+ghost use Rattle.wire.specs.declared.request_error.RequestError.{RequestError};
+ghost use Rattle.httparse.specs.Spans.{IsHeaderWithin, IsRequestWithin, header_bytes, span_bytes};
+ghost use Rattle.std.specs.List.{All};
+
+use crate::authentication::{clerk_under, kept_out};
+use crate::body::{KeyingBody, keying_of, read_body};
+use crate::head::{MAX_HEAD_BYTES, MAX_HEADERS, read_head};
+use crate::length::body_length;
+use crate::origin::is_foreign;
+use crate::read_failure::ReadFailure;
+use crate::request_error::{RequestError, Verb};
+use crate::settings::{Gate, HttpSettings, Show};
+use crate::target::{Resource, Target, named_by};
+use httparse::spans::{EMPTY_HEADER_SPAN, HeaderSpan, RequestSpans};
+use std::alloc::{AllocError, Global};
+use votes::Source;
+
+/// A clerk's keying of a batch in a round: its id, and the marks text of each paper. Clerk and batch have 1 to 5 digits, and the
+/// round is any number of 32 bits. Whether they are in range is decided when the keying is handled.
+#[derive(Drop)]
+pub struct Keying {
+    pub clerk: u32,
+    pub batch: u32,
+    pub id: String,
+    pub round: u32,
+    pub papers: Vec<String>,
+}
+
+/// What a request asks.
+#[derive(Drop)]
+pub enum HttpRequest<'a> {
+    /// Nothing that the office could be asked.
+    Denied(RequestError),
+    /// To be shown something for a clerk, whatever the office's state is.
+    Shown(u32, Show<'a>),
+    /// To keep a clerk's keying.
+    Keying(Keying),
+    /// To read something.
+    Resource(Resource),
+}
+
+impl Verb {
+    /// Returns the verb as it is written.
+    pub(crate) fn text(self) -> &'static str
+        ensures { result.now ≡ verb_text self }
+    {
+        match self {
+            Verb::Get => "GET",
+            Verb::Post => "POST",
+        }
+    }
+}
+
+impl Resource {
+    /// Returns whether it is served at a gate only.
+    fn needs_gate(&self) -> bool
+        ensures { result ≡ reading_needs_gate self.now }
+    {
+        match self {
+            Resource::Work { .. } => false,
+            Resource::Candidates { .. } => true,
+            Resource::Sheet { .. } => false,
+            Resource::Declaration { .. } => false,
+        }
+    }
+}
+
+impl Target {
+    /// Returns the only verb for the target.
+    pub(crate) fn verb(&self) -> Verb
+        ensures { result ≡ verb_of self.now }
+    {
+        match self {
+            Target::Keying { .. } => Verb::Post,
+            Target::Page { .. } | Target::Leave { .. } | Target::Resource(_) => Verb::Get,
+        }
+    }
+
+    /// Returns whether it is served at a gate only.
+    fn needs_gate(&self) -> bool
+        ensures { result ≡ needs_gate self.now }
+    {
+        match self {
+            Target::Keying { .. } => false,
+            Target::Page { .. } => true,
+            Target::Leave { .. } => true,
+            Target::Resource(what) => what.needs_gate(),
+        }
+    }
+}
+
+/// Reads a clerk's keying of a batch, after the head and some of the bytes that follow it were read.
+fn read_keying<'a, R: Source>(
+    alloc: Global,
+    reader: &mut R,
+    size: Result<usize, RequestError>,
+    behind: &[u8],
+    clerk: u32,
+    batch: u32,
+) -> Result<HttpRequest<'a>, ReadFailure>
+    requires { R.failed reader.old < 2 ^ 64 - 1 }
+    ensures asks { IfSome (R.held reader.old) (λ left. IfOk result (λ asked. http_request_entry asked ≡ asked_with clerk batch size (behind.now ++ left))) }
+    ensures ok { OnOk result (R.failed reader.new ≡ R.failed reader.old) }
+    ensures err { IfErr result (IsUnread (R.failed reader.old) (R.failed reader.new)) }
+    ensures wanting { IfErr result (FailsAfter (R.held reader.old) (R.held reader.new) (λ got. MissesBody size (behind.now ++ got))) }
+{
+    let size = match size {
+        Ok(size) => size,
+        Err(why) => return Ok(HttpRequest::Denied(why)),
+    };
+    let Some(body) = read_body(alloc, reader, behind, size)? else {
+        return Ok(HttpRequest::Denied(RequestError::BadRequest));
+    };
+    match keying_of(alloc, &body)? {
+        Some(KeyingBody { id, round, papers }) => Ok(HttpRequest::Keying(Keying {
+            clerk,
+            batch,
+            id,
+            round,
+            papers,
+        })),
+        None => Ok(HttpRequest::Denied(RequestError::BadRequest)),
+    }
+}
+
+/// Returns what a target names that is served, at the gate or without one. The only error is a failed allocation.
+fn served_at(
+    alloc: Global,
+    gate: Option<Gate<'_>>,
+    target: &[u8],
+) -> Result<Option<Target>, AllocError>
+    ensures { IfOk result (λ found. found ≡ served_at (option_map gate_entry gate.entry) (named_by target.now)) }
+{
+    let Some(there) = named_by(alloc, target)? else {
+        return Ok(None);
+    };
+    if gate.is_none() && there.needs_gate() {
+        return Ok(None);
+    }
+    Ok(Some(there))
+}
+
+/// Returns what is asked for there, if the verb is the right one.
+fn asked_for(method: &[u8], there: Option<Target>) -> Result<Target, RequestError>
+    ensures { result ≡ asked_for method.now there }
+{
+    let Some(there) = there else {
+        return Err(RequestError::NotFound);
+    };
+    let allowed = there.verb();
+    if method == allowed.text().as_bytes() {
+        Ok(there)
+    } else {
+        Err(RequestError::MethodNotAllowed { allowed })
+    }
+}
+
+/// Returns what is asked for: what a target names, if the verb is the right one, no page from elsewhere asks, and the gate lets the
+/// request in; or why it is rejected. The only error is a failed allocation.
+pub(crate) fn wanted(
+    alloc: Global,
+    settings: HttpSettings<'_>,
+    read: &[u8],
+    headers: &[HeaderSpan],
+    method: &[u8],
+    target: &[u8],
+) -> Result<Result<Target, RequestError>, AllocError>
+    requires { All (IsHeaderWithin (length read.now)) headers.now }
+    ensures { IfOk result (λ found. found ≡ wanted (settings_entry settings.entry) (map (header_bytes read.now) headers.now) method.now target.now) }
+{
+    if is_foreign(settings.origin, read, headers) {
+        return Ok(Err(RequestError::Forbidden));
+    }
+    if let Some(why) = kept_out(settings.gate, clerk_under(target), read, headers) {
+        return Ok(Err(why));
+    }
+    let there = served_at(alloc, settings.gate, target)?;
+    Ok(asked_for(method, there))
+}
+
+/// Returns the page of a gate, for a clerk.
+fn page_at<'a>(gate: Option<Gate<'a>>, clerk: u32) -> HttpRequest<'a>
+    ensures { http_request_entry result ≡ page_at (option_map gate_entry gate.entry) clerk }
+{
+    match gate {
+        Some(gate) => HttpRequest::Shown(clerk, Show::Page(gate.page)),
+        None => HttpRequest::Denied(RequestError::NotFound),
+    }
+}
+
+/// Reads what a request asks, after the head and some of the bytes that follow it were read.
+fn read_behind<'a, R: Source>(
+    alloc: Global,
+    settings: HttpSettings<'a>,
+    reader: &mut R,
+    read: &[u8],
+    headers: &[HeaderSpan],
+    spans: RequestSpans,
+) -> Result<HttpRequest<'a>, ReadFailure>
+    requires within { IsRequestWithin read.now headers.now spans }
+    requires failures { R.failed reader.old < 2 ^ 64 - 1 }
+    ensures asks { IfSome (R.held reader.old) (λ left. IfOk result (λ asked. http_request_entry asked ≡ asked_at (settings_entry settings.entry) read.now headers.now spans left)) }
+    ensures ok { OnOk result (R.failed reader.new ≡ R.failed reader.old) }
+    ensures err { IfErr result (IsUnread (R.failed reader.old) (R.failed reader.new)) }
+    ensures wanting { IfErr result (FailsAfter (R.held reader.old) (R.held reader.new) (MissesAt (settings_entry settings.entry) read.now headers.now spans)) }
+    ensures untouched { ((clerk batch : ℕ) → wanted (settings_entry settings.entry) (map (header_bytes read.now) (take spans.headers headers.now))
+        (span_bytes read.now spans.method) (span_bytes read.now spans.path) ≢ Ok (Target.Keying clerk batch)) → reader.new ≡ reader.old }
+{
+    let headers = &headers[..spans.headers];
+    match wanted(
+        alloc,
+        settings,
+        read,
+        headers,
+        spans.method.of(read),
+        spans.path.of(read),
+    )? {
+        Ok(Target::Keying { clerk, batch }) => {
+            let size = body_length(read, headers);
+            read_keying(alloc, reader, size, &read[spans.len..], clerk, batch)
+        }
+        Ok(Target::Page { clerk }) => Ok(page_at(settings.gate, clerk)),
+        Ok(Target::Leave { clerk }) => Ok(HttpRequest::Shown(clerk, Show::Left)),
+        Ok(Target::Resource(what)) => Ok(HttpRequest::Resource(what)),
+        Err(why) => Ok(HttpRequest::Denied(why)),
+    }
+}
+
+/// Reads what a request asks.
+fn read_from_head<'a, R: Source>(
+    alloc: Global,
+    settings: HttpSettings<'a>,
+    reader: &mut R,
+) -> Result<HttpRequest<'a>, ReadFailure>
+    requires { R.failed reader.old < 2 ^ 64 - 1 }
+    ensures asks { IfSome (R.held reader.old) (λ bytes. IfOk result (λ asked. Asks (settings_entry settings.entry) bytes (http_request_entry asked))) }
+    ensures ok { OnOk result (R.failed reader.new ≡ R.failed reader.old) }
+    ensures err { IfErr result (IsUnread (R.failed reader.old) (R.failed reader.new)) }
+    ensures wanting { IfErr result (FailsAfter (R.held reader.old) (R.held reader.new) (IsWanting (settings_entry settings.entry))) }
+{
+    let mut buffer = [0; MAX_HEAD_BYTES];
+    let mut headers = [EMPTY_HEADER_SPAN; MAX_HEADERS];
+    let Some(front) = read_head(reader, &mut buffer, &mut headers)? else {
+        return Ok(HttpRequest::Denied(RequestError::BadRequest));
+    };
+    read_behind(
+        alloc,
+        settings,
+        reader,
+        &buffer[..front.filled],
+        &headers,
+        front.spans,
+    )
+}
+
+/// Reads what a request asks, by the settings: the origin of pages that come through a proxy, and the gate, if any.
+///
+/// A request with a header which shows that a page from elsewhere sent it, or that it came by a foreign name, is `Forbidden`,
+/// whatever else it asks. At a gate a request whose target begins with a clerk's number, such as `/clerks/4/`, is let in only with
+/// that clerk's code. Otherwise it is `Unauthorized`, or a `WrongCode`, whatever else it asks. So what is asked under a clerk's
+/// number is asked by the holder of that clerk's code. Every other request needs no such check. The response to a rejected request
+/// is the same at every state of the office, and so is what is `Shown`.
+///
+/// `Broken` comes only from the source, which then counts one failure more. It comes only while what was read doesn't say yet what
+/// is asked. Once it does, nothing more is read, because the client may wait for its response. Some of the bytes after the request
+/// may have been read.
+///
+/// What is asked for depends only on the target, which names exactly that of which it is the path. It is one of the seven of this
+/// crate, with numbers of 1 to 5 digits in it, the first not 0. Any other target names nothing.
+pub fn read_request<'a, R: Source>(
+    alloc: Global,
+    settings: HttpSettings<'a>,
+    reader: &mut R,
+) -> Result<HttpRequest<'a>, ReadFailure>
+    requires { R.failed reader.old < 2 ^ 64 - 1 }
+    ensures asks { IfSome (R.held reader.old) (λ bytes. IfOk result (λ asked. Asks (settings_entry settings.entry) bytes (http_request_entry asked))) }
+    ensures ok { OnOk result (R.failed reader.new ≡ R.failed reader.old) }
+    ensures err { IfErr result (IsUnread (R.failed reader.old) (R.failed reader.new)) }
+    ensures wanting { IfErr result (FailsAfter (R.held reader.old) (R.held reader.new) (IsWanting (settings_entry settings.entry))) }
+    ensures one { (bytes : List ℕ) → AsksOneThing (settings_entry settings.entry) bytes }
+    ensures foreign { (its : HttpSettingsEntry) (bytes : List ℕ) → DeniesForeign its bytes }
+    ensures others { (its : HttpSettingsEntry) (bytes : List ℕ) → TakesOwn its bytes }
+    ensures held { (its : HttpSettingsEntry) (bytes : List ℕ) → AsksByHolder its bytes }
+    ensures alike { (why : RequestError) → IsDeniedAlike why }
+    ensures shown { (show : ShowEntry) → IsShownAlike show }
+    ensures targets { (target : List ℕ) → NamesItsOwn target }
+{
+    read_from_head(alloc, settings, reader)
+}
