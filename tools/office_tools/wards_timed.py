@@ -137,8 +137,9 @@ def orders_in_keying(office, new):
     for name, line in (
         ("`status` 7", "status 7"), ("`wards`", "wards"), ("`batches` 7", "batches 7"), ("`doubtful` 7", "doubtful 7"),
         ("`receipts`", "receipts"), ("`papers` of a batch", "papers 1"), ("`index`", "index"), ("`journal`", "journal"), (WARD, QUAY),
-        ("`batch`", f"batch {new + 1} 7 {BATCH} 4 9 --id x"), ("`judge`", f"judge {batch} {paper} reject:3 --id x"),
+        ("`batch`", f"batch {new + 1} 7 {BATCH} 4 9 --id x"),
         (f"`import-keying` of {BATCH} papers", f"import-keying 4 {new} 1 {file} --id x"),
+        ("`judge`", f"judge {batch} {paper} reject:3 --id x"),
     ):
         yield name, line.split(), 0
     yield f"`key` of {BATCH} papers", ["key", "4", str(new), "1", "--id", "x", *("D" if text[0] == "D" else text for text in marks)], 0
