@@ -174,7 +174,7 @@ module _ (itself : SeenIsAlike) (alike : AlikeOfficesAnswerAlike) (seen : SeenIs
                   let one = AsksOneThing-all settings.clients exchange.got (keying n batch entry) under.asked asks under.asks in
                   absurd (both_ways (n == clerk) other (eq-eqb n clerk (some_same n clerk (ap clerk_asked one ∙ under.its))));
               denied = none_denied;
-              other = λ not. other_seen s request message.message state message.command apart;
+              other = λ not. other_seen s request message.handed state message.command apart;
             }
 
     -- what a client asked was answered

@@ -3,8 +3,8 @@ use Rattle.wire.specs.Gates.{settings_entry}
 use Rattle.server.proofs.ServicingLemmas.{lacks_nothing}
 use Rattle.server.proofs.servicing.receive_body.Goals as goal
 
-pub returns-in-Nothing-clause-come : goal.returns-in-Nothing-clause-come
-returns-in-Nothing-clause-come g c = λ all.
+pub returns-in-Complete-clause-come : goal.returns-in-Complete-clause-come
+returns-in-Complete-clause-come g c = λ all.
     let client = c.receive.new.self in
     let lacking = c.in_ok-completeness_of-in-Enough in
-    lacks_nothing (settings_entry c.args.settings) (g.L.Stream.held client.stream) c.as_slice.result.now client.got.items lacking.field-0 c.as_slice.ensures.value c.in-Nothing.is lacking.ensures
+    lacks_nothing (settings_entry c.args.settings) (g.L.Stream.held client.stream) c.as_slice.result.now client.got.items lacking.field-0 c.as_slice.ensures.value c.in-Complete.is lacking.ensures
