@@ -1,43 +1,39 @@
 //! Who goes on, a client or an order: he is heard, has his turn once what he asks has come to its end, and gets his answer.
 
-ghost use Rattle.std.specs.Prelude.{◌≡◌, ◌≢◌, ◌⊎◌, ℕ, [], Err, None, Ok, Some, false, true};
+ghost use Rattle.std.specs.Prelude.{◌≡◌, ◌≢◌, ◌⊎◌, ◌++◌, ℕ, [], Err, IfOk, IfSome, List, None, Ok, Some, true};
 ghost use Rattle.sqlite.specs.Held.{state};
 ghost use Rattle.connections.specs.Streams.{Receives, HasFailed, HasTaken, stream_of};
 ghost use Rattle.connections.specs.Clients.{IsOf, IsSent};
 ghost use Rattle.connections.specs.Closing.{EndsFor, IsSentWhole};
 ghost use Rattle.connections.specs.declared.removed.CloseReason.{CloseReason};
-ghost use Rattle.wire.specs.Gates.{settings_entry};
-ghost use Rattle.server.specs.ServedOrders.{HasCameWhole};
-ghost use Rattle.server.specs.Settings.{ServerSettingsEntry, settings_in};
-ghost use Rattle.server.specs.Servicing.{Services, HasCome, HasComeAt, IsLostOnly, IsSameClient, HasSentNothing, answer_of};
-ghost use Rattle.office.specs.Answers.{IsOpenAt, IsReadAt, WhenOpenAt};
-ghost use Rattle.wire.specs.Requests.{Asks, reading};
+ghost use Rattle.wire.specs.Gates.{HttpSettingsEntry, settings_entry};
+ghost use Rattle.wire.specs.Parsing.{IsParsed};
+ghost use Rattle.wire.specs.Responses.{fault_response};
+ghost use Rattle.wire.specs.Serving.{IsServed};
+ghost use Rattle.wire.specs.Told.{IsWritten};
+ghost use Rattle.server.specs.Settings.{settings_in};
+ghost use Rattle.server.specs.Servicing.{Services, IsCome, IsLostOnly, IsSameClient, HasSentNothing, answer_of};
+ghost use Rattle.office.specs.Answers.{IsReadAt, WhenOpenAt};
+ghost use Rattle.wire.specs.Requests.{Asks, http_request_entry, reading};
 ghost use Rattle.wire.specs.declared.target.Resource.{Resource};
 ghost use Rattle.codes.specs.RateLimits.{limit_entry};
 ghost use Rattle.server.specs.Reads.{IsRead, TellsNoFault, served_office, memory_entry};
-ghost use Rattle.server.specs.Exchanges.{HasServed, IsGoneResponse, IsWaitResponse, RespondsToClient, ServesClient, ServesExchange, Exchange};
+ghost use Rattle.server.specs.Exchanges.{ChangesNothing, EndsIn, HasAnswered, IsGoneResponse, IsWaitResponse, RespondsToClient, ServesClient, Exchange};
 
+use crate::side_jobs::SideJobs;
 use crate::order_arrival::receive_message;
 use crate::order_response::answer_order;
-use crate::read_cache::asks_reading;
 use crate::server_memory::ServerMemory;
 use crate::server_settings::ServerSettings;
-use crate::side_jobs::SideJobs;
-use connections::{
-    Client, CloseReason, Listener, PendingResponse, ReadProgress, SliceSource, Stream, VecSink,
-    deliver,
-};
+use connections::{PendingResponse, Client, Listener, ReadProgress, CloseReason, Stream, VecSink, deliver};
 use office::Office;
 use sqlite::Alter;
 use std::alloc::Global;
 use votes::Broken;
 use wire::{
-    Completeness, HttpSettings, Served, authentication_of, body_to_come, completeness_of,
-    serve_one, write_gone_response, write_wait_response,
+    HttpRequest, HttpSettings, Completeness, MAX_HEAD_BYTES, Parsed, Resource, Routes, Served, parse, respond,
+    write_gone_response, tell_no_memory, write_wait_response,
 };
-
-/// How many bytes of a client are heard before it is looked what they lack: as many as the head of a request may have.
-const FRONT: usize = 8192;
 
 /// The status of an answer with a fault, which isn't kept.
 const FAULT: u16 = 503;
@@ -53,70 +49,58 @@ pub enum Serviced {
     Leaves(CloseReason),
 }
 
-/// Hears the body of what a client asks, for which so many bytes in all are wanted; whether it has come to its end.
+/// Reads the body of a request whose head was parsed, for which so many bytes in all are wanted; returns whether it has come whole.
 fn receive_body<L: Stream>(
-    alloc: Global,
-    settings: HttpSettings<'_>,
     client: &mut Client<L>,
+    parsed: Parsed,
     wanted: usize,
 ) -> Result<bool, CloseReason>
     requires { client.old.answer ≡ None }
     ensures receives { Receives (stream_of L.held L.taken L.failed) client.old.stream client.new.stream client.old.got.items client.new.got.items }
     ensures same { IsSameClient client.old client.new × (client.new.answer ≡ None) }
-    ensures come { result ≡ Ok true → HasCome (settings_entry settings.entry) (L.held client.new.stream) client.new.got.items }
+    ensures come { (its : HttpSettingsEntry) → ((more : List ℕ) → IsParsed its (client.old.got.items ++ more) parsed) → result ≡ Ok true
+        → IsCome its (L.held client.new.stream) client.new.got.items parsed }
     ensures broken { result ≡ Err CloseReason.Broken → HasFailed (L.failed client.new.stream) }
     ensures lost { IsLostOnly result }
 {
     match client.receive(wanted)? {
         ReadProgress::ServeError => Ok(true),
         ReadProgress::Waits => Ok(false),
-        ReadProgress::Enough => match completeness_of(alloc, settings, client.got.as_slice())? {
+        ReadProgress::Enough => match parsed.completeness_of(client.got.len()) {
             Completeness::Nothing => Ok(true),
             Completeness::Bytes(_) => Ok(false),
         },
     }
 }
 
-/// Hears what a client asks; whether it has come to its end.
-fn receive_request<L: Stream>(
-    alloc: Global,
-    settings: HttpSettings<'_>,
+/// Reads the request of a client. Returns how its head was parsed, once all of it has come.
+fn hear_request<L: Stream>(
     client: &mut Client<L>,
-) -> Result<bool, CloseReason>
+    settings: HttpSettings<'_>,
+    routes: &Routes,
+) -> Result<Option<Parsed>, CloseReason>
     requires { client.old.answer ≡ None }
     ensures receives { Receives (stream_of L.held L.taken L.failed) client.old.stream client.new.stream client.old.got.items client.new.got.items }
     ensures same { IsSameClient client.old client.new × (client.new.answer ≡ None) }
-    ensures come { result ≡ Ok true → HasCome (settings_entry settings.entry) (L.held client.new.stream) client.new.got.items }
+    ensures come { IfOk result (λ found. IfSome found (λ parsed. IsCome (settings_entry settings.entry) (L.held client.new.stream) client.new.got.items parsed)) }
     ensures broken { result ≡ Err CloseReason.Broken → HasFailed (L.failed client.new.stream) }
     ensures lost { IsLostOnly result }
 {
-    let received = client.receive(FRONT)?;
-    match completeness_of(alloc, settings, client.got.as_slice())? {
-        Completeness::Nothing => Ok(true),
+    let received = client.receive(MAX_HEAD_BYTES)?;
+    let parsed = parse(settings, routes, client.got.as_slice());
+    match parsed.completeness_of(client.got.len()) {
+        Completeness::Nothing => Ok(Some(parsed)),
         Completeness::Bytes(wanted) => match received {
-            ReadProgress::ServeError => Ok(true),
-            ReadProgress::Waits => Ok(false),
-            ReadProgress::Enough => receive_body(alloc, settings, client, wanted),
+            ReadProgress::ServeError => Ok(Some(parsed)),
+            ReadProgress::Waits => Ok(None),
+            ReadProgress::Enough => {
+                if receive_body(client, parsed, wanted)? {
+                    Ok(Some(parsed))
+                } else {
+                    Ok(None)
+                }
+            }
         },
-    }
-}
-
-/// Hears who has no answer yet; whether what he asks has come to its end.
-fn receive<L: Stream>(
-    alloc: Global,
-    settings: HttpSettings<'_>,
-    client: &mut Client<L>,
-) -> Result<bool, CloseReason>
-    requires { client.old.answer ≡ None }
-    ensures receives { Receives (stream_of L.held L.taken L.failed) client.old.stream client.new.stream client.old.got.items client.new.got.items }
-    ensures same { IsSameClient client.old client.new × (client.new.answer ≡ None) }
-    ensures come { result ≡ Ok true → (all : ServerSettingsEntry) → all.clients ≡ settings_entry settings.entry → HasComeAt client.old.listener all (L.held client.new.stream) client.new.got.items }
-    ensures broken { result ≡ Err CloseReason.Broken → HasFailed (L.failed client.new.stream) }
-    ensures lost { IsLostOnly result }
-{
-    match client.listener {
-        Listener::Clients => receive_request(alloc, settings, client),
-        Listener::Orders => receive_message(client),
     }
 }
 
@@ -131,91 +115,71 @@ fn tells_no_fault(served: Served) -> bool
     }
 }
 
-/// Serves a client of whom these bytes were gathered, and gives his answer, of which nothing went out yet; and whether it is
-/// whole, and without a fault. Where memory is wanting for it, it is a beginning.
-fn served<S: Alter>(
-    alloc: Global,
-    settings: HttpSettings<'_>,
-    got: &[u8],
-    office: &mut Office<S>,
-) -> (Vec<u8>, bool)
-    ensures served { HasServed (settings_entry settings.entry) (state S.Store) office.old got.now result.0.items office.new }
+/// Asks the office what a client asks. Returns the response, of which nothing went out yet; and whether it is whole, and no fault. If an
+/// allocation fails, it is a beginning.
+fn response_to<S: Alter>(alloc: Global, asked: HttpRequest<'_>, office: &mut Office<S>) -> (Vec<u8>, bool)
+    ensures answers { HasAnswered (state S.Store) office.old (http_request_entry asked.entry) result.0.items office.new }
     ensures read { result.1 ≡ true → WhenOpenAt (state S.Store) office.old office.new
-        (λ s. (what : Resource) → Asks (settings_entry settings.entry) got.now (reading what)
-        → IsRead (settings_entry settings.entry) s got.now result.0.items × IsOpenAt s office.new.closed (state S.Store office.new.held)) }
-    ensures asked { WhenOpenAt (state S.Store) office.old office.new
-        (λ s. (what : Resource) → Asks (settings_entry settings.entry) got.now (reading what) → IsReadAt s office.new.closed (state S.Store office.new.held)) }
+        (λ s. (what : Resource) → http_request_entry asked.entry ≡ reading what → IsRead s what result.0.items) }
+    ensures only { ChangesNothing (http_request_entry asked.entry) → WhenOpenAt (state S.Store) office.old office.new (λ s. IsReadAt s office.new.closed (state S.Store office.new.held)) }
 {
-    let mut reader = SliceSource::new(got);
     let mut writer = VecSink::new(alloc);
-    let served = serve_one(alloc, settings, &mut reader, &mut writer, office);
+    let served = respond(alloc, asked, &mut writer, office);
     let is_told = tells_no_fault(served);
     (writer.into_bytes(), is_told)
 }
 
-/// Whether a client asks for a read, and the office is open for it. Where memory is wanting, he doesn't.
-fn is_reading<S: Alter>(
-    alloc: Global,
-    settings: HttpSettings<'_>,
-    got: &[u8],
-    office: &Office<S>,
-) -> bool
-    ensures open { result ≡ true → office.now.closed ≡ false }
-    ensures asks { result ≡ true → (what : Resource) × Asks (settings_entry settings.entry) got.now (reading what) }
+/// Returns the response to a client that reads; nothing of it went out yet. A response is kept for whoever reads the same, and if one is
+/// kept, it is sent again.
+fn answer_reading<S: Alter>(what: Resource, office: &mut Office<S>, kept: &mut ServerMemory) -> PendingResponse
+    ensures served { (its : HttpSettingsEntry) (number moment : ℕ) (got : List ℕ) → Asks its got (reading what) → ServesClient its (state S.Store) (served_office office.old (memory_entry kept.old))
+        (record { listener = Listener.Clients; number = number; moment = moment; got = got; answer = result.bytes.items }) (served_office office.new (memory_entry kept.new)) }
+    ensures limit { limit_entry kept.new.limit ≡ limit_entry kept.old.limit }
+    ensures untold { result.sent ≡ 0 }
 {
-    if office.is_closed() {
-        return false;
+    if !office.is_closed() {
+        if let Some(bytes) = kept.reads.get(kept.alloc, what) {
+            return PendingResponse { bytes, sent: 0 };
+        }
     }
-    asks_reading(alloc, settings, got)
+    let (bytes, is_told) = response_to(kept.alloc, HttpRequest::Resource(what), office);
+    if is_told {
+        kept.reads.keep(kept.alloc, what, bytes.as_slice());
+    }
+    PendingResponse { bytes, sent: 0 }
 }
 
-/// The answer to a client who asks for a read. What is read anew is kept for who
-/// asks the same; and where an answer to the same is kept, it is given again.
-fn read_answer<S: Alter>(
-    alloc: Global,
+/// Returns the response to a client that is let in, of which these bytes came; nothing of it went out yet. Before a keying no response
+/// is kept any more.
+fn answer_request<S: Alter>(
     settings: HttpSettings<'_>,
+    parsed: Parsed,
     got: &[u8],
     office: &mut Office<S>,
     kept: &mut ServerMemory,
 ) -> PendingResponse
-    requires open { office.old.closed ≡ false }
-    requires asks { (what : Resource) × Asks (settings_entry settings) got.now (reading what) }
+    requires { IsParsed (settings_entry settings) got.now parsed }
     ensures served { (number moment : ℕ) → ServesClient (settings_entry settings.entry) (state S.Store) (served_office office.old (memory_entry kept.old))
         (record { listener = Listener.Clients; number = number; moment = moment; got = got.now; answer = result.bytes.items }) (served_office office.new (memory_entry kept.new)) }
     ensures limit { limit_entry kept.new.limit ≡ limit_entry kept.old.limit }
     ensures untold { result.sent ≡ 0 }
 {
-    if let Some(bytes) = kept.reads.get(alloc, got) {
-        return PendingResponse { bytes, sent: 0 };
+    let Ok(asked) = parsed.asked(kept.alloc, settings, got) else {
+        kept.reads.empty();
+        return to_no_memory(kept.alloc);
+    };
+    match asked {
+        HttpRequest::Resource(what) => answer_reading(what, office, kept),
+        HttpRequest::Keying(keying) => {
+            kept.reads.empty();
+            let (bytes, _) = response_to(kept.alloc, HttpRequest::Keying(keying), office);
+            PendingResponse { bytes, sent: 0 }
+        }
+        other => {
+            let (bytes, _) = response_to(kept.alloc, other, office);
+            PendingResponse { bytes, sent: 0 }
+        }
     }
-    let (bytes, is_told) = served(alloc, settings, got, office);
-    if !is_told {
-        return PendingResponse { bytes, sent: 0 };
-    }
-    kept.reads.keep(alloc, got, bytes.as_slice());
-    PendingResponse { bytes, sent: 0 }
-}
-
-/// The answer to a client who is let in, of whom these bytes were gathered; nothing of it went out yet. Before anything but a
-/// read no answer is kept any more.
-fn answered<S: Alter>(
-    alloc: Global,
-    settings: HttpSettings<'_>,
-    got: &[u8],
-    office: &mut Office<S>,
-    kept: &mut ServerMemory,
-) -> PendingResponse
-    ensures served { (number moment : ℕ) → ServesClient (settings_entry settings.entry) (state S.Store) (served_office office.old (memory_entry kept.old))
-        (record { listener = Listener.Clients; number = number; moment = moment; got = got.now; answer = result.bytes.items }) (served_office office.new (memory_entry kept.new)) }
-    ensures limit { limit_entry kept.new.limit ≡ limit_entry kept.old.limit }
-    ensures untold { result.sent ≡ 0 }
-{
-    if is_reading(alloc, settings, got, office) {
-        return read_answer(alloc, settings, got, office, kept);
-    }
-    kept.reads.empty();
-    let (bytes, _) = served(alloc, settings, got, office);
-    PendingResponse { bytes, sent: 0 }
 }
 
 /// The answer to a client who must wait; nothing of it went out yet.
@@ -228,25 +192,6 @@ fn wait_response(alloc: Global) -> PendingResponse
     PendingResponse {
         bytes: writer.into_bytes(),
         sent: 0,
-    }
-}
-
-/// The moment of a turn: the time of the clock, and whether the file of the office is whole then.
-#[derive(Clone, Copy)]
-struct Moment {
-    now: u64,
-    is_whole: bool,
-}
-
-impl Moment {
-    /// Looks at the file of the office at a time.
-    fn of<A: SideJobs>(now: u64, side_jobs: &A) -> Moment
-        ensures { result.now ≡ now }
-    {
-        Moment {
-            now,
-            is_whole: side_jobs.is_whole(),
-        }
     }
 }
 
@@ -263,69 +208,53 @@ fn gone_response(alloc: Global) -> PendingResponse
     }
 }
 
-/// Returns the response to a client of which these bytes were gathered; nothing of it went out yet. If its code is wrong, and as
-/// many wrong codes came as may, it is told to wait. If the file of the office isn't whole, it is told so, unless it asks for a
-/// read. Nothing else comes of either. Else it is counted if its code was wrong.
-fn answer_client<S: Alter>(
-    alloc: Global,
-    settings: HttpSettings<'_>,
-    moment: Moment,
-    got: &[u8],
+/// Returns the response if memory ran out for what a client asks; nothing of it went out yet.
+fn to_no_memory(alloc: Global) -> PendingResponse
+    ensures told { EndsIn result.bytes.items (IsServed (IsWritten (fault_response 101))) }
+    ensures untold { result.sent ≡ 0 }
+{
+    let mut writer = VecSink::new(alloc);
+    let _ = tell_no_memory(&mut writer);
+    PendingResponse {
+        bytes: writer.into_bytes(),
+        sent: 0,
+    }
+}
+
+/// A request that has its turn: how its head was parsed, its bytes, and the time of the clock.
+#[derive(Clone, Copy)]
+struct Due<'a> {
+    parsed: Parsed,
+    got: &'a [u8],
+    now: u64,
+}
+
+/// Returns the response to a client; nothing of it went out yet. If its code is wrong, and as many wrong codes came as may, it is told to
+/// wait. If the file of the office isn't whole, it is told so, unless it asks an open office for a read. Nothing else comes of either. Else
+/// it is counted if its code was wrong.
+fn answer_client<A: SideJobs, S: Alter>(
+    server_settings: ServerSettings<'_, A>,
+    due: Due<'_>,
     office: &mut Office<S>,
     kept: &mut ServerMemory,
 ) -> PendingResponse
-    ensures meets { (number : ℕ) → RespondsToClient (settings_entry settings.entry) (state S.Store) (served_office office.old (memory_entry kept.old))
-        (record { listener = Listener.Clients; number = number; moment = moment.now; got = got.now; answer = result.bytes.items }) (served_office office.new (memory_entry kept.new)) }
+    requires { IsParsed (settings_entry server_settings.http) due.got.now due.parsed }
+    ensures meets { (number : ℕ) → RespondsToClient (settings_entry server_settings.entry.settings) (state S.Store) (served_office office.old (memory_entry kept.old))
+        (record { listener = Listener.Clients; number = number; moment = due.now; got = due.entry.got.now; answer = result.bytes.items }) (served_office office.new (memory_entry kept.new)) }
     ensures untold { result.sent ≡ 0 }
 {
-    let authentication = authentication_of(settings, got);
-    if kept.must_wait(authentication, moment.now) {
-        return wait_response(alloc);
+    let Due { parsed, got, now } = due;
+    let authentication = parsed.authentication();
+    if kept.must_wait(authentication, now) {
+        return wait_response(kept.alloc);
     }
-    if !moment.is_whole && !is_reading(alloc, settings, got, office) {
-        return gone_response(alloc);
+    let is_read = parsed.reading().is_some() && !office.is_closed();
+    if !is_read && !server_settings.side_jobs.is_whole() {
+        return gone_response(kept.alloc);
     }
-    let answer = answered(alloc, settings, got, office, kept);
-    kept.note(authentication, moment.now);
+    let answer = answer_request(server_settings.http, parsed, got, office, kept);
+    kept.note(authentication, now);
     answer
-}
-
-/// The answer to who came in at a door, of whom all was heard, and his line
-/// again. To a client nothing went out yet, and to an order what its line took.
-fn answer_to<L: Stream, A: SideJobs, S: Alter>(
-    alloc: Global,
-    server_settings: ServerSettings<'_>,
-    now: u64,
-    side_jobs: &A,
-    listener: Listener,
-    got: &[u8],
-    stream: L,
-    office: &mut Office<S>,
-    kept: &mut ServerMemory,
-) -> (L, PendingResponse)
-    requires fresh { HasTaken (L.taken stream) [] }
-    requires whole { listener ≡ Listener.Orders → HasCameWhole got.now }
-    ensures told { IsSent (stream_of L.held L.taken L.failed) result.0 result.1.bytes.items result.1.sent }
-    ensures served { (number : ℕ) → ServesExchange (settings_in server_settings.entry) (state S.Store) (served_office office.old (memory_entry kept.old))
-        (record { listener = listener; number = number; moment = now; got = got.now; answer = result.1.bytes.items }) (served_office office.new (memory_entry kept.new)) }
-{
-    match listener {
-        Listener::Clients => (
-            stream,
-            answer_client(
-                alloc,
-                server_settings.http,
-                Moment::of(now, side_jobs),
-                got,
-                office,
-                kept,
-            ),
-        ),
-        Listener::Orders => {
-            kept.reads.empty();
-            answer_order(alloc, server_settings.file, side_jobs, got, stream, office)
-        }
-    }
 }
 
 /// Drops what is still to come of the request of a client that has its whole response.
@@ -360,63 +289,19 @@ fn send_more<L: Stream>(client: &mut Client<L>) -> Serviced
     }
 }
 
-/// Returns how many bytes are still to come of what came in at a door, and has its turn now.
-fn unread_at(listener: Listener, got: &[u8]) -> usize {
-    match listener {
-        Listener::Clients => body_to_come(got),
-        Listener::Orders => 0,
-    }
-}
-
-/// Who was heard to the end has his turn: he is served, or followed, from that alone, and gets of his answer what he takes now.
-fn respond<L: Stream, A: SideJobs, S: Alter>(
-    alloc: Global,
-    server_settings: ServerSettings<'_>,
-    now: u64,
-    side_jobs: &A,
-    client: Client<L>,
-    office: &mut Office<S>,
-    kept: &mut ServerMemory,
-) -> (Client<L>, Serviced)
-    requires fresh { HasTaken (L.taken client.stream) [] }
-    requires whole { client.listener ≡ Listener.Orders → HasCameWhole client.got.items }
+/// Sends one its response, as much of it as it accepts now.
+fn begin_answer<L: Stream>(client: Client<L>, answer: PendingResponse, unread: usize) -> (Client<L>, Serviced)
+    requires { IsSent (stream_of L.held L.taken L.failed) client.stream answer.bytes.items answer.sent }
     ensures is { (start : L) → IsOf (stream_of L.held L.taken L.failed) start result.0 }
     ensures same { IsSameClient client result.0 }
-    ensures turn { (exchange : Exchange) × (exchange.listener ≡ client.listener) × (exchange.number ≡ client.number) × (exchange.moment ≡ now) × (exchange.got ≡ client.got.items)
-        × ServesExchange (settings_in server_settings.entry) (state S.Store) (served_office office.old (memory_entry kept.old)) exchange (served_office office.new (memory_entry kept.new))
-        × (answer_of result.0 ≡ Some exchange.answer) }
+    ensures his { answer_of result.0 ≡ Some answer.bytes.items }
     ensures leaves { (why : CloseReason) → result.1 ≡ Serviced.Leaves why → EndsFor (stream_of L.held L.taken L.failed) why result.0 }
     ensures apart { result.1 ≢ Serviced.Waits }
 {
-    let Client {
-        listener,
-        stream,
-        number,
-        since,
-        got,
-        ..
-    } = client;
-    let unread = unread_at(listener, got.as_slice());
-    let (stream, answer) = answer_to(
-        alloc,
-        server_settings,
-        now,
-        side_jobs,
-        listener,
-        got.as_slice(),
-        stream,
-        office,
-        kept,
-    );
-    let mut client = Client {
-        listener,
-        stream,
-        number,
-        since,
-        got: Vec::new(alloc),
-        answer: Some(answer),
-        unread,
-    };
+    let mut client = client;
+    client.got = Vec::new(alloc);
+    client.answer = Some(answer);
+    client.unread = unread;
     match send_more(&mut client) {
         Serviced::Waits => (client, Serviced::Served),
         Serviced::Served => (client, Serviced::Served),
@@ -424,16 +309,90 @@ fn respond<L: Stream, A: SideJobs, S: Alter>(
     }
 }
 
-/// A client, or an order that is handed over, goes on at a moment, in milliseconds of a clock, as far as his line lets him now.
-/// He is heard. Once what he asks has come to its end, this is his turn: he is served, or answered that he must wait for wrong
-/// codes. Then he gets his answer. He is given back, with what became of him.
-///
-/// What is gathered of him are his own bytes, from his first one on, and what he gets is the answer to just these. Nobody else is touched.
-pub fn service<L: Stream, A: SideJobs, S: Alter>(
-    alloc: Global,
-    server_settings: ServerSettings<'_>,
+/// A client goes on: its request is read, and once all of it has come, it has its turn.
+fn attend_client<L: Stream, A: SideJobs, S: Alter>(
+    server_settings: ServerSettings<'_, A>,
     now: u64,
-    side_jobs: &A,
+    client: Client<L>,
+    office: &mut Office<S>,
+    kept: &mut ServerMemory,
+) -> (Client<L>, Serviced)
+    requires listener { client.listener ≡ Listener.Clients }
+    requires fresh { HasTaken (L.taken client.stream) [] }
+    requires unanswered { client.answer ≡ None }
+    ensures is { (start : L) → IsOf (stream_of L.held L.taken L.failed) start client → IsOf (stream_of L.held L.taken L.failed) start result.0 }
+    ensures same { IsSameClient client result.0 }
+    ensures turn { Services (settings_in server_settings.entry) (stream_of L.held L.taken L.failed) (state S.Store) now result.1 client result.0
+        (served_office office.old (memory_entry kept.old)) (served_office office.new (memory_entry kept.new)) }
+    ensures leaves { (why : CloseReason) → result.1 ≡ Serviced.Leaves why → EndsFor (stream_of L.held L.taken L.failed) why result.0 }
+{
+    let mut client = client;
+    match hear_request(&mut client, server_settings.http, &kept.routes) {
+        Ok(Some(parsed)) => {
+            let got = client.got.as_slice();
+            let unread = parsed.body_to_come(got.len());
+            let answer = answer_client(server_settings, Due { parsed, got, now }, office, kept);
+            begin_answer(kept.alloc, client, answer, unread)
+        }
+        Ok(None) => (client, Serviced::Waits),
+        Err(why) => (client, Serviced::Leaves(why)),
+    }
+}
+
+/// An order goes on: its message is read, and once all of it has come, it has its turn.
+fn attend_order<L: Stream, A: SideJobs, S: Alter>(
+    server_settings: ServerSettings<'_, A>,
+    now: u64,
+    client: Client<L>,
+    office: &mut Office<S>,
+    kept: &mut ServerMemory,
+) -> (Client<L>, Serviced)
+    requires listener { client.listener ≡ Listener.Orders }
+    requires fresh { HasTaken (L.taken client.stream) [] }
+    requires unanswered { client.answer ≡ None }
+    ensures is { (start : L) → IsOf (stream_of L.held L.taken L.failed) start client → IsOf (stream_of L.held L.taken L.failed) start result.0 }
+    ensures same { IsSameClient client result.0 }
+    ensures turn { Services (settings_in server_settings.entry) (stream_of L.held L.taken L.failed) (state S.Store) now result.1 client result.0
+        (served_office office.old (memory_entry kept.old)) (served_office office.new (memory_entry kept.new)) }
+    ensures leaves { (why : CloseReason) → result.1 ≡ Serviced.Leaves why → EndsFor (stream_of L.held L.taken L.failed) why result.0 }
+{
+    let mut client = client;
+    match receive_message(&mut client) {
+        Ok(true) => {
+            kept.reads.empty();
+            let Client {
+                listener,
+                stream,
+                number,
+                since,
+                got,
+                ..
+            } = client;
+            let (stream, answer) = answer_order(kept.alloc, server_settings, got.as_slice(), stream, office);
+            let client = Client {
+                listener,
+                stream,
+                number,
+                since,
+                got,
+                answer: None,
+                unread: 0,
+            };
+            begin_answer(kept.alloc, client, answer, 0)
+        }
+        Ok(false) => (client, Serviced::Waits),
+        Err(why) => (client, Serviced::Leaves(why)),
+    }
+}
+
+/// A client, or an order that is handed over, goes on at a moment, in milliseconds of a clock, as far as its line lets it now. What it
+/// sends is read. Once what it asks has come whole, this is its turn: it is served, or told to wait for wrong codes. Then it gets its
+/// response. Returns it, and what became of it.
+///
+/// What is gathered of it are its own bytes, from the first one on, and what it gets is the response to just these. Nobody else is touched.
+pub fn service<L: Stream, A: SideJobs, S: Alter>(
+    server_settings: ServerSettings<'_, A>,
+    now: u64,
     client: Client<L>,
     office: &mut Office<S>,
     kept: &mut ServerMemory,
@@ -450,9 +409,8 @@ pub fn service<L: Stream, A: SideJobs, S: Alter>(
         let told = send_more(&mut client);
         return (client, told);
     }
-    match receive(alloc, server_settings.http, &mut client) {
-        Ok(true) => respond(alloc, server_settings, now, side_jobs, client, office, kept),
-        Ok(false) => (client, Serviced::Waits),
-        Err(why) => (client, Serviced::Leaves(why)),
+    match client.listener {
+        Listener::Clients => attend_client(server_settings, now, client, office, kept),
+        Listener::Orders => attend_order(server_settings, now, client, office, kept),
     }
 }

@@ -5,13 +5,13 @@
 //! what the system reports ([`SocketNetwork`](socket_network) adds a clock). So a connection that is named may have nothing to read, and a call on it then returns at once.
 #![tactic(auto)]
 
-mod accept_error;
-mod loopback;
-mod poller;
-mod socket;
 mod socket_network;
+mod loopback;
+mod accept_error;
+mod socket;
+mod poller;
 
-pub use loopback::Loopback;
-pub use poller::Poller;
-pub use socket::Socket;
 pub use socket_network::SocketNetwork;
+pub use loopback::Loopback;
+pub use socket::Socket;
+pub use poller::Poller;

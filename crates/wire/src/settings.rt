@@ -1,7 +1,7 @@
 //! What an office that serves was given for its clients.
 
-use crate::origin::Origin;
 use codes::Codes;
+use origins::Origin;
 
 /// The page on which clerks key, and what a browser lets it do.
 #[derive(Clone, Copy)]
