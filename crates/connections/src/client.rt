@@ -6,7 +6,7 @@ ghost use Rattle.connections.specs.Streams.{Delivers, Receives, HasTaken, failed
 ghost use Rattle.connections.specs.Removals.{removed_of};
 ghost use Rattle.connections.specs.Clients.{IsCaused, IsNew, IsOf, IsSameButReceived, chunk, idle_after_put, idle_after_wait, idle_after_once};
 
-use crate::removed::{CloseReason, Removed};
+use crate::removed::{Removed, CloseReason};
 use crate::stream::{Received, Stream};
 use std::alloc::{AllocError, Global};
 use votes::Broken;
@@ -114,13 +114,9 @@ fn receive_once<L: Stream>(stream: &mut L, got: &mut Vec<u8>) -> Result<Received
     }
 }
 
-/// Reads until there are so many bytes in all, or no more has arrived. It reads fewer than `CHUNK` bytes past that, so a connection
-/// that sends without end holds up no other.
-fn receive_up_to<L: Stream>(
-    stream: &mut L,
-    got: &mut Vec<u8>,
-    wanted: usize,
-) -> Result<ReadProgress, ReceiveError>
+/// Gathers what has arrived, until there are so many bytes in all, or no more has arrived. There may be fewer than `CHUNK`
+/// bytes more than that, so that a client who sends on and on holds up nobody.
+fn receive_up_to<L: Stream>(stream: &mut L, got: &mut Vec<u8>, wanted: usize) -> Result<ReadProgress, ReceiveError>
     ensures receives { Receives (stream_of L.held L.taken L.failed) stream.old stream.new got.old.items got.new.items }
     ensures enough { result ≡ Ok ReadProgress.Enough → wanted ≤ length got.new.items }
     ensures waits { result ≡ Ok ReadProgress.Waits → length got.new.items < wanted }
@@ -203,11 +199,7 @@ impl<L: Stream> Client<L> {
         ensures { result ≡ removed_of self why }
     {
         let Client { stream, number, .. } = self;
-        Removed {
-            number,
-            stream,
-            why,
-        }
+        Removed { number, stream, why }
     }
 
     /// Receives more of a connection that has no response yet, until there are so many bytes in all, or no more has arrived. It

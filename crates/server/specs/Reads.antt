@@ -4,8 +4,7 @@ use Rattle.std.specs.List.{All}
 use Rattle.register.specs.Offices.{OfficeState}
 use Rattle.office.specs.Values.{OfficeValue}
 use Rattle.codes.specs.RateLimits.{LimitEntry, counted, is_reached, limit_entry, none_wrong}
-use Rattle.wire.specs.Requests.{Asks, reading}
-use Rattle.wire.specs.Gates.{HttpSettingsEntry, AuthenticationEntry}
+use Rattle.wire.specs.Gates.{AuthenticationEntry}
 use Rattle.wire.specs.Serving.{IsServed, reading_response}
 use Rattle.wire.specs.Told.{IsTold}
 use Rattle.wire.specs.declared.serving.Served.{Served}
@@ -15,21 +14,19 @@ use Rattle.server.specs.declared.read_cache.ReadCache.{ReadCache}
 use Rattle.server.specs.declared.read_cache.CachedRead.{CachedRead}
 use Rattle.server.specs.declared.server_memory.ServerMemory.{ServerMemory}
 
--- the bytes of a request, and those of its response
+-- what is read, and the bytes of the answer to it
 pub record ReadEntry : Type 0 where
-  pub got : List ℕ
+  pub what : Resource
   pub answer : List ℕ
 
 abbrev pub read_entry : CachedRead → ReadEntry
-read_entry k = record { got = k.got.items; answer = k.answer.items }
+read_entry k = record { what = k.what; answer = k.answer.items }
 
 abbrev pub reads_in : ReadCache → List ReadEntry
 reads_in kept = map read_entry kept.answers.items
 
--- These bytes ask for a read, and this is the response to it at a state, byte for byte.
-pub record IsRead (settings : HttpSettingsEntry) (s : OfficeState) (got answer : List ℕ) : Type 0 where
-  pub what : Resource
-  pub asks : Asks settings got (reading what)
+-- This is the answer to a read at a state, byte for byte.
+pub record IsRead (s : OfficeState) (what : Resource) (answer : List ℕ) : Type 0 where
   pub status : ℕ
   pub told : IsServed (λ response. IsTold (reading_response s what) response) (Some []) (Some answer) (Answered status)
 
@@ -39,9 +36,9 @@ TellsNoFault (Answered status) = status ≡ 503 → ⊥
 TellsNoFault ReadFailed = ⊥
 TellsNoFault WriteFailed = ⊥
 
--- each response in the cache is the one at this state
-abbrev pub AreReadAt : HttpSettingsEntry → OfficeState → List ReadEntry → Type 0
-AreReadAt settings s reads = All (λ r. IsRead settings s r.got r.answer) reads
+-- each answer that is kept is the one at this state
+abbrev pub AreReadAt : OfficeState → List ReadEntry → Type 0
+AreReadAt s reads = All (λ r. IsRead s r.what r.answer) reads
 
 -- ---- wrong codes
 

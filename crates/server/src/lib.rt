@@ -17,16 +17,16 @@
 //! ```
 #![tactic(auto)]
 
-// what an order asks, and its output
-mod frame_sink;
+// what an order asks, and what comes of it
+pub mod side_jobs;
+mod served_order;
 mod order_arrival;
 mod order_response;
+mod frame_sink;
 mod read_cache;
-mod served_order;
 mod server_memory;
 pub mod server_settings;
-pub mod side_jobs;
-// one connection
+// one who goes on
 pub mod servicing;
 // all connections
 pub mod serve_error;
@@ -34,9 +34,9 @@ mod serving;
 // what a clerk is sent
 mod blind;
 
+pub use side_jobs::{SideJobs, Destination};
+pub use servicing::{Serviced, service};
 pub use blind::{clerks_are_answered_as_seen, servers_answer_as_seen};
 pub use serve_error::ServeError;
-pub use server_settings::{FileNumbers, ServerSettings};
-pub use servicing::{Serviced, service};
 pub use serving::serve_connections;
-pub use side_jobs::SideJobs;
+pub use server_settings::{FileNumbers, ServerSettings};

@@ -1,31 +1,35 @@
 //! What a server keeps in memory.
 
-ghost use Rattle.std.specs.Prelude.{◌≡◌, [], option_map};
+ghost use Rattle.std.specs.Prelude.{◌≡◌, [], IfOk, option_map};
 ghost use Rattle.codes.specs.RateLimits.{limit_entry, none_wrong};
 ghost use Rattle.wire.specs.Gates.{authentication_entry};
 ghost use Rattle.server.specs.Reads.{memory_entry, limit_after, must_wait, reads_in};
 
 use crate::read_cache::ReadCache;
 use codes::RateLimit;
-use std::alloc::Global;
-use wire::Authentication;
+use std::alloc::{AllocError, Global};
+use wire::{Authentication, Routes};
 
-/// The cache of reads; and the wrong codes that came.
+/// The responses to reads since anything may have changed; the wrong codes that came; and the routes, which are made once.
 #[derive(Drop)]
 pub struct ServerMemory {
+    pub alloc: Global,
+    pub routes: Routes,
     pub reads: ReadCache,
     pub limit: RateLimit,
 }
 
 impl ServerMemory {
-    /// Returns a memory without responses, and without wrong codes. Allocates nothing.
-    pub fn new(alloc: Global) -> ServerMemory
-        ensures { memory_entry result ≡ record { reads = []; limit = none_wrong } }
+    /// No response is kept yet, and no wrong code came. The only error is that there is no memory for the routes.
+    pub fn new(alloc: Global) -> Result<ServerMemory, AllocError>
+        ensures { IfOk result (λ kept. memory_entry kept ≡ record { reads = []; limit = none_wrong }) }
     {
-        ServerMemory {
+        Ok(ServerMemory {
+            alloc,
+            routes: Routes::new(alloc)?,
             reads: ReadCache::new(alloc),
             limit: RateLimit::new(),
-        }
+        })
     }
 
     /// Returns whether a client must wait at a moment: its code is wrong, and the rate limit is reached.

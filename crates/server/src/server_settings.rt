@@ -1,5 +1,8 @@
 //! The settings of a server.
 
+ghost use Rattle.std.specs.Prelude.{◌≡◌, ⊤};
+
+use std::alloc::AllocError;
 use wire::HttpSettings;
 
 /// A file, by the numbers of its device and its own.
@@ -9,9 +12,22 @@ pub struct FileNumbers {
     pub inode: u64,
 }
 
-/// The settings of HTTP: the origin of a proxy and the gate, if any; and the file that is served, for which orders are handed over.
-#[derive(Clone, Copy)]
-pub struct ServerSettings<'a> {
+/// What the office was given for its clients, the origin of a proxy and the gate, if any; the file that is served, for
+/// which orders are handed over; and what an order needs beside the office.
+pub struct ServerSettings<'a, A> {
     pub http: HttpSettings<'a>,
     pub file: FileNumbers,
+    pub side_jobs: &'a A,
 }
+
+impl<A> Clone for ServerSettings<'_, A> {
+    ghost is_clone = { λ x y. y ≡ x };
+
+    ghost is_infallible = { λ _. ⊤ };
+
+    fn clone(&self) -> Result<Self, AllocError> {
+        Ok(*self)
+    }
+}
+
+impl<A> Copy for ServerSettings<'_, A> {}

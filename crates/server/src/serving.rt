@@ -1,6 +1,6 @@
 //! The server: connections are accepted, serviced side by side, and their requests are processed one after the other.
 
-ghost use Rattle.std.specs.Prelude.{◌≡◌, ◌≤◌, ◌*◌, ◌<◌, ℕ, Bool, List, [], IfSome, Ok, OnOk, Result, Some, is_some, length, map, true};
+ghost use Rattle.std.specs.Prelude.{◌≡◌, ◌≤◌, ◌*◌, ◌<◌, ⊤, ℕ, Bool, List, [], IfSome, Ok, OnOk, Result, Some, is_some, length, map, true};
 ghost use Rattle.std.specs.Duration.{as_nanos};
 ghost use Rattle.std.specs.List.{insert};
 ghost use Rattle.sqlite.specs.State.{HasCleanDisk};
@@ -18,20 +18,18 @@ ghost use Rattle.server.specs.Servicing.{HasExchanges, HasSentNothing, LooksAtGa
 ghost use Rattle.server.specs.Exchanges.{Exchange};
 ghost use Rattle.server.specs.Servers.{GoesOn, IsCalled, IsEndedBy, IsNumbered, IsRound, IsUnfailed, ServesConnections, ServesOn};
 
+use crate::side_jobs::SideJobs;
+use crate::servicing::{Serviced, service};
 use crate::blind::servers_answer_as_seen;
 use crate::serve_error::ServeError;
 use crate::server_memory::ServerMemory;
 use crate::server_settings::ServerSettings;
-use crate::servicing::{Serviced, service};
-use crate::side_jobs::SideJobs;
-use connections::closing::{
-    TIMEOUT, close_all, close_timed_out, evict_if_full, evict_one, keep_within,
-};
+use connections::closing::{TIMEOUT, close_all, keep_within, close_timed_out, evict_if_full, evict_one};
 use connections::table::{longest_waiting, place_of_number};
 use connections::{AcceptOutcome, Client, CloseReason, ConnectionTable, Network};
 use office::Office;
 use sqlite::Alter;
-use std::alloc::Global;
+use std::alloc::{AllocError, Global};
 use std::time::Duration;
 use votes::Broken;
 
@@ -45,10 +43,7 @@ const ACCEPTS_PER_ROUND: usize = 64;
 const ROUNDS: u64 = u64::MAX;
 
 /// Returns the time of the clock if there is a gate, at which wrong codes count; and 0 if there is none.
-fn moment_at_gate<D: Network>(
-    network: &mut D,
-    server_settings: ServerSettings<'_>,
-) -> Result<u64, Broken>
+fn moment_at_gate<D: Network, A>(network: &mut D, server_settings: ServerSettings<'_, A>) -> Result<u64, Broken>
     ensures { LooksAtGate (is_some (settings_in server_settings.entry).clients.gate) result (D.known network.old) (D.known network.new) }
 {
     match server_settings.http.gate {
@@ -57,14 +52,11 @@ fn moment_at_gate<D: Network>(
     }
 }
 
-/// Services an open connection at a moment. Returns it, and why it is to be closed, if it is. Its time limit begins again once it
-/// has its response: however long processing took, it has all of its time.
-fn service_now<D: Network, A: SideJobs, S: Alter>(
-    alloc: Global,
+/// One of those that are in goes on, and is given back; and for what reason it leaves, if it does. Its half minute begins anew once it
+/// has its response: however long its turn took, it has all of it. If the clock fails at the gate, it doesn't go on.
+fn service_one<D: Network, A: SideJobs, S: Alter>(
     network: &mut D,
-    server_settings: ServerSettings<'_>,
-    now: u64,
-    side_jobs: &A,
+    server_settings: ServerSettings<'_, A>,
     client: Client<D::Stream>,
     office: &mut Office<S>,
     kept: &mut ServerMemory,
@@ -72,19 +64,14 @@ fn service_now<D: Network, A: SideJobs, S: Alter>(
     requires untold { HasSentNothing (stream_of D.Stream.held D.Stream.taken D.Stream.failed) client }
     ensures is { (start : D.Stream) → IsOf (stream_of D.Stream.held D.Stream.taken D.Stream.failed) start client → IsOf (stream_of D.Stream.held D.Stream.taken D.Stream.failed) start result.0 }
     ensures same { (result.0.listener ≡ client.listener) × (result.0.number ≡ client.number) }
-    ensures went { (exchanges : List Exchange) × HasExchanges (settings_in server_settings.entry) (stream_of D.Stream.held D.Stream.taken D.Stream.failed) (state S.Store) now exchanges client result.0
-        (served_office office.old (memory_entry kept.old)) (served_office office.new (memory_entry kept.new))
-        × IsServiceOutcome (stream_of D.Stream.held D.Stream.taken D.Stream.failed) (map response_at exchanges) client result.0 result.1 (D.known network.old) (D.known network.new) }
+    ensures went { WasServiced (is_some (settings_in server_settings.entry).clients.gate) (settings_in server_settings.entry) (stream_of D.Stream.held D.Stream.taken D.Stream.failed)
+        (state S.Store) result.1
+        (D.known network.old) (D.known network.new) client result.0 (served_office office.old (memory_entry kept.old)) (served_office office.new (memory_entry kept.new)) }
 {
-    let (mut client, serviced) = service(
-        alloc,
-        server_settings,
-        now,
-        side_jobs,
-        client,
-        office,
-        kept,
-    );
+    let Ok(now) = moment_at_gate(network, server_settings) else {
+        return (client, Err(Broken));
+    };
+    let (mut client, serviced) = service(server_settings, now, client, office, kept);
     match serviced {
         Serviced::Waits => (client, Ok(None)),
         Serviced::Served => match network.now() {
@@ -98,133 +85,54 @@ fn service_now<D: Network, A: SideJobs, S: Alter>(
     }
 }
 
-/// Services an open connection. Returns it, and why it is to be closed, if it is. If the clock fails at the gate, the connection
-/// isn't serviced.
-fn service_one<D: Network, A: SideJobs, S: Alter>(
-    alloc: Global,
+/// The next that the doors name goes on, if it is in. If it is done or lost, it leaves. If the clock fails, it stays where it was. Returns
+/// whether the doors named one.
+fn go_on_next<D: Network, A: SideJobs, S: Alter>(
     network: &mut D,
-    server_settings: ServerSettings<'_>,
-    side_jobs: &A,
-    client: Client<D::Stream>,
-    office: &mut Office<S>,
-    kept: &mut ServerMemory,
-) -> (Client<D::Stream>, Result<Option<CloseReason>, Broken>)
-    requires untold { HasSentNothing (stream_of D.Stream.held D.Stream.taken D.Stream.failed) client }
-    ensures is { (start : D.Stream) → IsOf (stream_of D.Stream.held D.Stream.taken D.Stream.failed) start client → IsOf (stream_of D.Stream.held D.Stream.taken D.Stream.failed) start result.0 }
-    ensures same { (result.0.listener ≡ client.listener) × (result.0.number ≡ client.number) }
-    ensures went { WasServiced (is_some (settings_in server_settings.entry).clients.gate) (settings_in server_settings.entry) (stream_of D.Stream.held D.Stream.taken D.Stream.failed)
-        (state S.Store) result.1
-        (D.known network.old) (D.known network.new) client result.0 (served_office office.old (memory_entry kept.old)) (served_office office.new (memory_entry kept.new)) }
-{
-    match moment_at_gate(network, server_settings) {
-        Ok(now) => service_now(
-            alloc,
-            network,
-            server_settings,
-            now,
-            side_jobs,
-            client,
-            office,
-            kept,
-        ),
-        Err(Broken) => (client, Err(Broken)),
-    }
-}
-
-/// Services the connection at a place. It is closed if it is done or lost. If the clock fails, it stays where it was.
-fn service_at<D: Network, A: SideJobs, S: Alter>(
-    alloc: Global,
-    network: &mut D,
-    server_settings: ServerSettings<'_>,
-    side_jobs: &A,
+    server_settings: ServerSettings<'_, A>,
     table: &mut ConnectionTable<D::Stream>,
-    place: usize,
     office: &mut Office<S>,
     kept: &mut ServerMemory,
-) -> Result<(), Broken>
-    requires place { place < length table.old.clients.items }
+) -> Result<bool, Broken>
     requires sound { IsSound (settings_in server_settings) (stream_of D.Stream.held D.Stream.taken D.Stream.failed) table.old }
     requires within { IsWithin table.old }
-    ensures goes_on { (number : ℕ) → IsNumbered table.old.clients.items place number → (before : NetworkEntry D.Stream) → D.known network.old ≡ after_ready (Some number) before
-        → ServesOn (settings_in server_settings.entry) (stream_of D.Stream.held D.Stream.taken D.Stream.failed) (state S.Store) before (D.known network.new) table.old table.new
+    ensures goes_on { ServesOn (settings_in server_settings.entry) (stream_of D.Stream.held D.Stream.taken D.Stream.failed) (state S.Store) (D.known network.old)
+        (D.known network.new) table.old table.new
         (served_office office.old (memory_entry kept.old)) (served_office office.new (memory_entry kept.new)) }
     ensures came { table.new.came ≡ table.old.came }
     ensures counted { table.new.counted ≡ table.old.counted }
     ensures within { OnOk result (IsWithin table.new) }
     ensures called { IsCalled result (D.known network.old) (D.known network.new) }
 {
-    let client = table.remove_at(place);
-    let (client, next) = service_one(
-        alloc,
-        network,
-        server_settings,
-        side_jobs,
-        client,
-        office,
-        kept,
-    );
-    let reason = match next {
-        Ok(reason) => reason,
-        Err(Broken) => {
-            table.put_back_at(place, client);
-            return Err(Broken);
-        }
+    let Some(number) = network.next_ready() else {
+        return Ok(false);
     };
-    match reason {
-        Some(why) => {
+    let Some(place) = place_of_number(table.clients.as_slice(), number) else {
+        return Ok(true);
+    };
+    let client = table.remove_at(place);
+    let (client, next) = service_one(network, server_settings, client, office, kept);
+    match next {
+        Ok(Some(why)) => {
             network.close(client.into_removed(why));
-            Ok(())
+            Ok(true)
         }
-        None => {
+        Ok(None) => {
             table.put_back_at(place, client);
             keep_within(network, table);
-            Ok(())
+            Ok(true)
         }
-    }
-}
-
-/// Services the connection with a number, if it is open.
-fn service_numbered<D: Network, A: SideJobs, S: Alter>(
-    alloc: Global,
-    network: &mut D,
-    server_settings: ServerSettings<'_>,
-    side_jobs: &A,
-    table: &mut ConnectionTable<D::Stream>,
-    number: u64,
-    office: &mut Office<S>,
-    kept: &mut ServerMemory,
-) -> Result<(), Broken>
-    requires sound { IsSound (settings_in server_settings) (stream_of D.Stream.held D.Stream.taken D.Stream.failed) table.old }
-    requires within { IsWithin table.old }
-    ensures goes_on { (before : NetworkEntry D.Stream) → D.known network.old ≡ after_ready (Some number) before
-        → ServesOn (settings_in server_settings.entry) (stream_of D.Stream.held D.Stream.taken D.Stream.failed) (state S.Store) before (D.known network.new) table.old table.new
-        (served_office office.old (memory_entry kept.old)) (served_office office.new (memory_entry kept.new)) }
-    ensures came { table.new.came ≡ table.old.came }
-    ensures counted { table.new.counted ≡ table.old.counted }
-    ensures within { OnOk result (IsWithin table.new) }
-    ensures called { IsCalled result (D.known network.old) (D.known network.new) }
-{
-    match place_of_number(table.clients.as_slice(), number) {
-        Some(place) => service_at(
-            alloc,
-            network,
-            server_settings,
-            side_jobs,
-            table,
-            place,
-            office,
-            kept,
-        ),
-        None => Ok(()),
+        Err(Broken) => {
+            table.put_back_at(place, client);
+            Err(Broken)
+        }
     }
 }
 
 /// Services each connection that is ready, in the order in which the network reports them.
 fn service_ready<D: Network, A: SideJobs, S: Alter>(
-    alloc: Global,
     network: &mut D,
-    server_settings: ServerSettings<'_>,
-    side_jobs: &A,
+    server_settings: ServerSettings<'_, A>,
     table: &mut ConnectionTable<D::Stream>,
     office: &mut Office<S>,
     kept: &mut ServerMemory,
@@ -240,19 +148,9 @@ fn service_ready<D: Network, A: SideJobs, S: Alter>(
     ensures called { IsCalled result (D.known network.old) (D.known network.new) }
 {
     for _ in 0..u64::MAX {
-        let Some(number) = network.next_ready() else {
+        if !go_on_next(network, server_settings, table, office, kept)? {
             return Ok(());
-        };
-        service_numbered(
-            alloc,
-            network,
-            server_settings,
-            side_jobs,
-            table,
-            number,
-            office,
-            kept,
-        )?;
+        }
     }
     Ok(())
 }
@@ -337,41 +235,48 @@ fn pause<L>(table: &ConnectionTable<L>, look: u64, now: u64) -> Duration
     }
 }
 
-/// One round: the open connections are serviced, those that are timed out are closed, more are accepted, and it waits until a
-/// connection is ready. Returns whether all clients were accepted, and all connections are closed.
-fn serve_round<D: Network, A: SideJobs, S: Alter>(
-    alloc: Global,
-    network: &mut D,
-    server_settings: ServerSettings<'_>,
-    side_jobs: &A,
+/// By what those are served that come: the terms, and how many clients are to come at most.
+struct Serving<'a, A> {
+    server_settings: ServerSettings<'a, A>,
     most: u64,
+}
+
+impl<A> Clone for Serving<'_, A> {
+    ghost is_clone = { λ x y. y ≡ x };
+
+    ghost is_infallible = { λ _. ⊤ };
+
+    fn clone(&self) -> Result<Self, AllocError> {
+        Ok(*self)
+    }
+}
+
+impl<A> Copy for Serving<'_, A> {}
+
+/// One round: those that are in go on, late ones are closed, more come in, and it waits until somebody may go on. Returns whether
+/// all have come that were to come, and all of them left.
+fn serve_round<D: Network, A: SideJobs, S: Alter>(
+    network: &mut D,
+    serving: Serving<'_, A>,
     table: &mut ConnectionTable<D::Stream>,
     office: &mut Office<S>,
     kept: &mut ServerMemory,
 ) -> Result<bool, Broken>
-    requires sound { IsSound (settings_in server_settings) (stream_of D.Stream.held D.Stream.taken D.Stream.failed) table.old }
+    requires sound { IsSound (settings_in serving.server_settings) (stream_of D.Stream.held D.Stream.taken D.Stream.failed) table.old }
     requires within { IsWithin table.old }
-    ensures goes_on { ServesOn (settings_in server_settings.entry) (stream_of D.Stream.held D.Stream.taken D.Stream.failed) (state S.Store) (D.known network.old)
+    ensures goes_on { ServesOn (settings_in serving.entry.server_settings) (stream_of D.Stream.held D.Stream.taken D.Stream.failed) (state S.Store) (D.known network.old)
         (D.known network.new) table.old table.new
         (served_office office.old (memory_entry kept.old)) (served_office office.new (memory_entry kept.new)) }
-    ensures few { table.old.counted ≤ most → table.new.counted ≤ most }
+    ensures few { table.old.counted ≤ serving.most → table.new.counted ≤ serving.most }
     ensures within { OnOk result (IsWithin table.new) }
-    ensures all { result ≡ Ok true → (most ≤ table.new.counted) × (table.new.clients.items ≡ []) }
+    ensures all { result ≡ Ok true → (serving.most ≤ table.new.counted) × (table.new.clients.items ≡ []) }
     ensures round { IsRound result (D.known network.old) (D.known network.new) }
 {
-    service_ready(
-        alloc,
-        network,
-        server_settings,
-        side_jobs,
-        table,
-        office,
-        kept,
-    )?;
+    service_ready(network, serving.server_settings, table, office, kept)?;
     let now = network.now()?;
     close_timed_out(network, table, now);
-    let look = accept_pending(alloc, network, table, most, now);
-    if table.counted >= most && table.clients.is_empty() {
+    let look = accept_pending(kept.alloc, network, table, serving.most, now);
+    if table.counted >= serving.most && table.clients.is_empty() {
         return Ok(true);
     }
     network.wait(pause(table, look, now))?;
@@ -380,36 +285,24 @@ fn serve_round<D: Network, A: SideJobs, S: Alter>(
 
 /// Serves until all clients were accepted, and all connections are closed.
 fn serve_rounds<D: Network, A: SideJobs, S: Alter>(
-    alloc: Global,
     network: &mut D,
-    server_settings: ServerSettings<'_>,
-    side_jobs: &A,
-    most: u64,
+    serving: Serving<'_, A>,
     table: &mut ConnectionTable<D::Stream>,
     office: &mut Office<S>,
     kept: &mut ServerMemory,
 ) -> Result<(), ServeError>
-    requires sound { IsSound (settings_in server_settings) (stream_of D.Stream.held D.Stream.taken D.Stream.failed) table.old }
+    requires sound { IsSound (settings_in serving.server_settings) (stream_of D.Stream.held D.Stream.taken D.Stream.failed) table.old }
     requires within { IsWithin table.old }
-    ensures goes_on { ServesOn (settings_in server_settings.entry) (stream_of D.Stream.held D.Stream.taken D.Stream.failed) (state S.Store) (D.known network.old)
+    ensures goes_on { ServesOn (settings_in serving.entry.server_settings) (stream_of D.Stream.held D.Stream.taken D.Stream.failed) (state S.Store) (D.known network.old)
         (D.known network.new) table.old table.new
         (served_office office.old (memory_entry kept.old)) (served_office office.new (memory_entry kept.new)) }
-    ensures few { table.old.counted ≤ most → table.new.counted ≤ most }
-    ensures all { OnOk result (most ≤ table.new.counted) }
+    ensures few { table.old.counted ≤ serving.most → table.new.counted ≤ serving.most }
+    ensures all { OnOk result (serving.most ≤ table.new.counted) }
     ensures none { OnOk result (table.new.clients.items ≡ []) }
     ensures ended { IsEndedBy (D.known network.old) (D.known network.new) result }
 {
     for round in 0..ROUNDS {
-        match serve_round(
-            alloc,
-            network,
-            server_settings,
-            side_jobs,
-            most,
-            table,
-            office,
-            kept,
-        ) {
+        match serve_round(network, serving, table, office, kept) {
             Ok(true) => return Ok(()),
             Ok(false) => {}
             Err(Broken) => return Err(ServeError::Network),
@@ -448,8 +341,7 @@ fn serve_rounds<D: Network, A: SideJobs, S: Alter>(
 pub fn serve_connections<D: Network, A: SideJobs, S: Alter>(
     alloc: Global,
     network: &mut D,
-    server_settings: ServerSettings<'_>,
-    side_jobs: &A,
+    server_settings: ServerSettings<'_, A>,
     connections: Option<u64>,
     office: &mut Office<S>,
 ) -> Result<(), ServeError>
@@ -466,17 +358,11 @@ pub fn serve_connections<D: Network, A: SideJobs, S: Alter>(
     let Ok(mut table) = ConnectionTable::new(alloc) else {
         return Err(ServeError::Memory);
     };
-    let mut kept = ServerMemory::new(alloc);
-    let ended = serve_rounds(
-        alloc,
-        network,
-        server_settings,
-        side_jobs,
-        most,
-        &mut table,
-        office,
-        &mut kept,
-    );
+    let Ok(mut kept) = ServerMemory::new(alloc) else {
+        return Err(ServeError::Memory);
+    };
+    let serving = Serving { server_settings, most };
+    let ended = serve_rounds(network, serving, &mut table, office, &mut kept);
     close_all(network, &mut table);
     ended
 }

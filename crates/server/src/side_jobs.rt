@@ -12,18 +12,24 @@ use office::Office;
 use sqlite::Alter;
 use votes::Sink;
 
-/// Copies an open office to a new file, and prints its journal. The office continues, and is only read; the program decides which
-/// files these are.
+/// Where a copy goes: a path, as it is seen from a folder.
+#[derive(Clone, Copy)]
+pub struct Destination<'a> {
+    pub folder: &'a str,
+    pub path: &'a str,
+}
+
+/// Copies an open office to a new file, and prints its journal. The office goes on, and is only read; which files these are,
+/// the program says.
 pub trait SideJobs {
     /// Returns whether the file of the office is still there, whole, and no other in its place. Nothing can be promised of a file.
     fn is_whole(&self) -> bool;
 
-    /// Copies the office to the file at a path, as seen from a folder, and prints how much the copy has.
+    /// Copies the office to a new file, and prints how much the copy has.
     fn copy<S: Alter, O: Sink, E: Sink>(
         &self,
         office: &mut Office<S>,
-        folder: &str,
-        path: &str,
+        to: Destination<'_>,
         out: &mut O,
         err: &mut E,
     ) -> u8

@@ -6,13 +6,13 @@
 //! as ready may have nothing to read, and a call on it then returns at once.
 #![tactic(auto)]
 
-mod accept_error;
-mod loopback;
-mod poller;
-mod socket;
 mod socket_network;
+mod loopback;
+mod accept_error;
+mod socket;
+mod poller;
 
-pub use loopback::Loopback;
-pub use poller::Poller;
-pub use socket::Socket;
 pub use socket_network::SocketNetwork;
+pub use loopback::Loopback;
+pub use socket::Socket;
+pub use poller::Poller;

@@ -13,8 +13,12 @@ use Rattle.wire.specs.Requests.{HttpRequestEntry, Asks, AsksOneThing, DeniesFore
 use Rattle.wire.specs.Gates.{HttpSettingsEntry}
 use Rattle.wire.specs.Heads.{BeginsWith, HasNoHead}
 use Rattle.wire.specs.Lengths.{NamedValue, body_length}
+use Rattle.wire.specs.Parsing.{Says}
 use Rattle.wire.specs.declared.request.HttpRequest.{HttpRequest}
+use Rattle.wire.specs.declared.request_error.RequestError.{RequestError}
 use Rattle.wire.specs.declared.request_error.RequestError.TheVariants.{BadRequest}
+use Rattle.wire.specs.declared.parsed.Head.{Head}
+use Rattle.wire.specs.declared.target.Target.{Target}
 use Rattle.wire.specs.declared.read_failure.ReadFailure.{ReadFailure}
 use Rattle.wire.specs.declared.read_failure.ReadFailure.TheVariants.{Broken, Memory}
 
@@ -92,14 +96,6 @@ module _ (settings : HttpSettingsEntry) (got : List ℕ) (headers : List HeaderS
       (subst (λ p. MissesBytes (wanted settings fields head.method p) (body_length fields) behind) there.path
       (subst (λ m. MissesBytes (wanted settings fields m (span_bytes got spans.path)) (body_length fields) behind) there.method completeness_of))
 
-  -- and the other way round
-  pub MissesFound-of : (head : RequestHead) → IsRequestAt got headers spans head → (behind : List ℕ) → MissesBehind settings head behind → MissesFound settings got headers spans behind
-  MissesFound-of head there behind completeness_of =
-      let fields = map (header_bytes got) (take spans.headers headers) in
-      subst (λ m. MissesBytes (wanted settings fields m (span_bytes got spans.path)) (body_length fields) behind) (sym there.method)
-      (subst (λ p. MissesBytes (wanted settings fields head.method p) (body_length fields) behind) (sym there.path)
-      (subst (λ (f : List NamedValue). MissesBytes (wanted settings f head.method head.target) (body_length f) behind) (sym there.fields) completeness_of))
-
   -- bytes that begin with what was read don't say what is asked, where what was found in that lacks more
   pub IsWanting-found : (bytes left : List ℕ) → IsRequestOf got headers spans → length got ≤ 8192 → length headers ≡ 32 → bytes ≡ got ++ left
       → MissesFound settings got headers spans (drop spans.len got ++ left) → IsWanting settings bytes
@@ -114,3 +110,28 @@ FailsAfter-behind settings old mid new got headers spans found (Ok asked) fits p
 FailsAfter-behind settings old mid new got headers spans found (Err Memory) fits places took after = tt
 FailsAfter-behind settings old mid new got headers spans found (Err Broken) fits places took (more, then, completeness_of) =
     (got ++ more, Consumes-trans old mid new got more took then, IsWanting-found settings got headers spans (got ++ more) more found fits places refl completeness_of)
+
+-- ---- by what its head says that was parsed
+
+module _ (settings : HttpSettingsEntry) (got : List ℕ) (headers : List HeaderSpan) (spans : RequestSpans) (head : Head) where
+  -- the head says what was found
+  abbrev pub SaysFound : Type 0
+  SaysFound = Says settings (map (header_bytes got) (take spans.headers headers)) (span_bytes got spans.method) (span_bytes got spans.path) spans.len head
+
+  pub Asks-said : {E : Type 0} (old mid : Option (List ℕ)) → IsRequestOf got headers spans → SaysFound → (r : Result HttpRequest E) → length got ≤ 8192 → length headers ≡ 32 → Consumes old mid got
+      → IfSome mid (λ left. IfOk r (λ asked. http_request_entry asked ≡ asked_of settings.gate head.wanted head.body (drop spans.len got ++ left))) → IfSome old (λ bytes. IfOk r (λ asked. Asks settings bytes (http_request_entry asked)))
+  Asks-said old mid found says r fits places took is =
+      let fields = map (header_bytes got) (take spans.headers headers) in
+      let target = wanted settings fields (span_bytes got spans.method) (span_bytes got spans.path) in
+      Asks-head settings old mid got headers spans found r fits places took
+      (subst (λ b. IfSome mid (λ left. IfOk r (λ asked. http_request_entry asked ≡ asked_of settings.gate target b (drop spans.len got ++ left)))) says.body
+      (subst (λ (t : Result Target RequestError). IfSome mid (λ left. IfOk r (λ asked. http_request_entry asked ≡ asked_of settings.gate t head.body (drop spans.len got ++ left)))) says.wanted is))
+
+  pub FailsAfter-said : (old mid new : Option (List ℕ)) → IsRequestOf got headers spans → SaysFound → (r : Result HttpRequest ReadFailure) → length got ≤ 8192 → length headers ≡ 32 → Consumes old mid got
+      → IfErr r (FailsAfter mid new (λ more. MissesBytes head.wanted head.body (drop spans.len got ++ more))) → IfErr r (FailsAfter old new (IsWanting settings))
+  FailsAfter-said old mid new found says r fits places took after =
+      let fields = map (header_bytes got) (take spans.headers headers) in
+      let target = wanted settings fields (span_bytes got spans.method) (span_bytes got spans.path) in
+      FailsAfter-behind settings old mid new got headers spans found r fits places took
+      (subst (λ b. IfErr r (FailsAfter mid new (λ more. MissesBytes target b (drop spans.len got ++ more)))) says.body
+      (subst (λ (t : Result Target RequestError). IfErr r (FailsAfter mid new (λ more. MissesBytes t head.body (drop spans.len got ++ more)))) says.wanted after))

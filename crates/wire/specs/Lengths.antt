@@ -5,6 +5,7 @@ use Rattle.std.specs.Char.{is_ascii_digit}
 use Rattle.std.specs.List.{list_all}
 use Rattle.std.specs.Str.{str_eq_ignore_ascii_case}
 use Rattle.std.specs.Str.Parse.{digits_value}
+use Rattle.origins.specs.Origins.{are_digits}
 use Rattle.wire.specs.declared.request_error.RequestError.{RequestError}
 use Rattle.wire.specs.declared.request_error.RequestError.TheVariants.{BadRequest, TooLarge}
 
@@ -25,11 +26,7 @@ abbrev pub value_listed : Option (Bor (List ℕ)) → List (List ℕ)
 value_listed None = []
 value_listed (Some value) = value.now ∷ []
 
--- at least one digit, and nothing but digits
-abbrev pub are_digits : List ℕ → Bool
-are_digits text = nat_lt 0 (length text) && list_all is_ascii_digit text
-
--- the length that a text gives, up to the greatest
+-- the length that a text writes, up to the greatest
 abbrev pub length_in : List ℕ → Result ℕ RequestError
 length_in text =
     if not (are_digits text) then Err BadRequest else (

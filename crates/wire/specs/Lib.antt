@@ -7,6 +7,7 @@ pub mod Bodies
 pub mod Gates
 pub mod Requests
 pub mod Completeness
+pub mod Parsing
 pub mod Replies
 pub mod Responses
 pub mod Told

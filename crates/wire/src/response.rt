@@ -156,24 +156,6 @@ fn phrase(status: StatusCode) -> &'static str
     }
 }
 
-#[tactic(auto, unfolding(crate::specs::Responses::lines_and_body))]
-/// Returns the lines of a response, with further header lines, an empty line, and the body.
-fn lines_and_body(
-    alloc: Global,
-    code: u16,
-    phrase: &str,
-    media_type: &str,
-    size: usize,
-    beside: &str,
-    body: &str,
-) -> Result<String, AllocError>
-    ensures { IfOk result (λ text. string_bytes text ≡ lines_and_body code phrase.now media_type.now size beside.now body.now) }
-{
-    format!(in alloc;
-        "HTTP/1.1 {code} {phrase}\r\nContent-Type: {media_type}\r\nContent-Length: {size}\r\n{beside}Connection: close\r\n\r\n{body}"
-    )
-}
-
 #[tactic(auto, unfolding(crate::specs::Responses::code_line))]
 /// Returns the line that asks for a clerk's code.
 fn code_line(alloc: Global, clerk: u32) -> Result<String, AllocError>
@@ -195,7 +177,8 @@ Cache-Control: no-store\r\n"
     )
 }
 
-/// Returns a response with a status, further header lines, and a body. The only error is a failed allocation.
+#[tactic(auto, unfolding(crate::specs::Responses::lines_and_body))]
+/// An answer with a status, lines beside, an empty line, and a body. The only error is want of memory.
 fn response_with(
     alloc: Global,
     status: StatusCode,
@@ -205,15 +188,10 @@ fn response_with(
 ) -> Result<String, AllocError>
     ensures { IfOk result (λ text. string_bytes text ≡ lines_and_body status (phrase status) (media_type content) (length body.now) beside.now body.now) }
 {
-    let (phrase, media_type) = (phrase(status), media_type(content));
-    lines_and_body(
-        alloc,
-        status.as_u16(),
-        phrase,
-        media_type,
-        body.len(),
-        beside,
-        body,
+    let (code, phrase) = (status.as_u16(), phrase(status));
+    let (media_type, size) = (media_type(content), body.len());
+    format!(in alloc;
+        "HTTP/1.1 {code} {phrase}\r\nContent-Type: {media_type}\r\nContent-Length: {size}\r\n{beside}Connection: close\r\n\r\n{body}"
     )
 }
 

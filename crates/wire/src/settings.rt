@@ -1,7 +1,7 @@
 //! The settings of HTTP.
 
-use crate::origin::Origin;
 use codes::Codes;
+use origins::Origin;
 
 /// The page on which clerks key, and its policy, which says what a browser lets it do.
 #[derive(Clone, Copy)]

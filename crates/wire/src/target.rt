@@ -47,17 +47,14 @@ enum RouteTarget {
     Declaration,
 }
 
-/// Returns the router with the seven routes.
+/// Makes the router of the seven routes.
 fn office_router(alloc: Global) -> Result<Router<RouteTarget>, InsertError>
     ensures { IfOk result (λ router. router ≡ office_routes) }
 {
     let mut router = Router::new(alloc);
     router.insert("/clerks/{c}/batches/{b}/keying", RouteTarget::Keying)?;
     router.insert("/clerks/{c}/work", RouteTarget::Work)?;
-    router.insert(
-        "/clerks/{c}/batches/{b}/candidates",
-        RouteTarget::Candidates,
-    )?;
+    router.insert("/clerks/{c}/batches/{b}/candidates", RouteTarget::Candidates)?;
     router.insert("/clerks/{c}/", RouteTarget::Page)?;
     router.insert("/clerks/{c}/leave", RouteTarget::Leave)?;
     router.insert("/wards/{w}/sheet", RouteTarget::Sheet)?;
@@ -112,21 +109,35 @@ fn named_at(place: RouteTarget, params: &Params<'_, '_>) -> Option<Target>
     }
 }
 
-/// Returns what a target names, if anything is served there. The only error is a failed allocation.
-pub(crate) fn named_by(alloc: Global, target: &[u8]) -> Result<Option<Target>, AllocError>
-    ensures { IfOk result (λ found. found ≡ named_by target.now) }
-{
-    if !target.is_ascii() {
-        return Ok(None);
+/// The seven routes, which whoever serves makes once.
+#[derive(Drop)]
+pub struct Routes {
+    router: Router<RouteTarget>,
+    pub ghost seven: { router ≡ office_routes },
+}
+
+impl Routes {
+    /// Makes the routes. The only error is that an allocation failed.
+    pub fn new(alloc: Global) -> Result<Routes, AllocError> {
+        match office_router(alloc) {
+            Ok(router) => Ok(Routes { router }),
+            Err(_) => Err(AllocError),
+        }
     }
-    let Ok(text) = str::from_utf8(target) else {
-        return Ok(None);
-    };
-    let Ok(router) = office_router(alloc) else {
-        return Err(AllocError);
-    };
-    let Ok(found) = router.at(text) else {
-        return Ok(None);
-    };
-    Ok(named_at(*found.value, &found.params))
+
+    /// Returns what a target names, if anything is served there. Takes no memory.
+    pub(crate) fn named_by(&self, target: &[u8]) -> Option<Target>
+        ensures { result ≡ named_by target.now }
+    {
+        if !target.is_ascii() {
+            return None;
+        }
+        let Ok(text) = str::from_utf8(target) else {
+            return None;
+        };
+        match self.router.at(text) {
+            Ok(found) => named_at(*found.value, &found.params),
+            Err(_) => None,
+        }
+    }
 }

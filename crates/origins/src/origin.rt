@@ -1,0 +1,110 @@
+//! An origin, as a browser writes it.
+
+ghost use Rattle.std.specs.Prelude.{◌≡◌, ◌≤◌, length, option_map};
+ghost use Rattle.std.specs.List.{prefix_len};
+ghost use Rattle.origins.specs.Origins.{authority_of, is_authority, is_host_byte, is_origin, is_port_or_none, is_with_port, origin_in, origin_text};
+
+/// The most digits of a port.
+const MOST_DIGITS: usize = 5;
+
+/// The origin of pages that reach the office through a proxy in front of it, as a browser writes it.
+#[derive(Clone, Copy, Debug)]
+pub struct Origin<'a> {
+    text: &'a str,
+}
+
+/// Whether it is a port behind a host, or none.
+fn is_port_or_none(text: &[u8]) -> bool
+    ensures { result ≡ is_port_or_none text.now }
+{
+    match text.split_first() {
+        Some((first, digits)) => {
+            *first == b':'
+                && digits.len() <= MOST_DIGITS
+                && !digits.is_empty()
+                && digits.iter().all(|digit| digit.is_ascii_digit())
+        }
+        None => true,
+    }
+}
+
+/// Returns whether a text is this host, with a port behind it or without.
+pub fn is_with_port(front: &[u8], text: &[u8]) -> bool
+    ensures { result ≡ is_with_port front.now text.now }
+{
+    text.starts_with(front) && is_port_or_none(&text[front.len()..])
+}
+
+/// Whether a byte may stand in a host.
+fn is_host_byte(byte: u8) -> bool
+    ensures { result ≡ is_host_byte byte }
+{
+    byte.is_ascii_lowercase() || byte.is_ascii_digit() || matches!(byte, b'-' | b'.' | b'_')
+}
+
+/// How long the host is that a text begins with.
+fn host_length(text: &[u8]) -> usize
+    ensures bound { result ≤ length text.now }
+    ensures is { result ≡ prefix_len is_host_byte text.now }
+{
+    let mut length = 0;
+    for byte in text {
+        if !is_host_byte(*byte) {
+            return length;
+        }
+        length += 1;
+    }
+    length
+}
+
+/// Whether a text is a host, with a port behind it or without; the scheme's own port is left out.
+fn is_authority(own_port: &[u8], text: &[u8]) -> bool
+    ensures { result ≡ is_authority own_port.now text.now }
+{
+    let length = host_length(text);
+    let port = &text[length..];
+    length > 0 && is_port_or_none(port) && port != own_port
+}
+
+/// Whether a text is an origin.
+fn is_origin(text: &[u8]) -> bool
+    ensures { result ≡ is_origin text.now }
+{
+    if text.starts_with(b"https://") {
+        return is_authority(b":443", &text[8..]);
+    }
+    text.starts_with(b"http://") && is_authority(b":80", &text[7..])
+}
+
+impl<'a> Origin<'a> {
+    /// The origin that a text is: `http://` or `https://`, a host in small letters, and its port, where it is
+    /// another than the scheme's own. `None` where the text is no origin, or not as a browser writes it.
+    pub fn parse(text: &'a str) -> Option<Origin<'a>>
+        ensures { option_map origin_text result ≡ origin_in text.now }
+    {
+        if is_origin(text.as_bytes()) {
+            Some(Origin { text })
+        } else {
+            None
+        }
+    }
+
+    /// Returns its text.
+    pub fn text(self) -> &'a str
+        ensures { result.now ≡ origin_text self.entry }
+    {
+        self.text
+    }
+
+    /// Returns its host, with its port.
+    pub fn authority(self) -> &'a [u8]
+        ensures { result.now ≡ authority_of (origin_text self.entry) }
+    {
+        let text = self.text.as_bytes();
+        if text.starts_with(b"https://") {
+            &text[8..]
+        } else {
+            &text[text.len().min(7)..]
+        }
+    }
+}

@@ -1,0 +1,250 @@
+//! A request of which some bytes came: its head is parsed once, and all but the body's text comes from that.
+
+ghost use Rattle.std.specs.Prelude.{◌≡◌, ◌≤◌, ◌++◌, IfOk, IfSome, List, ℕ, length, map, option_map, take};
+ghost use Rattle.httparse.specs.Spans.{IsRequestWithin, header_bytes, span_bytes};
+ghost use Rattle.wire.specs.Requests.{Asks, http_request_entry, asked_of, asked_with, reading};
+ghost use Rattle.wire.specs.Gates.{HttpSettingsEntry, IsAuthentication, settings_entry, authentication_entry};
+ghost use Rattle.wire.specs.Completeness.{IsCompletenessOf};
+ghost use Rattle.wire.specs.Parsing.{IsParsed, Says, needed};
+
+use crate::request::{HttpRequest, Keying, asked_for, page_at, served_at};
+use crate::body::{KeyingBody, keying_of};
+use crate::request_error::RequestError;
+use crate::settings::{HttpSettings, Show};
+use crate::head::{MAX_HEAD_BYTES, MAX_HEADERS};
+use crate::authentication::{Authentication, clerk_under, kept_out, authentication_by};
+use crate::completeness::Completeness;
+use crate::length::{MAX_BODY_BYTES, body_length};
+use crate::origin::is_foreign;
+use crate::target::{Resource, Routes, Target};
+use httparse::Status;
+use httparse::spans::{EMPTY_HEADER_SPAN, HeaderSpan, RequestSpans, parse_request};
+use std::alloc::{AllocError, Global};
+
+/// What the head of a request says.
+#[derive(Clone, Copy)]
+pub struct Head {
+    /// What is asked for, or why it is denied.
+    pub(crate) wanted: Result<Target, RequestError>,
+    /// Under which clerk's number it asks, if codes are asked for, and whether its code is wrong.
+    pub(crate) authentication: Option<Authentication>,
+    /// How many bytes its body has, or why that can't be known.
+    pub(crate) body: Result<usize, RequestError>,
+    /// How many bytes the head has itself.
+    pub(crate) size: usize,
+}
+
+/// How far a request has come.
+#[derive(Clone, Copy)]
+pub enum Parsed {
+    /// Its head is whole.
+    Head(Head),
+    /// Its head isn't whole yet.
+    Partial,
+    /// It has no head, whatever follows.
+    Malformed,
+}
+
+/// Returns what a clerk's keying of a batch says, by the length of its body and the bytes that follow the head.
+fn keying_in<'a>(
+    alloc: Global,
+    clerk: u32,
+    batch: u32,
+    body: Result<usize, RequestError>,
+    behind: &[u8],
+) -> Result<HttpRequest<'a>, AllocError>
+    ensures { IfOk result (λ asked. http_request_entry asked ≡ asked_with clerk batch body behind.now) }
+{
+    let size = match body {
+        Ok(size) => size,
+        Err(why) => return Ok(HttpRequest::Denied(why)),
+    };
+    if behind.len() < size {
+        return Ok(HttpRequest::Denied(RequestError::BadRequest));
+    }
+    match keying_of(alloc, &behind[..size])? {
+        Some(KeyingBody { id, round, papers }) => Ok(HttpRequest::Keying(Keying {
+            clerk,
+            batch,
+            id,
+            round,
+            papers,
+        })),
+        None => Ok(HttpRequest::Denied(RequestError::BadRequest)),
+    }
+}
+
+impl Head {
+    /// Returns what a head says that was found in a buffer, in which its names and values are.
+    pub(crate) fn found(
+        settings: HttpSettings<'_>,
+        routes: &Routes,
+        read: &[u8],
+        headers: &[HeaderSpan],
+        spans: RequestSpans,
+    ) -> Head
+        requires { IsRequestWithin read.now headers.now spans }
+        ensures { Says (settings_entry settings.entry) (map (header_bytes read.now) (take spans.headers headers.now)) (span_bytes read.now spans.method)
+            (span_bytes read.now spans.path) spans.len result }
+    {
+        let headers = &headers[..spans.headers];
+        let (body, size) = (body_length(read, headers), spans.len);
+        if is_foreign(settings.origin, read, headers) {
+            return Head {
+                wanted: Err(RequestError::Forbidden),
+                authentication: None,
+                body,
+                size,
+            };
+        }
+        let target = spans.path.of(read);
+        let clerk = clerk_under(target);
+        let why = kept_out(settings.gate, clerk, read, headers);
+        let authentication = authentication_by(settings.gate, clerk, why);
+        let wanted = match why {
+            Some(why) => Err(why),
+            None => asked_for(spans.method.of(read), served_at(settings.gate, routes, target)),
+        };
+        Head {
+            wanted,
+            authentication,
+            body,
+            size,
+        }
+    }
+
+    /// Returns what is asked with this head and the bytes that follow it. The only error is that an allocation failed.
+    pub(crate) fn asked_with<'a>(
+        &self,
+        alloc: Global,
+        settings: HttpSettings<'a>,
+        behind: &[u8],
+    ) -> Result<HttpRequest<'a>, AllocError>
+        ensures { IfOk result (λ asked. http_request_entry asked ≡ asked_of (settings_entry settings.entry).gate self.now.wanted self.now.body behind.now) }
+    {
+        match self.wanted {
+            Ok(Target::Keying { clerk, batch }) => {
+                keying_in(alloc, clerk, batch, self.body, behind)
+            }
+            Ok(Target::Page { clerk }) => Ok(page_at(settings.gate, clerk)),
+            Ok(Target::Leave { clerk }) => Ok(HttpRequest::Shown(clerk, Show::Left)),
+            Ok(Target::Resource(what)) => Ok(HttpRequest::Resource(what)),
+            Err(why) => Ok(HttpRequest::Denied(why)),
+        }
+    }
+
+    /// Returns how many bytes are needed behind the head to know what is asked. Only a keying needs any.
+    fn needed(&self) -> usize
+        ensures { result ≡ needed self.now.wanted self.now.body }
+    {
+        match self.wanted {
+            Ok(Target::Keying { .. }) => match self.body {
+                Ok(size) => size,
+                Err(_) => 0,
+            },
+            _ => 0,
+        }
+    }
+}
+
+/// Parses the head of a request of which these bytes came. Takes no memory.
+///
+/// Of as many bytes as a head may have, the result stays right whatever follows them.
+pub fn parse(settings: HttpSettings<'_>, routes: &Routes, got: &[u8]) -> Parsed
+    ensures is { IsParsed (settings_entry settings.entry) got.now result }
+    ensures lasts { MAX_HEAD_BYTES ≤ length got.now → (more : List ℕ) → IsParsed (settings_entry settings.entry) (got.now ++ more) result }
+{
+    let mut headers = [EMPTY_HEADER_SPAN; MAX_HEADERS];
+    let front = &got[..got.len().min(MAX_HEAD_BYTES)];
+    match parse_request(front, &mut headers) {
+        Ok(Status::Complete(spans)) => Parsed::Head(Head::found(
+            settings, routes, front, &headers, spans,
+        )),
+        Ok(Status::Partial) if got.len() < MAX_HEAD_BYTES => Parsed::Partial,
+        Ok(Status::Partial) => Parsed::Malformed,
+        Err(_) => Parsed::Malformed,
+    }
+}
+
+impl Parsed {
+    /// Returns what the request lacks of which so many bytes came.
+    ///
+    /// Bytes that lack nothing ask what they ask, whatever follows them.
+    pub fn completeness_of(&self, come: usize) -> Completeness
+        ensures { (its : HttpSettingsEntry) (got : List ℕ) → length got ≡ come → IsParsed its got self.now → IsCompletenessOf its got result }
+    {
+        match self {
+            Parsed::Head(head) => {
+                let whole = head.size.saturating_add(head.needed());
+                if come < whole {
+                    Completeness::Bytes(whole)
+                } else {
+                    Completeness::Nothing
+                }
+            }
+            Parsed::Partial => Completeness::Bytes(come.saturating_add(1)),
+            Parsed::Malformed => Completeness::Nothing,
+        }
+    }
+
+    /// Returns under which clerk's number the request asks, and whether its code is wrong; none if it asks under nobody's.
+    pub fn authentication(&self) -> Option<Authentication>
+        ensures { (its : HttpSettingsEntry) (got : List ℕ) → IsParsed its got self.now → IsAuthentication its got (option_map authentication_entry result) }
+    {
+        match self {
+            Parsed::Head(head) => head.authentication,
+            Parsed::Partial => None,
+            Parsed::Malformed => None,
+        }
+    }
+
+    /// Returns what the request reads, if it asks for a read.
+    pub fn reading(&self) -> Option<Resource>
+        ensures { (its : HttpSettingsEntry) (got : List ℕ) → IsParsed its got self.now → IfSome result (λ what. Asks its got (reading what)) }
+    {
+        match self {
+            Parsed::Head(head) => match head.wanted {
+                Ok(Target::Resource(what)) => Some(what),
+                _ => None,
+            },
+            Parsed::Partial => None,
+            Parsed::Malformed => None,
+        }
+    }
+
+    /// Returns what the request asks of which these bytes came, the ones that were parsed. The only error is that an allocation failed.
+    pub fn asked<'a>(
+        &self,
+        alloc: Global,
+        settings: HttpSettings<'a>,
+        got: &[u8],
+    ) -> Result<HttpRequest<'a>, AllocError>
+        ensures { IsParsed (settings_entry settings.entry) got.now self.now → IfOk result (λ asked. Asks (settings_entry settings.entry) got.now (http_request_entry asked)) }
+    {
+        match self {
+            Parsed::Head(head) => {
+                head.asked_with(alloc, settings, &got[head.size.min(got.len())..])
+            }
+            Parsed::Partial => Ok(HttpRequest::Denied(RequestError::BadRequest)),
+            Parsed::Malformed => Ok(HttpRequest::Denied(RequestError::BadRequest)),
+        }
+    }
+
+    /// Returns how many bytes are still to come of the body, of a request of which so many bytes came: as many as its head says, and at
+    /// most 1 MiB, also if it says more, or nothing that is understood. It is 0 if there is no whole head.
+    ///
+    /// Whoever answers such a request reads so many bytes more before closing the connection: else the system resets it, and a proxy
+    /// reports that in place of the response.
+    pub fn body_to_come(&self, come: usize) -> usize
+        ensures { (its : HttpSettingsEntry) (got : List ℕ) → IsParsed its got self.now → result ≤ MAX_BODY_BYTES }
+    {
+        match self {
+            Parsed::Head(head) => match head.body {
+                Ok(size) => size.saturating_sub(come.saturating_sub(head.size)),
+                Err(_) => MAX_BODY_BYTES as usize,
+            },
+            Parsed::Partial => 0,
+            Parsed::Malformed => 0,
+        }
+    }
+}
