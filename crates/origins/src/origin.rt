@@ -1,7 +1,8 @@
 //! An origin, as a browser writes it.
 
 ghost use Rattle.std.specs.Prelude.{◌≡◌, ◌≤◌, length, option_map};
-ghost use Rattle.std.specs.List.{prefix_len};
+ghost use Rattle.std.specs.Char.{is_ascii_digit};
+ghost use Rattle.std.specs.List.{list_all, prefix_len};
 ghost use Rattle.origins.specs.Origins.{authority_of, is_authority, is_host_byte, is_origin, is_port_or_none, is_with_port, origin_in, origin_text};
 
 /// The most digits of a port.
@@ -13,6 +14,13 @@ pub struct Origin<'a> {
     text: &'a str,
 }
 
+/// Returns whether bytes are digits alone.
+fn all_digits(text: &[u8]) -> bool
+    ensures { result ≡ list_all is_ascii_digit text.now }
+{
+    text.iter().all(|b| b.is_ascii_digit())
+}
+
 /// Whether it is a port behind a host, or none.
 fn is_port_or_none(text: &[u8]) -> bool
     ensures { result ≡ is_port_or_none text.now }
@@ -22,7 +30,7 @@ fn is_port_or_none(text: &[u8]) -> bool
             *first == b':'
                 && digits.len() <= MOST_DIGITS
                 && !digits.is_empty()
-                && digits.iter().all(|digit| digit.is_ascii_digit())
+                && all_digits(digits)
         }
         None => true,
     }

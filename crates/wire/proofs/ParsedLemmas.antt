@@ -3,7 +3,7 @@ use Rattle.std.proofs.Common.{◌≡◌, ◌∙◌, ◌<◌, ◌≤◌, ◌+◌,
 use Rattle.std.proofs.Math.Seq.{drop-append_seam}
 use Rattle.std.proofs.lemmas.Bool.{cases_lt, le-leb}
 use Rattle.std.proofs.lemmas.List.{append-nil, length-append, length-take, nil_from_length, take-append-drop, take-append-le, take_all}
-use Rattle.std.specs.Prelude.{◌^◌, IfOk, option_and_then}
+use Rattle.std.specs.Prelude.{◌^◌, IfOk, IfSome, option_and_then}
 use Rattle.httparse.specs.Grammar.{HasNoRequest, MayBecomeRequest, RequestHead, print_request}
 use Rattle.httparse.specs.Spans.{IsRequestOf, RequestOverflows, header_bytes, name_and_value, span_bytes}
 use Rattle.httparse.specs.declared.spans.HeaderSpan.{HeaderSpan}
@@ -15,7 +15,7 @@ use Rattle.wire.specs.Gates.{GateEntry, HttpSettingsEntry, IsAuthentication, aut
 use Rattle.wire.specs.Heads.{BeginsWith, HasNoHead, IsHeadWanting}
 use Rattle.wire.specs.Completeness.{IsCompletenessOf, IsWhole}
 use Rattle.wire.specs.Lengths.{NamedValue, body_length, most_body_bytes}
-use Rattle.wire.specs.Parsing.{IsHeadOf, Says, needed}
+use Rattle.wire.specs.Parsing.{IsHeadOf, Says, needed, read_in}
 use Rattle.wire.specs.declared.request_error.RequestError.{RequestError}
 use Rattle.wire.specs.declared.request_error.RequestError.TheVariants.{BadRequest}
 use Rattle.wire.specs.declared.completeness.Completeness.TheVariants.{Bytes}
@@ -254,8 +254,16 @@ asks_result settings got head n behind (Err e) small there is same = tt
 asks_result settings got head n behind (Ok asked) small there is same = asks_parsed settings got head n behind (http_request_entry asked) small there is same
 
 -- a read
-pub asks_reading : (settings : HttpSettingsEntry) (got : List ℕ) (head : Head) (what : Resource) → head.wanted ≡ Ok (target.Resource what) → IsHeadOf settings got head → Asks settings got (reading what)
+asks_reading : (settings : HttpSettingsEntry) (got : List ℕ) (head : Head) (what : Resource) → head.wanted ≡ Ok (target.Resource what) → IsHeadOf settings got head → Asks settings got (reading what)
 asks_reading settings got head what reads is = asks_behind settings got head is (reading what) (sym (ap (λ (t : Result Target RequestError). asked_of settings.gate t head.body is.behind) reads))
+
+-- what is read, if anything is
+pub asks_read : (settings : HttpSettingsEntry) (got : List ℕ) (head : Head) (t : Result Target RequestError) → head.wanted ≡ t → IsHeadOf settings got head → IfSome (read_in t) (λ what. Asks settings got (reading what))
+asks_read settings got head (Ok (target.Keying clerk batch)) same is = tt
+asks_read settings got head (Ok (target.Page clerk)) same is = tt
+asks_read settings got head (Ok (target.Leave clerk)) same is = tt
+asks_read settings got head (Ok (target.Resource what)) same is = asks_reading settings got head what same is
+asks_read settings got head (Err why) same is = tt
 
 -- ---- who asks
 

@@ -1,9 +1,9 @@
 -- What a request asks, from what was read of it.
-use Rattle.std.proofs.Common.{◌≡◌, ◌∙◌, ◌≤◌, subst, List, ◌++◌, Option, Some, None, Result, Ok, Err, drop, inl, inr, length, map, refl, sym, ap, take, arith, append_assoc, ℕ}
+use Rattle.std.proofs.Common.{◌≡◌, ◌∙◌, ◌≤◌, ◌-◌, subst, List, ◌++◌, Option, Some, None, Result, Ok, Err, drop, inl, inr, length, map, refl, sym, ap, take, arith, append_assoc, ℕ}
 use Rattle.std.specs.Prelude.{IfErr, IfOk, IfSome}
 use Rattle.std.specs.Io.KnownBytes.{Consumes}
 use Rattle.std.proofs.KnownBytes.{Consumes-trans}
-use Rattle.std.proofs.lemmas.List.{length-append, length-map, length-take}
+use Rattle.std.proofs.lemmas.List.{length-append, length-drop, length-map, length-take, take_all}
 use Rattle.httparse.specs.Grammar.{RequestHead, print_request}
 use Rattle.httparse.specs.Spans.{IsRequestAt, IsRequestOf, header_bytes, name_and_value, span_bytes}
 use Rattle.httparse.specs.declared.spans.HeaderSpan.{HeaderSpan}
@@ -113,25 +113,31 @@ FailsAfter-behind settings old mid new got headers spans found (Err Broken) fits
 
 -- ---- by what its head says that was parsed
 
+-- what follows a head, as a part of what was read
+pub rest_of : (n : ℕ) (got : List ℕ) → take (length got - n) (drop n got) ≡ drop n got
+rest_of n got = take_all (length got - n) (drop n got) (omega (arith, length-drop n got))
+
 module _ (settings : HttpSettingsEntry) (got : List ℕ) (headers : List HeaderSpan) (spans : RequestSpans) (head : Head) where
   -- the head says what was found
   abbrev pub SaysFound : Type 0
   SaysFound = Says settings (map (header_bytes got) (take spans.headers headers)) (span_bytes got spans.method) (span_bytes got spans.path) spans.len head
 
   pub Asks-said : {E : Type 0} (old mid : Option (List ℕ)) → IsRequestOf got headers spans → SaysFound → (r : Result HttpRequest E) → length got ≤ 8192 → length headers ≡ 32 → Consumes old mid got
-      → IfSome mid (λ left. IfOk r (λ asked. http_request_entry asked ≡ asked_of settings.gate head.wanted head.body (drop spans.len got ++ left))) → IfSome old (λ bytes. IfOk r (λ asked. Asks settings bytes (http_request_entry asked)))
-  Asks-said old mid found says r fits places took is =
+      → (behind : List ℕ) → behind ≡ drop spans.len got → IfSome mid (λ left. IfOk r (λ asked. http_request_entry asked ≡ asked_of settings.gate head.wanted head.body (behind ++ left))) → IfSome old (λ bytes. IfOk r (λ asked. Asks settings bytes (http_request_entry asked)))
+  Asks-said old mid found says r fits places took behind there is =
       let fields = map (header_bytes got) (take spans.headers headers) in
       let target = wanted settings fields (span_bytes got spans.method) (span_bytes got spans.path) in
       Asks-head settings old mid got headers spans found r fits places took
       (subst (λ b. IfSome mid (λ left. IfOk r (λ asked. http_request_entry asked ≡ asked_of settings.gate target b (drop spans.len got ++ left)))) says.body
-      (subst (λ (t : Result Target RequestError). IfSome mid (λ left. IfOk r (λ asked. http_request_entry asked ≡ asked_of settings.gate t head.body (drop spans.len got ++ left)))) says.wanted is))
+      (subst (λ (t : Result Target RequestError). IfSome mid (λ left. IfOk r (λ asked. http_request_entry asked ≡ asked_of settings.gate t head.body (drop spans.len got ++ left)))) says.wanted
+      (subst (λ (xs : List ℕ). IfSome mid (λ left. IfOk r (λ asked. http_request_entry asked ≡ asked_of settings.gate head.wanted head.body (xs ++ left)))) there is)))
 
   pub FailsAfter-said : (old mid new : Option (List ℕ)) → IsRequestOf got headers spans → SaysFound → (r : Result HttpRequest ReadFailure) → length got ≤ 8192 → length headers ≡ 32 → Consumes old mid got
-      → IfErr r (FailsAfter mid new (λ more. MissesBytes head.wanted head.body (drop spans.len got ++ more))) → IfErr r (FailsAfter old new (IsWanting settings))
-  FailsAfter-said old mid new found says r fits places took after =
+      → (behind : List ℕ) → behind ≡ drop spans.len got → IfErr r (FailsAfter mid new (λ more. MissesBytes head.wanted head.body (behind ++ more))) → IfErr r (FailsAfter old new (IsWanting settings))
+  FailsAfter-said old mid new found says r fits places took behind there after =
       let fields = map (header_bytes got) (take spans.headers headers) in
       let target = wanted settings fields (span_bytes got spans.method) (span_bytes got spans.path) in
       FailsAfter-behind settings old mid new got headers spans found r fits places took
       (subst (λ b. IfErr r (FailsAfter mid new (λ more. MissesBytes target b (drop spans.len got ++ more)))) says.body
-      (subst (λ (t : Result Target RequestError). IfErr r (FailsAfter mid new (λ more. MissesBytes t head.body (drop spans.len got ++ more)))) says.wanted after))
+      (subst (λ (t : Result Target RequestError). IfErr r (FailsAfter mid new (λ more. MissesBytes t head.body (drop spans.len got ++ more)))) says.wanted
+      (subst (λ (xs : List ℕ). IfErr r (FailsAfter mid new (λ more. MissesBytes head.wanted head.body (xs ++ more)))) there after)))

@@ -1,5 +1,5 @@
 -- What is known of a request of which some bytes came, once its head was parsed.
-use Rattle.std.specs.Prelude.{◌≡◌, ◌≤◌, ◌++◌, IfOk, List, Result, Ok, Err, length, map, option_map, ℕ}
+use Rattle.std.specs.Prelude.{◌≡◌, ◌≤◌, ◌++◌, IfOk, List, None, Option, Some, Result, Ok, Err, length, map, option_map, ℕ}
 use Rattle.httparse.specs.Grammar.{RequestHead, print_request}
 use Rattle.httparse.specs.Spans.{name_and_value}
 use Rattle.wire.specs.Requests.{wanted}
@@ -10,6 +10,7 @@ use Rattle.wire.specs.declared.request_error.RequestError.{RequestError}
 use Rattle.wire.specs.declared.parsed.Head.{Head}
 use Rattle.wire.specs.declared.parsed.Parsed.{Parsed}
 use Rattle.wire.specs.declared.parsed.Parsed.TheVariants as parsed
+use Rattle.wire.specs.declared.target.Resource.{Resource}
 use Rattle.wire.specs.declared.target.Target.{Target}
 use Rattle.wire.specs.declared.target.Target.TheVariants as target
 
@@ -21,6 +22,14 @@ needed (Ok (target.Page clerk)) body = 0
 needed (Ok (target.Leave clerk)) body = 0
 needed (Ok (target.Resource what)) body = 0
 needed (Err why) body = 0
+
+-- what is read, if a read is asked for
+abbrev pub read_in : Result Target RequestError → Option Resource
+read_in (Ok (target.Keying clerk batch)) = None
+read_in (Ok (target.Page clerk)) = None
+read_in (Ok (target.Leave clerk)) = None
+read_in (Ok (target.Resource what)) = Some what
+read_in (Err why) = None
 
 -- A parsed head says what these header fields, this method and this target ask, and so long is it.
 pub record Says (settings : HttpSettingsEntry) (fields : List NamedValue) (method target : List ℕ) (n : ℕ) (head : Head) : Type 0 where

@@ -5,7 +5,7 @@ ghost use Rattle.httparse.specs.Spans.{IsRequestWithin, header_bytes, span_bytes
 ghost use Rattle.wire.specs.Requests.{Asks, http_request_entry, asked_of, asked_with, reading};
 ghost use Rattle.wire.specs.Gates.{HttpSettingsEntry, IsAuthentication, settings_entry, authentication_entry};
 ghost use Rattle.wire.specs.Completeness.{IsCompletenessOf};
-ghost use Rattle.wire.specs.Parsing.{IsParsed, Says, needed};
+ghost use Rattle.wire.specs.Parsing.{IsParsed, Says, needed, read_in};
 
 use crate::request::{HttpRequest, Keying, asked_for, page_at, served_at};
 use crate::body::{KeyingBody, keying_of};
@@ -133,6 +133,16 @@ impl Head {
         }
     }
 
+    /// Returns what is read, if a read is asked for.
+    fn reading(&self) -> Option<Resource>
+        ensures { result ≡ read_in self.now.wanted }
+    {
+        match self.wanted {
+            Ok(Target::Resource(what)) => Some(what),
+            _ => None,
+        }
+    }
+
     /// Returns how many bytes are needed behind the head to know what is asked. Only a keying needs any.
     fn needed(&self) -> usize
         ensures { result ≡ needed self.now.wanted self.now.body }
@@ -203,10 +213,7 @@ impl Parsed {
         ensures { (its : HttpSettingsEntry) (got : List ℕ) → IsParsed its got self.now → IfSome result (λ what. Asks its got (reading what)) }
     {
         match self {
-            Parsed::Head(head) => match head.wanted {
-                Ok(Target::Resource(what)) => Some(what),
-                _ => None,
-            },
+            Parsed::Head(head) => head.reading(),
             Parsed::Partial => None,
             Parsed::Malformed => None,
         }
