@@ -114,8 +114,8 @@ fn receive_once<L: Stream>(stream: &mut L, got: &mut Vec<u8>) -> Result<Received
     }
 }
 
-/// Gathers what has arrived, until there are so many bytes in all, or no more has arrived. There may be fewer than `CHUNK`
-/// bytes more than that, so that a client who sends on and on holds up nobody.
+/// Receives what has arrived, until there are so many bytes in all, or no more has arrived. It receives fewer than `CHUNK` bytes
+/// more than that, so that a client that keeps sending doesn't delay the others.
 fn receive_up_to<L: Stream>(stream: &mut L, got: &mut Vec<u8>, wanted: usize) -> Result<ReadProgress, ReceiveError>
     ensures receives { Receives (stream_of L.held L.taken L.failed) stream.old stream.new got.old.items got.new.items }
     ensures enough { result ≡ Ok ReadProgress.Enough → wanted ≤ length got.new.items }

@@ -63,7 +63,7 @@ fn byte_limit_rule(orders_too: bool) -> Rule
     }
 }
 
-/// Closes the one at a place, for a reason.
+/// Closes the connection at a place, for a reason.
 fn close_at<D: Network>(network: &mut D, table: &mut ConnectionTable<D::Stream>, place: usize, why: CloseReason)
     requires { place < length table.old.clients.items }
     ensures closed { IsClosedAt why place table.old.clients.items (D.known network.old) table.new.clients.items (D.known network.new) }
@@ -73,8 +73,8 @@ fn close_at<D: Network>(network: &mut D, table: &mut ConnectionTable<D::Stream>,
     network.close(table.remove_at(place).into_removed(why));
 }
 
-/// Closes the one that has waited longest of those that a rule looks at, if that is long enough; returns whether there was such a
-/// one.
+/// Closes the connection that has waited longest of those that a rule applies to, if that is long enough. Returns whether one was
+/// closed.
 fn close_one<D: Network>(network: &mut D, table: &mut ConnectionTable<D::Stream>, rule: Rule) -> bool
     ensures go { ClosesOne (IsClosedByRule rule) result (D.known network.old) (D.known network.new) table.old table.new }
     ensures nobody { result ≡ false → All (λ client. is_among rule.orders_too client.listener ≡ true → rule.now - client.since < rule.least) table.old.clients.items }
@@ -89,7 +89,7 @@ fn close_one<D: Network>(network: &mut D, table: &mut ConnectionTable<D::Stream>
     true
 }
 
-/// Closes those whose half minute is over.
+/// Closes the connections that are timed out.
 pub fn close_timed_out<D: Network>(network: &mut D, table: &mut ConnectionTable<D::Stream>, now: u64)
     ensures go { AreClosedByRule (IsClosedByRule (timeout_rule now)) (D.known network.old) (D.known network.new) table.old table.new }
     ensures all { length table.old.clients.items ≤ most_clients → All (λ client. now - client.since < timeout) table.new.clients.items }
@@ -131,7 +131,7 @@ fn is_full<L>(table: &ConnectionTable<L>) -> bool
     table.clients.len() >= MAX_CLIENTS || bytes_held(table.clients.as_slice()) >= MAX_BYTES
 }
 
-/// Makes room for one that the system can't let in before another is closed; returns whether one was closed.
+/// Closes a client to make room for a connection for which the system has none. Returns whether one was closed.
 pub fn evict_one<D: Network>(network: &mut D, table: &mut ConnectionTable<D::Stream>, now: u64) -> bool
     ensures go { ClosesOne (IsClosedByRule (eviction_rule now)) result (D.known network.old) (D.known network.new) table.old table.new }
     ensures nobody { result ≡ false → All (λ client. is_among false client.listener ≡ true → now - client.since < grace) table.old.clients.items }
@@ -139,8 +139,8 @@ pub fn evict_one<D: Network>(network: &mut D, table: &mut ConnectionTable<D::Str
     close_one(network, table, eviction_rule(now))
 }
 
-/// Sees that one more may come in, and returns whether one may. If nobody more may be in, and clients may be closed for it, the
-/// client is closed that has waited longest, if that is a second at least. An order is never closed for another.
+/// Makes room in the table for one more connection, and returns whether there is room. If the table is full, and clients may be
+/// closed, this closes the client that has waited longest, if that is at least a second. An order is never closed to make room.
 pub fn evict_if_full<D: Network>(network: &mut D, table: &mut ConnectionTable<D::Stream>, lets_go: bool, now: u64) -> bool
     ensures go { AreClosedByRule (IsClosedForRoom now) (D.known network.old) (D.known network.new) table.old table.new }
     ensures table { result ≡ true → length table.new.clients.items < most_clients }

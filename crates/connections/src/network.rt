@@ -14,7 +14,7 @@ use votes::Broken;
 pub enum AcceptOutcome<L> {
     /// The next connection.
     One(Accepted<L>),
-    /// No connection is pending, or none that is wanted.
+    /// No connection is pending, or none of a kind that is accepted now.
     Nobody,
     /// The next connection failed before it was accepted. Another may be pending.
     NotNow,

@@ -1,6 +1,7 @@
 //! The origin of pages that reach the office through a proxy in front of it, as a browser writes it.
 //!
-//! [`Origin::parse`] reads one from a word of `serve --origin`, and a request's headers are compared with it. It knows no request.
+//! [`Origin::parse`] parses the word of `serve --origin`, with which the headers of requests are compared. Nothing here knows a
+//! request.
 //!
 //! ```text
 //! let origin = Origin::parse("https://count.example.org")?;

@@ -14,14 +14,14 @@ pub struct Origin<'a> {
     text: &'a str,
 }
 
-/// Returns whether bytes are digits alone.
+/// Returns whether all bytes are digits.
 fn all_digits(text: &[u8]) -> bool
     ensures { result ≡ list_all is_ascii_digit text.now }
 {
     text.iter().all(|b| b.is_ascii_digit())
 }
 
-/// Whether it is a port behind a host, or none.
+/// Returns whether a text is a port after a host, or empty.
 fn is_port_or_none(text: &[u8]) -> bool
     ensures { result ≡ is_port_or_none text.now }
 {
@@ -36,21 +36,21 @@ fn is_port_or_none(text: &[u8]) -> bool
     }
 }
 
-/// Returns whether a text is this host, with a port behind it or without.
+/// Returns whether a text is this host, with a port after it or without one.
 pub fn is_with_port(front: &[u8], text: &[u8]) -> bool
     ensures { result ≡ is_with_port front.now text.now }
 {
     text.starts_with(front) && is_port_or_none(&text[front.len()..])
 }
 
-/// Whether a byte may stand in a host.
+/// Returns whether a byte may appear in a host.
 fn is_host_byte(byte: u8) -> bool
     ensures { result ≡ is_host_byte byte }
 {
     byte.is_ascii_lowercase() || byte.is_ascii_digit() || matches!(byte, b'-' | b'.' | b'_')
 }
 
-/// How long the host is that a text begins with.
+/// Returns the length of the host that a text begins with.
 fn host_length(text: &[u8]) -> usize
     ensures bound { result ≤ length text.now }
     ensures is { result ≡ prefix_len is_host_byte text.now }
@@ -65,7 +65,7 @@ fn host_length(text: &[u8]) -> usize
     length
 }
 
-/// Whether a text is a host, with a port behind it or without; the scheme's own port is left out.
+/// Returns whether a text is a host, with a port after it or without one; the scheme's own port must be left out.
 fn is_authority(own_port: &[u8], text: &[u8]) -> bool
     ensures { result ≡ is_authority own_port.now text.now }
 {
@@ -74,7 +74,7 @@ fn is_authority(own_port: &[u8], text: &[u8]) -> bool
     length > 0 && is_port_or_none(port) && port != own_port
 }
 
-/// Whether a text is an origin.
+/// Returns whether a text is an origin.
 fn is_origin(text: &[u8]) -> bool
     ensures { result ≡ is_origin text.now }
 {
@@ -85,8 +85,8 @@ fn is_origin(text: &[u8]) -> bool
 }
 
 impl<'a> Origin<'a> {
-    /// The origin that a text is: `http://` or `https://`, a host in small letters, and its port, where it is
-    /// another than the scheme's own. `None` where the text is no origin, or not as a browser writes it.
+    /// Parses an origin: `http://` or `https://`, a host in lower case, and its port unless it is the scheme's own. `None` if the
+    /// text isn't an origin as a browser writes it.
     pub fn parse(text: &'a str) -> Option<Origin<'a>>
         ensures { option_map origin_text result ≡ origin_in text.now }
     {
@@ -97,14 +97,14 @@ impl<'a> Origin<'a> {
         }
     }
 
-    /// Returns its text.
+    /// Returns the text.
     pub fn text(self) -> &'a str
         ensures { result.now ≡ origin_text self.entry }
     {
         self.text
     }
 
-    /// Returns its host, with its port.
+    /// Returns the host, with its port if there is one.
     pub fn authority(self) -> &'a [u8]
         ensures { result.now ≡ authority_of (origin_text self.entry) }
     {

@@ -39,20 +39,20 @@ EndsIn answer IsEnd = (served : Served) × IsEnd (Some []) (Some answer) served
 abbrev pub EndsSo : Exchange → (Option (List ℕ) → Option (List ℕ) → Served → Type 0) → Type 0
 EndsSo exchange IsEnd = EndsIn exchange.answer IsEnd
 
--- the office answered what was asked. If it was open, these bytes are the answer, with what that left; if it was closed, they say so.
+-- The office answered what was asked. If it was open, these bytes are the response, with what that left; if it was closed, they say so.
 pub record HasAnswered {S : Type 0} (state_of : Held S → State) (old : OfficeValue S) (asked : HttpRequestEntry) (answer : List ℕ) (new : OfficeValue S) : Type 0 where
   pub serves : WhenOpenAt state_of old new (λ s. EndsIn answer (IsServed (λ response. Readies s asked response new.closed (state_of new.held))))
   pub turned_away : old.closed ≡ true → EndsIn answer (IsServed (IsTold (closed_response asked))) × (new ≡ old)
   pub clean : HasCleanDisk (state_of new.held) → HasCleanDisk (state_of old.held)
 
--- what is asked changes nothing: it is no keying
+-- the request changes nothing: it isn't a keying
 abbrev pub ChangesNothing : HttpRequestEntry → Type 0
 ChangesNothing (denied why) = ⊤
 ChangesNothing (shown clerk show) = ⊤
 ChangesNothing (reading what) = ⊤
 ChangesNothing (keying clerk batch entry) = ⊥
 
--- what his turn leaves of the answers that are kept: nothing is kept; or he asks what changes nothing, and what is kept is right at the state as before
+-- what processing a request leaves of the cache: it is empty; or the request changes nothing, and if the cache was right at the state, it still is
 abbrev pub KeepsReads : {S : Type 0} → HttpSettingsEntry → (Held S → State) → ServedOffice S → List ℕ → ServedOffice S → Type 0
 KeepsReads settings state_of old got new =
     (new.kept.reads ≡ [])
@@ -76,7 +76,7 @@ IsWaitResponse exchange = EndsSo exchange (IsServed (IsWritten waits_response))
 abbrev pub IsGoneResponse : Exchange → Type 0
 IsGoneResponse exchange = EndsSo exchange (IsServed (IsWritten (fault_response 113)))
 
--- a client is turned away: it must wait, or the file is gone
+-- a client is sent away: it must wait, or the file is gone
 abbrev pub IsSentAway : Exchange → Type 0
 IsSentAway exchange = IsWaitResponse exchange ⊎ IsGoneResponse exchange
 
@@ -105,7 +105,7 @@ pub record IsLetIn {S : Type 0} (settings : HttpSettingsEntry) (state_of : Held 
 abbrev pub RespondsToClient : {S : Type 0} → HttpSettingsEntry → (Held S → State) → ServedOffice S → Exchange → ServedOffice S → Type 0
 RespondsToClient settings state_of old exchange new = (IsKeptWaiting settings old exchange new ⊎ IsWithoutFile old exchange new) ⊎ IsLetIn settings state_of old exchange new
 
--- The request of a connection of this listener was processed: a client's so; or an order is followed, the cache is emptied, and no wrong code is counted.
+-- The request of a connection of this listener was processed: a client's as above; or an order is followed, the cache is emptied, and no wrong code is counted.
 abbrev pub ServesAt : {S : Type 0} → Listener → ServerSettingsEntry → (Held S → State) → ServedOffice S → Exchange → ServedOffice S → Type 0
 ServesAt Clients settings state_of old exchange new = RespondsToClient settings.clients state_of old exchange new
 ServesAt Orders settings state_of old exchange new =

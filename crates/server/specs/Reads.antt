@@ -1,4 +1,4 @@
--- What is kept in memory: the responses to reads, which are sent again while nothing changes; and the wrong codes that came.
+-- The server's memory: the cache of reads, and the wrong codes that were sent.
 use Rattle.std.specs.Prelude.{◌≡◌, ◌&&◌, Bool, false, List, [], None, Option, Some, if◌then◌else◌, map, ℕ}
 use Rattle.std.specs.List.{All}
 use Rattle.register.specs.Offices.{OfficeState}
@@ -14,7 +14,7 @@ use Rattle.server.specs.declared.read_cache.ReadCache.{ReadCache}
 use Rattle.server.specs.declared.read_cache.CachedRead.{CachedRead}
 use Rattle.server.specs.declared.server_memory.ServerMemory.{ServerMemory}
 
--- what is read, and the bytes of the answer to it
+-- a resource that was read, and the bytes of the response
 pub record ReadEntry : Type 0 where
   pub what : Resource
   pub answer : List ℕ
@@ -25,7 +25,7 @@ read_entry k = record { what = k.what; answer = k.answer.items }
 abbrev pub reads_in : ReadCache → List ReadEntry
 reads_in kept = map read_entry kept.answers.items
 
--- This is the answer to a read at a state, byte for byte.
+-- This is the response to a read at a state, byte for byte.
 pub record IsRead (s : OfficeState) (what : Resource) (answer : List ℕ) : Type 0 where
   pub status : ℕ
   pub told : IsServed (λ response. IsTold (reading_response s what) response) (Some []) (Some answer) (Answered status)
@@ -36,7 +36,7 @@ TellsNoFault (Answered status) = status ≡ 503 → ⊥
 TellsNoFault ReadFailed = ⊥
 TellsNoFault WriteFailed = ⊥
 
--- each answer that is kept is the one at this state
+-- each cached response is the one at this state
 abbrev pub AreReadAt : OfficeState → List ReadEntry → Type 0
 AreReadAt s reads = All (λ r. IsRead s r.what r.answer) reads
 
@@ -47,14 +47,14 @@ abbrev pub must_wait : Option AuthenticationEntry → ℕ → LimitEntry → Boo
 must_wait None now limit = false
 must_wait (Some authentication) now limit = authentication.is_wrong && is_reached limit now
 
--- the wrong codes that came, including this client's
+-- the wrong codes that were sent, including this client's
 abbrev pub limit_after : Option AuthenticationEntry → ℕ → LimitEntry → LimitEntry
 limit_after None now limit = limit
 limit_after (Some authentication) now limit = if authentication.is_wrong then counted now limit else limit
 
 -- ---- both
 
--- the responses to reads that are kept, and how many wrong codes came
+-- the cached responses, and the wrong codes that were sent
 pub record MemoryEntry : Type 0 where
   pub reads : List ReadEntry
   pub limit : LimitEntry
@@ -62,7 +62,7 @@ pub record MemoryEntry : Type 0 where
 abbrev pub memory_entry : ServerMemory → MemoryEntry
 memory_entry kept = record { reads = reads_in kept.reads; limit = limit_entry kept.limit }
 
--- an office that is served, and what is kept in memory
+-- an office that is served, and the server's memory
 pub record ServedOffice (S : Type 0) : Type 0 where
   pub office : OfficeValue S
   pub kept : MemoryEntry

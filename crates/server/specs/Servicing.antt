@@ -27,11 +27,11 @@ use Rattle.server.specs.Exchanges.{ServesExchange, Exchange}
 abbrev pub HasCome : HttpSettingsEntry → Option (List ℕ) → List ℕ → Type 0
 HasCome settings held got = IsWhole settings got ⊎ IsAtEnd held
 
--- so it has of a client whose head was parsed
+-- the same for a client whose head was parsed
 abbrev pub IsCome : HttpSettingsEntry → Option (List ℕ) → List ℕ → Parsed → Type 0
 IsCome settings held got parsed = HasCome settings held got × IsParsed settings got parsed
 
--- the same of who came in at a door; for an order, that its message came whole
+-- the same for a connection of either listener; an order is complete once its whole message arrived
 abbrev pub HasComeAt : Listener → ServerSettingsEntry → Option (List ℕ) → List ℕ → Type 0
 HasComeAt Clients settings held got = HasCome settings.clients held got
 HasComeAt Orders settings held got = HasCameWhole got

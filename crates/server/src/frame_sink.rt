@@ -10,7 +10,7 @@ use order_protocol::{MAX_FRAME, put_error_frames, put_end_frame, put_output};
 use std::alloc::{AllocError, Global};
 use votes::{Broken, Sink};
 
-/// The most bytes of the response to one order. For more, end `serve` first.
+/// The most bytes of the response to one order. For a longer one, end `serve` first.
 const MAX_ANSWER: usize = 32 << 20;
 
 /// The sink for an order's replies: appends them to what it has printed already, in frames, and sends as much as the stream accepts

@@ -46,7 +46,7 @@ impl<'b> Folder for AttachedFiles<'b> {
     }
 }
 
-/// An order that has its turn: what it asks, the files that came with it, and what it needs beside the office.
+/// An order that is processed: what it asks, the files that came with it, and what it needs besides the office.
 struct Handing<'t, A> {
     alloc: Global,
     side_jobs: &'t A,
@@ -54,7 +54,8 @@ struct Handing<'t, A> {
     attached: AttachedFiles<'t>,
 }
 
-/// Prints what a closed office says of an order: that it is closed, of what is followed; and why anything else isn't.
+/// Prints the output of a closed office for an order: that it is closed, if the order would be followed, and otherwise why it
+/// isn't.
 fn print_closed<O: Sink, E: Sink>(asked: &ServedOrder<'_>, out: &mut O, err: &mut E) -> u8
     requires out { O.failed out.old < 2 ^ 64 - 1 }
     requires err { E.failed err.old < 2 ^ 64 - 1 }
@@ -141,8 +142,8 @@ fn do_asked<A: SideJobs, S: Alter, O: Sink, E: Sink>(
 }
 
 /// Does what an order asks, and sends its output in frames on its stream, which is returned. What the stream doesn't accept now
-/// stays in the response, which is sent side by side with those of others. If the allocation for the last frame fails, the response
-/// ends without it.
+/// stays in the response, which is sent side by side with others. If the allocation for the last frame fails, the response ends
+/// without it.
 fn respond_to_asked<L: Stream, A: SideJobs, S: Alter>(
     order: &Handing<'_, A>,
     stream: L,
@@ -158,7 +159,7 @@ fn respond_to_asked<L: Stream, A: SideJobs, S: Alter>(
     out.end(status, err.into_bytes().as_slice())
 }
 
-/// Returns what an order asks; or that it isn't followed, if the office is to do something, and its file isn't whole.
+/// Returns what an order asks; or that it isn't followed, if it asks for a job and the office's file is gone or replaced.
 fn unless_gone<'w, A: SideJobs>(asked: ServedOrder<'w>, side_jobs: &A) -> ServedOrder<'w>
     ensures { (h : OrderMessageEntry) → AsksSo h asked.entry → AsksSo h result }
 {
@@ -174,7 +175,7 @@ fn unless_gone<'w, A: SideJobs>(asked: ServedOrder<'w>, side_jobs: &A) -> Served
     }
 }
 
-/// Says why an order isn't followed.
+/// Responds to an order that isn't followed, with this fault.
 fn tell_refused<L: Stream, A: SideJobs, S: Alter>(
     alloc: Global,
     side_jobs: &A,
@@ -198,7 +199,7 @@ fn tell_refused<L: Stream, A: SideJobs, S: Alter>(
     respond_to_asked(&order, stream, office)
 }
 
-/// Gives an order its turn that was read: it prints what the order asks, or why it isn't followed.
+/// Responds to an order whose message was decoded: prints what it asks, or why it isn't followed.
 fn respond_to_message<L: Stream, A: SideJobs, S: Alter>(
     alloc: Global,
     server_settings: ServerSettings<'_, A>,

@@ -1,6 +1,6 @@
-//! Responses to reads that are kept, to be sent again while nothing changes.
+//! The cache of reads: responses that are sent again while nothing changes.
 //!
-//! Whoever asks the same, in whatever bytes, gets the same. Before a keying or an order, nothing is kept any more.
+//! Its key is what is read, whatever the bytes of the request are. It is emptied before a keying or an order is processed.
 
 ghost use Rattle.std.specs.Prelude.{◌≡◌, ◌⊎◌, ◌++◌, ◌∷◌, [], IfSome, List};
 ghost use Rattle.std.specs.List.{Contains};
@@ -9,20 +9,20 @@ ghost use Rattle.server.specs.Reads.{ReadEntry, reads_in};
 use std::alloc::Global;
 use wire::Resource;
 
-/// The most bytes of responses that are kept.
+/// The most bytes of cached responses.
 const MAX_KEPT: usize = 16 << 20;
 
-/// The most responses that are kept.
+/// The most cached responses.
 const MAX_ANSWERS: usize = 512;
 
-/// What is read, and the response to it.
+/// A resource that was read, and the response.
 #[derive(Drop)]
 pub struct CachedRead {
     pub what: Resource,
     pub answer: Vec<u8>,
 }
 
-/// The responses to reads that were sent since anything may have changed, the oldest first.
+/// The cached responses, all sent since anything may have changed, the oldest first.
 #[derive(Drop)]
 pub struct ReadCache {
     pub answers: Vec<CachedRead>,
@@ -48,7 +48,7 @@ impl ReadCache {
         self.bytes = 0;
     }
 
-    /// Returns the response to a read, if one is kept and an allocation for it doesn't fail.
+    /// Returns the cached response to a read, if there is one, and a copy of it can be allocated.
     pub fn get(&self, alloc: Global, what: Resource) -> Option<Vec<u8>>
         ensures { IfSome result (λ answer. (entry : ReadEntry) × Contains (reads_in self.now) entry × (entry.what ≡ what) × (entry.answer ≡ answer.items)) }
     {
@@ -63,7 +63,7 @@ impl ReadCache {
         None
     }
 
-    /// Removes the oldest responses, until the cache has room for so many bytes more.
+    /// Removes the oldest responses, until there is room for so many bytes more.
     fn make_room(&mut self, more: usize)
         ensures { (gone : List ReadEntry) × (reads_in self.old ≡ gone ++ reads_in self.new) }
     {
@@ -80,7 +80,8 @@ impl ReadCache {
         }
     }
 
-    /// Keeps the response to a read, if there is room for it: the oldest are removed. It isn't kept if an allocation fails.
+    /// Adds the response to a read, and removes the oldest responses if the cache is full. Adds nothing if the response is too
+    /// long, or an allocation fails.
     pub fn keep(&mut self, alloc: Global, what: Resource, answer: &[u8])
         ensures { (gone kept : List ReadEntry) × (reads_in self.old ≡ gone ++ kept)
             × ((reads_in self.new ≡ kept) ⊎ (reads_in self.new ≡ kept ++ record { what = what; answer = answer.now } ∷ [])) }

@@ -7,6 +7,6 @@ pub enum ServeError {
     Network,
     /// The table of connections couldn't be allocated.
     Memory,
-    /// There were as many rounds as there are numbers of 64 bits.
+    /// The number of rounds doesn't fit 64 bits any more.
     Rounds,
 }

@@ -1,4 +1,4 @@
-//! What a server keeps in memory.
+//! The server's memory.
 
 ghost use Rattle.std.specs.Prelude.{◌≡◌, [], IfOk, option_map};
 ghost use Rattle.codes.specs.RateLimits.{limit_entry, none_wrong};
@@ -10,7 +10,7 @@ use codes::RateLimit;
 use std::alloc::{AllocError, Global};
 use wire::{Authentication, Routes};
 
-/// The responses to reads since anything may have changed; the wrong codes that came; and the routes, which are made once.
+/// The cache of reads, the limit on wrong codes, and the routes, which are made once.
 #[derive(Drop)]
 pub struct ServerMemory {
     pub alloc: Global,
@@ -20,7 +20,7 @@ pub struct ServerMemory {
 }
 
 impl ServerMemory {
-    /// No response is kept yet, and no wrong code came. The only error is that there is no memory for the routes.
+    /// Returns an empty cache, a limit without wrong codes, and the routes. The only error is a failed allocation.
     pub fn new(alloc: Global) -> Result<ServerMemory, AllocError>
         ensures { IfOk result (λ kept. memory_entry kept ≡ record { reads = []; limit = none_wrong }) }
     {
@@ -42,7 +42,7 @@ impl ServerMemory {
         }
     }
 
-    /// Counts a wrong code, if this client sent one.
+    /// Counts a wrong code, if the request has one.
     pub fn note(&mut self, authentication: Option<Authentication>, now: u64)
         ensures reads { reads_in self.new.reads ≡ reads_in self.old.reads }
         ensures limit { limit_entry self.new.limit ≡ limit_after (option_map authentication_entry authentication) now (limit_entry self.old.limit) }

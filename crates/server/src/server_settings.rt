@@ -5,15 +5,15 @@ ghost use Rattle.std.specs.Prelude.{◌≡◌, ⊤};
 use std::alloc::AllocError;
 use wire::HttpSettings;
 
-/// A file, by the numbers of its device and its own.
+/// A file, by the number of its device and its inode number.
 #[derive(Clone, Copy)]
 pub struct FileNumbers {
     pub device: u64,
     pub inode: u64,
 }
 
-/// What the office was given for its clients, the origin of a proxy and the gate, if any; the file that is served, for
-/// which orders are handed over; and what an order needs beside the office.
+/// The settings of HTTP, which are the origin of a proxy and the gate, if any; the file that is served, for which orders are
+/// handed over; and what an order needs besides the office.
 pub struct ServerSettings<'a, A> {
     pub http: HttpSettings<'a>,
     pub file: FileNumbers,

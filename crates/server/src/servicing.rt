@@ -35,7 +35,7 @@ use wire::{
     write_gone_response, tell_no_memory, write_wait_response,
 };
 
-/// The status of an answer with a fault, which isn't kept.
+/// The status of a response with a fault, which isn't cached.
 const FAULT: u16 = 503;
 
 /// The outcome of servicing a connection.
@@ -49,7 +49,8 @@ pub enum Serviced {
     Leaves(CloseReason),
 }
 
-/// Reads the body of a request whose head was parsed, for which so many bytes in all are wanted; returns whether it has come whole.
+/// Receives the body of a request whose head was parsed, until there are so many bytes in all. Returns whether the request is
+/// complete.
 fn receive_body<L: Stream>(
     client: &mut Client<L>,
     parsed: Parsed,
@@ -73,7 +74,7 @@ fn receive_body<L: Stream>(
     }
 }
 
-/// Reads the request of a client. Returns how its head was parsed, once all of it has come.
+/// Receives the request of a client. Returns its parsed head once the request is complete, or the client sends no more.
 fn hear_request<L: Stream>(
     client: &mut Client<L>,
     settings: HttpSettings<'_>,
@@ -104,7 +105,7 @@ fn hear_request<L: Stream>(
     }
 }
 
-/// Whether an answer was given whole, and is no fault.
+/// Returns whether a response was written whole, and is no fault.
 fn tells_no_fault(served: Served) -> bool
     ensures { result ≡ true → TellsNoFault served }
 {
@@ -115,8 +116,8 @@ fn tells_no_fault(served: Served) -> bool
     }
 }
 
-/// Asks the office what a client asks. Returns the response, of which nothing went out yet; and whether it is whole, and no fault. If an
-/// allocation fails, it is a beginning.
+/// Processes a request in the office. Returns the response, of which nothing was sent yet, and whether it is whole and no fault.
+/// If an allocation fails, it is only a beginning.
 fn response_to<S: Alter>(alloc: Global, asked: HttpRequest<'_>, office: &mut Office<S>) -> (Vec<u8>, bool)
     ensures answers { HasAnswered (state S.Store) office.old (http_request_entry asked.entry) result.0.items office.new }
     ensures read { result.1 ≡ true → WhenOpenAt (state S.Store) office.old office.new
@@ -129,8 +130,8 @@ fn response_to<S: Alter>(alloc: Global, asked: HttpRequest<'_>, office: &mut Off
     (writer.into_bytes(), is_told)
 }
 
-/// Returns the response to a client that reads; nothing of it went out yet. A response is kept for whoever reads the same, and if one is
-/// kept, it is sent again.
+/// Returns the response to a read; nothing of it was sent yet. It is the cached one, if there is one; otherwise the office is
+/// asked, and its response is cached.
 fn answer_reading<S: Alter>(what: Resource, office: &mut Office<S>, kept: &mut ServerMemory) -> PendingResponse
     ensures served { (its : HttpSettingsEntry) (number moment : ℕ) (got : List ℕ) → Asks its got (reading what) → ServesClient its (state S.Store) (served_office office.old (memory_entry kept.old))
         (record { listener = Listener.Clients; number = number; moment = moment; got = got; answer = result.bytes.items }) (served_office office.new (memory_entry kept.new)) }
@@ -149,8 +150,8 @@ fn answer_reading<S: Alter>(what: Resource, office: &mut Office<S>, kept: &mut S
     PendingResponse { bytes, sent: 0 }
 }
 
-/// Returns the response to a client that is let in, of which these bytes came; nothing of it went out yet. Before a keying no response
-/// is kept any more.
+/// Returns the response to a client that is let in, of which these bytes were received; nothing of it was sent yet. The cache is
+/// emptied before a keying, and if an allocation for the request fails.
 fn answer_request<S: Alter>(
     settings: HttpSettings<'_>,
     parsed: Parsed,
@@ -182,7 +183,7 @@ fn answer_request<S: Alter>(
     }
 }
 
-/// Returns the response that a client must wait; nothing of it was sent yet.
+/// Returns the response to a client that must wait; nothing of it was sent yet.
 fn wait_response(alloc: Global) -> PendingResponse
     ensures told { (exchange : Exchange) → exchange.answer ≡ result.bytes.items → IsWaitResponse exchange }
     ensures untold { result.sent ≡ 0 }
@@ -195,7 +196,7 @@ fn wait_response(alloc: Global) -> PendingResponse
     }
 }
 
-/// Returns the response while the file of the office is gone or replaced; nothing of it went out yet.
+/// Returns the response while the file of the office is gone or replaced; nothing of it was sent yet.
 fn gone_response(alloc: Global) -> PendingResponse
     ensures told { (exchange : Exchange) → exchange.answer ≡ result.bytes.items → IsGoneResponse exchange }
     ensures untold { result.sent ≡ 0 }
@@ -208,7 +209,7 @@ fn gone_response(alloc: Global) -> PendingResponse
     }
 }
 
-/// Returns the response if memory ran out for what a client asks; nothing of it went out yet.
+/// Returns the response if an allocation for a request failed; nothing of it was sent yet.
 fn to_no_memory(alloc: Global) -> PendingResponse
     ensures told { EndsIn result.bytes.items (IsServed (IsWritten (fault_response 101))) }
     ensures untold { result.sent ≡ 0 }
@@ -221,7 +222,7 @@ fn to_no_memory(alloc: Global) -> PendingResponse
     }
 }
 
-/// A request that has its turn: how its head was parsed, its bytes, and the time of the clock.
+/// A client's request that is processed: its parsed head, its bytes, and the time of the clock.
 #[derive(Clone, Copy)]
 struct Due<'a> {
     parsed: Parsed,
@@ -229,9 +230,9 @@ struct Due<'a> {
     now: u64,
 }
 
-/// Returns the response to a client; nothing of it went out yet. If its code is wrong, and as many wrong codes came as may, it is told to
-/// wait. If the file of the office isn't whole, it is told so, unless it asks an open office for a read. Nothing else comes of either. Else
-/// it is counted if its code was wrong.
+/// Returns the response to a client; nothing of it was sent yet. If its code is wrong and the rate limit is reached, the response
+/// is to wait. If the file of the office is gone or replaced, the response says so, except to a read of an open office. In both
+/// cases nothing else is done. Otherwise the request is processed, and its code is counted if it is wrong.
 fn answer_client<A: SideJobs, S: Alter>(
     server_settings: ServerSettings<'_, A>,
     due: Due<'_>,
@@ -257,7 +258,7 @@ fn answer_client<A: SideJobs, S: Alter>(
     answer
 }
 
-/// Drops what is still to come of the request of a client that has its whole response.
+/// Reads and drops the rest of the request of a client that was sent its whole response.
 fn drop_rest<L: Stream>(client: &mut Client<L>) -> Serviced
     requires { IsSentWhole client.old }
     ensures is { (start : L) → IsOf (stream_of L.held L.taken L.failed) start client.old → IsOf (stream_of L.held L.taken L.failed) start client.new }
@@ -289,7 +290,7 @@ fn send_more<L: Stream>(client: &mut Client<L>) -> Serviced
     }
 }
 
-/// Sends one its response, as much of it as it accepts now.
+/// Sets the response of a connection, and sends as much of it as the connection accepts now.
 fn begin_answer<L: Stream>(client: Client<L>, answer: PendingResponse, unread: usize) -> (Client<L>, Serviced)
     requires { IsSent (stream_of L.held L.taken L.failed) client.stream answer.bytes.items answer.sent }
     ensures is { (start : L) → IsOf (stream_of L.held L.taken L.failed) start result.0 }
@@ -309,7 +310,7 @@ fn begin_answer<L: Stream>(client: Client<L>, answer: PendingResponse, unread: u
     }
 }
 
-/// A client goes on: its request is read, and once all of it has come, it has its turn.
+/// Services a client without a response: receives its request and, once that is complete, processes it.
 fn attend_client<L: Stream, A: SideJobs, S: Alter>(
     server_settings: ServerSettings<'_, A>,
     now: u64,
@@ -339,7 +340,7 @@ fn attend_client<L: Stream, A: SideJobs, S: Alter>(
     }
 }
 
-/// An order goes on: its message is read, and once all of it has come, it has its turn.
+/// Services an order without a response: receives its message and, once that is complete, processes it.
 fn attend_order<L: Stream, A: SideJobs, S: Alter>(
     server_settings: ServerSettings<'_, A>,
     now: u64,
@@ -385,11 +386,11 @@ fn attend_order<L: Stream, A: SideJobs, S: Alter>(
     }
 }
 
-/// A client, or an order that is handed over, goes on at a moment, in milliseconds of a clock, as far as its line lets it now. What it
-/// sends is read. Once what it asks has come whole, this is its turn: it is served, or told to wait for wrong codes. Then it gets its
-/// response. Returns it, and what became of it.
+/// Services a connection at a moment, in milliseconds of a clock, as far as its stream allows now. Receives more of its request,
+/// processes the request once it is complete, and sends more of its response. Returns the connection and the outcome.
 ///
-/// What is gathered of it are its own bytes, from the first one on, and what it gets is the response to just these. Nobody else is touched.
+/// The bytes that are received are the connection's own, from the first one on, and the response is the one to exactly these. No
+/// other connection is touched.
 pub fn service<L: Stream, A: SideJobs, S: Alter>(
     server_settings: ServerSettings<'_, A>,
     now: u64,

@@ -33,7 +33,7 @@ use std::alloc::{AllocError, Global};
 use std::time::Duration;
 use votes::Broken;
 
-/// How long the next look at the network may be put off, in milliseconds, while a connection may be pending that no event reports.
+/// How long the next wait may be, in milliseconds, while a connection may be pending that no event reports.
 const LOOK: u64 = 1_000;
 
 /// The most connections that are accepted before the open ones are serviced.
@@ -42,7 +42,7 @@ const ACCEPTS_PER_ROUND: usize = 64;
 /// The most rounds of serving.
 const ROUNDS: u64 = u64::MAX;
 
-/// Returns the time of the clock if there is a gate, at which wrong codes count; and 0 if there is none.
+/// Returns the time of the clock if there is a gate, and so a limit on wrong codes; and otherwise 0.
 fn moment_at_gate<D: Network, A>(network: &mut D, server_settings: ServerSettings<'_, A>) -> Result<u64, Broken>
     ensures { LooksAtGate (is_some (settings_in server_settings.entry).clients.gate) result (D.known network.old) (D.known network.new) }
 {
@@ -52,8 +52,8 @@ fn moment_at_gate<D: Network, A>(network: &mut D, server_settings: ServerSetting
     }
 }
 
-/// One of those that are in goes on, and is given back; and for what reason it leaves, if it does. Its half minute begins anew once it
-/// has its response: however long its turn took, it has all of it. If the clock fails at the gate, it doesn't go on.
+/// Services an open connection at a moment. Returns the connection, and why it is to be closed, if it is. Its time limit begins
+/// again once its request was processed, however long that took. If the clock fails at the gate, the connection isn't serviced.
 fn service_one<D: Network, A: SideJobs, S: Alter>(
     network: &mut D,
     server_settings: ServerSettings<'_, A>,
@@ -85,8 +85,8 @@ fn service_one<D: Network, A: SideJobs, S: Alter>(
     }
 }
 
-/// The next that the doors name goes on, if it is in. If it is done or lost, it leaves. If the clock fails, it stays where it was. Returns
-/// whether the doors named one.
+/// Services the next connection that the network reports as ready, if it is open. It is closed if servicing ends it, and stays in
+/// its place if the clock fails. Returns whether the network reported one.
 fn go_on_next<D: Network, A: SideJobs, S: Alter>(
     network: &mut D,
     server_settings: ServerSettings<'_, A>,
@@ -156,7 +156,7 @@ fn service_ready<D: Network, A: SideJobs, S: Alter>(
 }
 
 /// Accepts the next pending connection, if there is room, or room can be made: an order, or a client unless all clients were
-/// accepted. If none was accepted, it returns how long the next look at the network may be put off, in milliseconds.
+/// accepted. If none was accepted, returns how long the next wait may be, in milliseconds.
 fn accept_one<D: Network>(
     alloc: Global,
     network: &mut D,
@@ -197,7 +197,7 @@ fn accept_one<D: Network>(
     }
 }
 
-/// Accepts pending connections, and returns how long the next look at the network may be put off, in milliseconds.
+/// Accepts pending connections, and returns how long the next wait may be, in milliseconds.
 fn accept_pending<D: Network>(
     alloc: Global,
     network: &mut D,
@@ -222,7 +222,7 @@ fn accept_pending<D: Network>(
     0
 }
 
-/// Returns how long the next look may be put off: at most for this long, and no longer than until the first time limit is over.
+/// Returns how long the next wait may be: at most this long, and no longer than until the first time limit is over.
 fn pause<L>(table: &ConnectionTable<L>, look: u64, now: u64) -> Duration
     ensures { as_nanos result ≤ look * 1_000_000 }
 {
@@ -235,7 +235,7 @@ fn pause<L>(table: &ConnectionTable<L>, look: u64, now: u64) -> Duration
     }
 }
 
-/// By what those are served that come: the terms, and how many clients are to come at most.
+/// The settings of a server, and the most clients to accept.
 struct Serving<'a, A> {
     server_settings: ServerSettings<'a, A>,
     most: u64,
@@ -253,8 +253,8 @@ impl<A> Clone for Serving<'_, A> {
 
 impl<A> Copy for Serving<'_, A> {}
 
-/// One round: those that are in go on, late ones are closed, more come in, and it waits until somebody may go on. Returns whether
-/// all have come that were to come, and all of them left.
+/// Serves one round: services the connections that are ready, closes those that are timed out, accepts pending ones, and waits
+/// for events. Returns whether all clients were accepted and all connections are closed.
 fn serve_round<D: Network, A: SideJobs, S: Alter>(
     network: &mut D,
     serving: Serving<'_, A>,
@@ -336,8 +336,8 @@ fn serve_rounds<D: Network, A: SideJobs, S: Alter>(
 /// What each clerk sees of the office determines what is sent under that clerk's number, up to a fault, and except for the
 /// responses to wait and that the file is gone.
 ///
-/// The error says why serving ended early: the network or its clock failed, the table couldn't be allocated, or there were as many
-/// rounds as there are numbers. What was answered before stands. The connections that are open then are closed.
+/// The error says why serving ended early: the network or its clock failed, the table couldn't be allocated, or there were as
+/// many rounds as there are numbers. What was answered before remains valid. The connections that are open then are closed.
 pub fn serve_connections<D: Network, A: SideJobs, S: Alter>(
     alloc: Global,
     network: &mut D,

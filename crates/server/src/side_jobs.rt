@@ -12,17 +12,18 @@ use office::Office;
 use sqlite::Alter;
 use votes::Sink;
 
-/// Where a copy goes: a path, as it is seen from a folder.
+/// The destination of a copy: a path, as seen from a folder.
 #[derive(Clone, Copy)]
 pub struct Destination<'a> {
     pub folder: &'a str,
     pub path: &'a str,
 }
 
-/// Copies an open office to a new file, and prints its journal. The office goes on, and is only read; which files these are,
-/// the program says.
+/// Copies an open office to a new file, and prints its journal. The office stays open and is only read. The program that
+/// implements this chooses the files.
 pub trait SideJobs {
-    /// Returns whether the file of the office is still there, whole, and no other in its place. Nothing can be promised of a file.
+    /// Returns whether the file of the office is still there, whole, and no other is in its place. Nothing guarantees this of a
+    /// file.
     fn is_whole(&self) -> bool;
 
     /// Copies the office to a new file, and prints how much the copy has.

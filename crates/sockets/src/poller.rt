@@ -66,7 +66,7 @@ pub struct Poller {
     waiting: Waiting,
 }
 
-/// Watches a listener, if there is one.
+/// Registers a listener, if there is one.
 fn watch_listener<S: Source + Drop>(poll: &Poll, listener: Option<S>, token: usize) -> io::Result<Option<S>>
     ensures { IfOk result (IsWatched S.keeps listener) }
 {
@@ -168,8 +168,8 @@ impl Poller {
         }
     }
 
-    /// Returns the next client at either address. The addresses take turns, so that a crowd at one of them doesn't shut out the
-    /// other.
+    /// Returns the next client at either address. The addresses take turns, so that many clients at one of them don't shut out
+    /// those at the other.
     fn next_client(&mut self, number: u64) -> AcceptOutcome<Socket>
         ensures at_door { IsAtListener Listener.Clients result }
         ensures in_turn { self.new.next ≡ other_address self.old.next }

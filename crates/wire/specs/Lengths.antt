@@ -17,16 +17,16 @@ most_body_bytes = 1048576
 abbrev pub NamedValue : Type 0
 NamedValue = List ℕ × List ℕ
 
--- the values of the fields with a name, whatever the case of its letters
+-- the values of the fields with this name, ignoring the case of letters
 abbrev pub values_of : List ℕ → List NamedValue → List (List ℕ)
 values_of name fields = map (λ (f : NamedValue). f.1) (filter (λ (f : NamedValue). str_eq_ignore_ascii_case f.0 name) fields)
 
--- the value that was found, in a list
+-- the value that was found, as a list
 abbrev pub value_listed : Option (Bor (List ℕ)) → List (List ℕ)
 value_listed None = []
 value_listed (Some value) = value.now ∷ []
 
--- the length that a text writes, up to the greatest
+-- the length that a text says, up to the limit
 abbrev pub length_in : List ℕ → Result ℕ RequestError
 length_in text =
     if not (are_digits text) then Err BadRequest else (
@@ -38,7 +38,7 @@ told_length [] = Ok 0
 told_length (text ∷ []) = length_in text
 told_length (text ∷ other ∷ others) = Err BadRequest
 
--- the length of the body, for which there is no transfer coding
+-- the length of the body; a transfer coding is an error
 abbrev pub body_length : List NamedValue → Result ℕ RequestError
 body_length fields =
     if nat_lt 0 (length (values_of (codes "transfer-encoding") fields)) then Err BadRequest else told_length (values_of (codes "content-length") fields)

@@ -1,4 +1,4 @@
--- What requests ask, and the bytes of their answers.
+-- What requests ask, and the bytes of the responses.
 pub mod Heads
 pub mod Targets
 pub mod Lengths

@@ -1,4 +1,4 @@
--- Where a request may come from: which headers show that a page from elsewhere sent it.
+-- The origin of a request: which headers show that a page from elsewhere sent it.
 use Rattle.std.specs.Prelude.{◌&&◌, ◌||◌, Bool, List, None, Option, Some, bytes_eq, codes, false, if◌then◌else◌, nat_eq, not, option_map, ℕ}
 use Rattle.std.specs.List.{list_any}
 use Rattle.std.specs.Str.{str_eq_ignore_ascii_case}
@@ -6,31 +6,31 @@ use Rattle.origins.specs.Origins.{authority_of, is_with_port, origin_text}
 use Rattle.origins.specs.declared.origin.Origin.{Origin}
 use Rattle.wire.specs.Lengths.{NamedValue}
 
--- the text of the origin that was given, if one was
+-- the text of the origin in the settings, if there is one
 abbrev pub given_by : Option Origin → Option (List ℕ)
 given_by origin = option_map origin_text origin
 
 -- ---- headers that a page from elsewhere sends
 
--- it is the origin that was given
+-- a value is the origin in the settings
 abbrev pub is_given : Option (List ℕ) → List ℕ → Bool
 is_given None value = false
 is_given (Some origin) value = bytes_eq value origin
 
--- it is the host of the origin that was given, with the origin's port or without
+-- a value is the host of that origin, with the origin's port or without one
 abbrev pub is_given_host : Option (List ℕ) → List ℕ → Bool
 is_given_host None value = false
 is_given_host (Some origin) value = is_with_port value (authority_of origin)
 
--- the origin of a page that this machine serves, or the one that was given
+-- the origin of a page that this machine serves, or the one in the settings
 abbrev pub is_own_origin : Option (List ℕ) → List ℕ → Bool
 is_own_origin given value = is_with_port (codes "http://127.0.0.1") value || (is_with_port (codes "http://localhost") value || is_given given value)
 
--- a page of the same origin asks, or whoever sits at the browser does
+-- a page of the same origin sent the request, or the person at the browser
 abbrev pub is_own_site : List ℕ → Bool
 is_own_site value = bytes_eq value (codes "same-origin") || bytes_eq value (codes "none")
 
--- a name without a dot, which no name of the wide network is; this machine by its number; or the host of the origin that was given
+-- a name without a dot, which is no public name; 127.0.0.1; or the host of the origin in the settings
 abbrev pub is_own_host : Option (List ℕ) → List ℕ → Bool
 is_own_host given value = not (list_any (λ b. nat_eq b 46) value) || (is_with_port (codes "127.0.0.1") value || is_given_host given value)
 
@@ -41,6 +41,6 @@ is_foreign_header given field =
     (if str_eq_ignore_ascii_case field.0 (codes "sec-fetch-site") then not (is_own_site field.1) else
     (str_eq_ignore_ascii_case field.0 (codes "host") && not (is_own_host given field.1)))
 
--- any of the headers does
+-- one of the headers does
 abbrev pub is_foreign : Option (List ℕ) → List NamedValue → Bool
 is_foreign given fields = list_any (is_foreign_header given) fields

@@ -1,4 +1,4 @@
-//! Whose code came with a request, at the gate.
+//! Authentication of a request at the gate, by the code that it has.
 
 ghost use Rattle.std.specs.Prelude.{◌≡◌, ◌≤◌, List, length, map, option_map};
 ghost use Rattle.std.specs.Char.{is_ascii_digit};
@@ -16,10 +16,10 @@ use codes::Codes;
 use httparse::spans::HeaderSpan;
 use std::str;
 
-/// The beginning of a target that belongs to a clerk.
+/// The prefix of every target that belongs to a clerk.
 const CLERKS: &[u8] = b"/clerks/";
 
-/// A request under a clerk's number, and whether a wrong code came with it.
+/// The clerk under whose number a request asks, and whether the request has a wrong code.
 #[derive(Clone, Copy)]
 pub struct Authentication {
     pub clerk: u32,
@@ -41,7 +41,7 @@ fn digits_length(text: &[u8]) -> usize
     length
 }
 
-/// Returns the clerk whose number is in a target, whether something is served there or not.
+/// Returns the clerk whose number is in a target, whether or not anything is served there.
 pub(crate) fn clerk_under(target: &[u8]) -> Option<u32>
     ensures { result ≡ clerk_under target.now }
 {
@@ -59,7 +59,8 @@ pub(crate) fn clerk_under(target: &[u8]) -> Option<u32>
     }
 }
 
-/// Why who asks under a clerk's number isn't let in, by the header fields, whose names and values stand in a buffer.
+/// Returns why authentication of a clerk failed, by the header fields, whose names and values are in a buffer; `None` if it
+/// succeeded.
 fn kept_out_by(held: &Codes, clerk: u32, buffer: &[u8], headers: &[HeaderSpan]) -> Option<RequestError>
     requires { All (IsHeaderWithin (length buffer.now)) headers.now }
     ensures { result ≡ kept_out_by (holders_of held.now) clerk (sent_codes (map (header_bytes buffer.now) headers.now)) }
@@ -77,7 +78,7 @@ fn kept_out_by(held: &Codes, clerk: u32, buffer: &[u8], headers: &[HeaderSpan]) 
     }
 }
 
-/// Returns why authentication failed at the gate, by the clerk whose number is in the target.
+/// Returns why authentication failed at the gate, by the clerk whose number is in the target, if one is.
 pub(crate) fn kept_out(
     gate: Option<Gate<'_>>,
     clerk: Option<u32>,
@@ -107,7 +108,8 @@ fn is_wrong_code(why: Option<RequestError>) -> bool
     }
 }
 
-/// Returns under which clerk's number a request asks at a gate, by why it isn't let in there.
+/// Returns the authentication of a request at a gate, by the clerk whose number is in its target, and by why authentication
+/// failed.
 pub(crate) fn authentication_by(
     gate: Option<Gate<'_>>,
     clerk: Option<u32>,

@@ -1,10 +1,10 @@
 //! Whether a request is complete.
 
-/// Whether a request of which some bytes came is complete.
+/// Whether the bytes that were received of a request are a complete request.
 #[derive(Clone, Copy, PartialEq, Eq)]
 pub enum Completeness {
-    /// It is complete: the bytes ask the same whatever follows them.
+    /// They are: they ask the same whatever follows them.
     Nothing,
-    /// It needs at least so many bytes in all.
+    /// They aren't: at least this many bytes are needed in all.
     Bytes(usize),
 }

@@ -1,37 +1,37 @@
 //! Keying and reading over HTTP, one request for each connection.
 //!
-//! What may be asked: `POST /clerks/{c}/batches/{b}/keying`, `GET /clerks/{c}/work`, `GET /wards/{w}/sheet` and
-//! `GET /wards/{w}/result`; and if codes are asked for, `GET /clerks/{c}/`, `GET /clerks/{c}/leave` and
-//! `GET /clerks/{c}/batches/{b}/candidates`. [`Routes`] has these seven, and is made once by whoever serves.
+//! Seven routes are served: `POST /clerks/{c}/batches/{b}/keying`, `GET /clerks/{c}/work`, `GET /wards/{w}/sheet` and
+//! `GET /wards/{w}/result`; and with codes also `GET /clerks/{c}/`, `GET /clerks/{c}/leave` and
+//! `GET /clerks/{c}/batches/{b}/candidates`. [`Routes`] has these seven. A server makes it once.
 //!
-//! [`parse`] parses the head of a request once, and all but the body's text comes from what it returns, [`Parsed`]: whether bytes are
-//! still lacking ([`Completeness`]), under whose number the request asks ([`Authentication`]), and what it asks, [`HttpRequest`], or why it is denied before
-//! the office is asked, [`RequestError`]. [`respond`] asks the office that, and writes the response. [`serve_one`] serves one connection
-//! from any reader: it reads what is asked ([`read_request`]) by the same head.
+//! [`parse`] parses the head of a request once. Everything but the text of the body is decided from the result, [`Parsed`]:
+//! whether the request is complete ([`Completeness`]), under which clerk's number it asks and whether its code is wrong
+//! ([`Authentication`]), whether it is a read ([`Resource`]), and what it asks ([`HttpRequest`]). A request may be rejected
+//! before the office is asked, with a [`RequestError`]. [`respond`] processes a request in the office, and writes the response.
+//! [`serve_one`] serves one connection from any reader: it parses the head in the same way ([`read_request`]), and then responds.
 //!
-//! [`HttpSettings`] is what an office that serves goes by; [`plain`] serves a connection without any of it. A page from elsewhere in a
-//! browser of this machine asks nothing: each request with a header that shows one is denied. [`Origin`] is that of pages which may
-//! come through a proxy in front.
-//! At a [`Gate`] whatever stands under a clerk's number is asked for with his code. Who must wait for wrong codes is told so by
-//! [`write_wait_response`].
+//! [`HttpSettings`] are the settings of HTTP: the [`Origin`] of pages that come through a proxy, and the [`Gate`], if any.
+//! [`plain`] serves a connection without either. A request with a header which shows that a page from elsewhere sent it is
+//! rejected. At a gate, everything under a clerk's number requires that clerk's code. [`write_wait_response`] writes the response
+//! to a rate-limited client.
 //!
-//! `specs/Requests.antt` says what the bytes of a client ask, `specs/Completeness.antt` when they are whole, and `specs/Parsing.antt` what a
-//! parsed head says of them. `specs/Gates.antt`
-//! says who is let in under a clerk's number, and `specs/Origins.antt` what shows that a page from elsewhere sent the bytes.
-//! `specs/Targets.antt` says which targets name what, and `specs/Responses.antt` which bytes an answer has.
-//! `specs/Serving.antt` says what is answered at a state of the office, and what each end of a connection leaves.
+//! `specs/Requests.antt` defines what the bytes of a client ask, `specs/Completeness.antt` when they are a complete request, and
+//! `specs/Parsing.antt` what a parsed head says of them. `specs/Gates.antt` defines authentication, and `specs/Origins.antt`
+//! which headers show that a page from elsewhere sent the request. `specs/Targets.antt` defines what a target names, and
+//! `specs/Responses.antt` the bytes of a response. `specs/Serving.antt` defines the response at a state of the office, and what
+//! each outcome of a connection leaves.
 //!
 //! ```text
-//! let parsed = parse(given, &routes, got);
-//! match parsed.lacks(got.len()) {
-//!     Lacks::Bytes(wanted) => ..,     // more is to come
-//!     Lacks::Nothing => respond(alloc, parsed.asked(alloc, given, got)?, &mut writer, &mut office),
+//! let parsed = parse(settings, &routes, got);
+//! match parsed.completeness_of(got.len()) {
+//!     Completeness::Bytes(wanted) => ..,     // receive more
+//!     Completeness::Nothing => respond(alloc, parsed.asked(alloc, settings, got)?, &mut writer, &mut office),
 //! }
 //! ```
 #![tactic(auto)]
 
 pub mod request_error;
-// what is asked: the head, what its target names, and the body
+// requests: the head, what its target names, and the body
 pub mod request;
 mod body;
 mod digits;
@@ -45,7 +45,7 @@ pub mod parsed;
 pub mod plain;
 pub mod target;
 mod read_failure;
-// what is answered
+// responses
 mod bodies;
 mod candidates;
 mod response;

@@ -1,4 +1,4 @@
-//! Where a request may come from: a page from elsewhere can't ask anything.
+//! The origin of a request: a page from elsewhere can't ask anything.
 
 ghost use Rattle.std.specs.Prelude.{◌≡◌, false, length, map};
 ghost use Rattle.std.specs.List.{All};
@@ -9,7 +9,7 @@ use crate::length::is_named;
 use httparse::spans::HeaderSpan;
 use origins::{Origin, is_with_port};
 
-/// Returns whether it is the origin of the settings.
+/// Returns whether a value is the origin in the settings.
 fn is_given(given: Option<Origin<'_>>, value: &[u8]) -> bool
     ensures { result ≡ is_given (given_by given.entry) value.now }
 {
@@ -19,7 +19,7 @@ fn is_given(given: Option<Origin<'_>>, value: &[u8]) -> bool
     }
 }
 
-/// Returns whether it is the host of that origin.
+/// Returns whether a value is the host of the origin in the settings, with the origin's port or without one.
 fn is_given_host(given: Option<Origin<'_>>, value: &[u8]) -> bool
     ensures { result ≡ is_given_host (given_by given.entry) value.now }
 {
@@ -29,7 +29,7 @@ fn is_given_host(given: Option<Origin<'_>>, value: &[u8]) -> bool
     }
 }
 
-/// Returns whether it is the origin of a page that this machine serves, or the one of the settings.
+/// Returns whether a value is the origin of a page that this machine serves, or the origin in the settings.
 fn is_own_origin(given: Option<Origin<'_>>, value: &[u8]) -> bool
     ensures { result ≡ is_own_origin (given_by given.entry) value.now }
 {
@@ -38,21 +38,21 @@ fn is_own_origin(given: Option<Origin<'_>>, value: &[u8]) -> bool
         || is_given(given, value)
 }
 
-/// Returns whether a page of the same origin asks, or the person at the browser.
+/// Returns whether a value says that a page of the same origin sent the request, or the person at the browser.
 fn is_own_site(value: &[u8]) -> bool
     ensures { result ≡ is_own_site value.now }
 {
     value == b"same-origin".as_slice() || value == b"none".as_slice()
 }
 
-/// Returns whether it is a name without a dot, this machine by its number, or the host of the origin of the settings.
+/// Returns whether a value is a name without a dot, 127.0.0.1, or the host of the origin in the settings.
 fn is_own_host(given: Option<Origin<'_>>, value: &[u8]) -> bool
     ensures { result ≡ is_own_host (given_by given.entry) value.now }
 {
     !value.contains(&b'.') || is_with_port(b"127.0.0.1", value) || is_given_host(given, value)
 }
 
-/// Returns whether a header shows that a page from elsewhere sent the request.
+/// Returns whether a header shows that a page from elsewhere sent the request, or that the request came by a foreign name.
 fn is_foreign_header(given: Option<Origin<'_>>, name: &[u8], value: &[u8]) -> bool
     ensures { result ≡ is_foreign_header (given_by given.entry) (name.now, value.now) }
 {
@@ -65,7 +65,7 @@ fn is_foreign_header(given: Option<Origin<'_>>, name: &[u8], value: &[u8]) -> bo
     is_named(name, b"host") && !is_own_host(given, value)
 }
 
-/// Returns whether a header, of those whose names and values are in a buffer, shows that a page from elsewhere sent the request.
+/// Returns whether one of these headers, whose names and values are in a buffer, shows that.
 pub(crate) fn is_foreign(given: Option<Origin<'_>>, buffer: &[u8], headers: &[HeaderSpan]) -> bool
     requires { All (IsHeaderWithin (length buffer.now)) headers.now }
     ensures { result ≡ is_foreign (given_by given.entry) (map (header_bytes buffer.now) headers.now) }

@@ -1,4 +1,4 @@
-//! A request of which some bytes came: its head is parsed once, and all but the body's text comes from that.
+//! A parsed request: its head is parsed once, and everything but the text of the body is decided from the result.
 
 ghost use Rattle.std.specs.Prelude.{◌≡◌, ◌≤◌, ◌++◌, IfOk, IfSome, List, ℕ, length, map, option_map, take};
 ghost use Rattle.httparse.specs.Spans.{IsRequestWithin, header_bytes, span_bytes};
@@ -21,31 +21,31 @@ use httparse::Status;
 use httparse::spans::{EMPTY_HEADER_SPAN, HeaderSpan, RequestSpans, parse_request};
 use std::alloc::{AllocError, Global};
 
-/// What the head of a request says.
+/// A parsed head.
 #[derive(Clone, Copy)]
 pub struct Head {
-    /// What is asked for, or why it is denied.
+    /// What is asked for, or why the request is rejected.
     pub(crate) wanted: Result<Target, RequestError>,
-    /// Under which clerk's number it asks, if codes are asked for, and whether its code is wrong.
+    /// The authentication; `None` if the request needs no code, or comes from elsewhere.
     pub(crate) authentication: Option<Authentication>,
-    /// How many bytes its body has, or why that can't be known.
+    /// The length of the body in bytes, or why it isn't accepted.
     pub(crate) body: Result<usize, RequestError>,
-    /// How many bytes the head has itself.
+    /// The length of the head itself, in bytes.
     pub(crate) size: usize,
 }
 
-/// How far a request has come.
+/// The result of parsing the bytes that were received of a request.
 #[derive(Clone, Copy)]
 pub enum Parsed {
-    /// Its head is whole.
+    /// The head is complete.
     Head(Head),
-    /// Its head isn't whole yet.
+    /// The head isn't complete yet.
     Partial,
-    /// It has no head, whatever follows.
+    /// There is no head, whatever follows.
     Malformed,
 }
 
-/// Returns what a clerk's keying of a batch says, by the length of its body and the bytes that follow the head.
+/// Parses a clerk's keying of a batch, by the length of its body and the bytes that follow the head.
 fn keying_in<'a>(
     alloc: Global,
     clerk: u32,
@@ -75,7 +75,7 @@ fn keying_in<'a>(
 }
 
 impl Head {
-    /// Returns what a head says that was found in a buffer, in which its names and values are.
+    /// Returns what the head in a buffer says, by the spans of its parts there.
     pub(crate) fn found(
         settings: HttpSettings<'_>,
         routes: &Routes,
@@ -113,7 +113,7 @@ impl Head {
         }
     }
 
-    /// Returns what is asked with this head and the bytes that follow it. The only error is that an allocation failed.
+    /// Returns what is asked by this head and the bytes that follow it. The only error is a failed allocation.
     pub(crate) fn asked_with<'a>(
         &self,
         alloc: Global,
@@ -133,7 +133,7 @@ impl Head {
         }
     }
 
-    /// Returns what is read, if a read is asked for.
+    /// Returns the resource that is read, if the request is a read.
     fn reading(&self) -> Option<Resource>
         ensures { result ≡ read_in self.now.wanted }
     {
@@ -143,7 +143,7 @@ impl Head {
         }
     }
 
-    /// Returns how many bytes are needed behind the head to know what is asked. Only a keying needs any.
+    /// Returns how many bytes after the head are needed to know what is asked: the body of a keying, and otherwise none.
     fn needed(&self) -> usize
         ensures { result ≡ needed self.now.wanted self.now.body }
     {
@@ -157,9 +157,9 @@ impl Head {
     }
 }
 
-/// Parses the head of a request of which these bytes came. Takes no memory.
+/// Parses the head of a request of which these bytes were received. Allocates nothing.
 ///
-/// Of as many bytes as a head may have, the result stays right whatever follows them.
+/// If there are as many bytes as a head may have, more bytes don't change the result.
 pub fn parse(settings: HttpSettings<'_>, routes: &Routes, got: &[u8]) -> Parsed
     ensures is { IsParsed (settings_entry settings.entry) got.now result }
     ensures lasts { MAX_HEAD_BYTES ≤ length got.now → (more : List ℕ) → IsParsed (settings_entry settings.entry) (got.now ++ more) result }
@@ -177,9 +177,9 @@ pub fn parse(settings: HttpSettings<'_>, routes: &Routes, got: &[u8]) -> Parsed
 }
 
 impl Parsed {
-    /// Returns what the request lacks of which so many bytes came.
+    /// Returns whether the request is complete, of which so many bytes were received.
     ///
-    /// Bytes that lack nothing ask what they ask, whatever follows them.
+    /// The bytes of a complete request ask the same, whatever follows them.
     pub fn completeness_of(&self, come: usize) -> Completeness
         ensures { (its : HttpSettingsEntry) (got : List ℕ) → length got ≡ come → IsParsed its got self.now → IsCompletenessOf its got result }
     {
@@ -197,7 +197,8 @@ impl Parsed {
         }
     }
 
-    /// Returns under which clerk's number the request asks, and whether its code is wrong; none if it asks under nobody's.
+    /// Returns the authentication of the request: the clerk under whose number it asks, and whether its code is wrong. `None` if
+    /// it needs no code, comes from elsewhere, or has no complete head.
     pub fn authentication(&self) -> Option<Authentication>
         ensures { (its : HttpSettingsEntry) (got : List ℕ) → IsParsed its got self.now → IsAuthentication its got (option_map authentication_entry result) }
     {
@@ -208,7 +209,7 @@ impl Parsed {
         }
     }
 
-    /// Returns what the request reads, if it asks for a read.
+    /// Returns the resource that the request reads, if it is a read.
     pub fn reading(&self) -> Option<Resource>
         ensures { (its : HttpSettingsEntry) (got : List ℕ) → IsParsed its got self.now → IfSome result (λ what. Asks its got (reading what)) }
     {
@@ -219,7 +220,7 @@ impl Parsed {
         }
     }
 
-    /// Returns what the request asks of which these bytes came, the ones that were parsed. The only error is that an allocation failed.
+    /// Returns what the request asks, by the bytes that were parsed. The only error is a failed allocation.
     pub fn asked<'a>(
         &self,
         alloc: Global,
@@ -237,11 +238,11 @@ impl Parsed {
         }
     }
 
-    /// Returns how many bytes are still to come of the body, of a request of which so many bytes came: as many as its head says, and at
-    /// most 1 MiB, also if it says more, or nothing that is understood. It is 0 if there is no whole head.
+    /// Returns how many bytes of the body are still to come, of a request of which so many bytes were received. It is at most 1
+    /// MiB, even if the head says more or says nothing valid. It is 0 without a complete head.
     ///
-    /// Whoever answers such a request reads so many bytes more before closing the connection: else the system resets it, and a proxy
-    /// reports that in place of the response.
+    /// The server reads so many bytes more before it closes the connection. Otherwise the system would reset the connection, and
+    /// a proxy would report that instead of the response.
     pub fn body_to_come(&self, come: usize) -> usize
         ensures { (its : HttpSettingsEntry) (got : List ℕ) → IsParsed its got self.now → result ≤ MAX_BODY_BYTES }
     {

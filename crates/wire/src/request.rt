@@ -33,18 +33,18 @@ pub struct Keying {
 /// What a request asks.
 #[derive(Drop)]
 pub enum HttpRequest<'a> {
-    /// Nothing that the office could be asked.
+    /// Nothing: the request is rejected before the office is asked.
     Denied(RequestError),
-    /// To be shown something for a clerk, whatever the office's state is.
+    /// To show a clerk something that doesn't depend on the office's state.
     Shown(u32, Show<'a>),
     /// To keep a clerk's keying.
     Keying(Keying),
-    /// To read something.
+    /// To read a resource.
     Resource(Resource),
 }
 
 impl Verb {
-    /// Returns the verb as it is written.
+    /// Returns the name of the method.
     pub(crate) fn text(self) -> &'static str
         ensures { result.now ≡ verb_text self }
     {
@@ -56,7 +56,7 @@ impl Verb {
 }
 
 impl Resource {
-    /// Returns whether it is served at a gate only.
+    /// Returns whether it is served only at a gate.
     fn needs_gate(&self) -> bool
         ensures { result ≡ reading_needs_gate self.now }
     {
@@ -70,7 +70,7 @@ impl Resource {
 }
 
 impl Target {
-    /// Returns the only verb for the target.
+    /// Returns the only method for the target.
     pub(crate) fn verb(&self) -> Verb
         ensures { result ≡ verb_of self.now }
     {
@@ -80,7 +80,7 @@ impl Target {
         }
     }
 
-    /// Returns whether it is served at a gate only.
+    /// Returns whether it is served only at a gate.
     fn needs_gate(&self) -> bool
         ensures { result ≡ needs_gate self.now }
     {
@@ -93,7 +93,7 @@ impl Target {
     }
 }
 
-/// Returns what a target names that is served at a gate, or where there is none.
+/// Returns what a target names, if that is served with this gate or without one.
 pub(crate) fn served_at(gate: Option<Gate<'_>>, routes: &Routes, target: &[u8]) -> Option<Target>
     ensures { result ≡ served_at (option_map gate_entry gate.entry) (named_by target.now) }
 {
@@ -104,7 +104,7 @@ pub(crate) fn served_at(gate: Option<Gate<'_>>, routes: &Routes, target: &[u8]) 
     Some(there)
 }
 
-/// What is asked for there, if by its own verb.
+/// Returns what is asked for, if the method is the target's own; and otherwise why the request is rejected.
 pub(crate) fn asked_for(method: &[u8], there: Option<Target>) -> Result<Target, RequestError>
     ensures { result ≡ asked_for method.now there }
 {
@@ -119,7 +119,7 @@ pub(crate) fn asked_for(method: &[u8], there: Option<Target>) -> Result<Target, 
     }
 }
 
-/// The page of a gate, for a clerk.
+/// Returns the page of a gate, for a clerk; without a gate the request is rejected.
 pub(crate) fn page_at<'a>(gate: Option<Gate<'a>>, clerk: u32) -> HttpRequest<'a>
     ensures { http_request_entry result ≡ page_at (option_map gate_entry gate.entry) clerk }
 {
@@ -129,7 +129,7 @@ pub(crate) fn page_at<'a>(gate: Option<Gate<'a>>, clerk: u32) -> HttpRequest<'a>
     }
 }
 
-/// Reads what a request asks whose head was parsed, and of which these bytes were read behind the head.
+/// Reads the rest of a request whose head was parsed and is followed by these bytes, and returns what the request asks.
 fn read_behind<'a, R: Source>(
     alloc: Global,
     settings: HttpSettings<'a>,
@@ -154,7 +154,7 @@ fn read_behind<'a, R: Source>(
     }
 }
 
-/// Reads what a request asks.
+/// Reads a request, and returns what it asks.
 fn read_from_head<'a, R: Source>(
     alloc: Global,
     settings: HttpSettings<'a>,
@@ -177,7 +177,8 @@ fn read_from_head<'a, R: Source>(
     read_behind(alloc, settings, reader, &head, &read[front.spans.len..])
 }
 
-/// Reads what a request asks, by the settings: the origin of pages that come through a proxy, and the gate, if any.
+/// Reads a request, and returns what it asks, by the settings: the origin of pages that come through a proxy, and the gate, if
+/// any.
 ///
 /// A request with a header which shows that a page from elsewhere sent it, or that it came by a foreign name, is `Forbidden`,
 /// whatever else it asks. At a gate a request whose target begins with a clerk's number, such as `/clerks/4/`, is let in only with
@@ -185,12 +186,12 @@ fn read_from_head<'a, R: Source>(
 /// number is asked by the holder of that clerk's code. Every other request needs no such check. The response to a rejected request
 /// is the same at every state of the office, and so is what is `Shown`.
 ///
-/// `Broken` comes only from the source, which then counts one failure more. It comes only while what was read doesn't say yet what
-/// is asked. Once it does, nothing more is read, because the client may wait for its response. Some of the bytes after the request
-/// may have been read.
+/// `Broken` comes only from the source, which then counts one failure more. It comes only while what was read doesn't say yet
+/// what is asked. Once it does, nothing more is read, because the client may wait for its response. Some of the bytes that follow
+/// the request may have been read.
 ///
-/// What is asked for depends only on the target, which names exactly that of which it is the path. It is one of the seven of this
-/// crate, with numbers of 1 to 5 digits in it, the first not 0. Any other target names nothing.
+/// What is asked for depends only on the target, which names exactly what it is the path of. That is one of the seven routes of
+/// this crate, with numbers of 1 to 5 digits in it, the first not 0. Any other target names nothing.
 pub fn read_request<'a, R: Source>(
     alloc: Global,
     settings: HttpSettings<'a>,

@@ -1,4 +1,4 @@
-//! One connection: a request is read, the office is asked, and the response is written.
+//! One connection: a request is read and processed in the office, and the response is written.
 
 ghost use Rattle.std.specs.Prelude.{◌≡◌, ◌≢◌, ◌+◌, ◌-◌, ◌^◌, ◌<◌, false, true};
 ghost use Rattle.sqlite.specs.State.{HasCleanDisk};
@@ -21,7 +21,7 @@ use sqlite::Alter;
 use std::alloc::Global;
 use votes::{Sink, Source, put_all};
 
-/// How a connection ended.
+/// How serving a connection ended.
 #[derive(Clone, Copy, Debug, PartialEq, Eq)]
 pub enum Served {
     /// A response with this status was written whole.
@@ -32,7 +32,7 @@ pub enum Served {
     WriteFailed,
 }
 
-/// Writes an answer.
+/// Writes a response.
 fn put<W: Sink>(writer: &mut W, response: &Response) -> Served
     requires { W.failed writer.old < 2 ^ 64 - 1 }
     ensures puts { IsPut (W.taken writer.old) (W.taken writer.new) response.now result }
@@ -45,7 +45,7 @@ fn put<W: Sink>(writer: &mut W, response: &Response) -> Served
     }
 }
 
-/// Writes that the client must wait: wrong codes came under the number for which it asks.
+/// Writes that the client must wait, because the limit of wrong codes is reached.
 ///
 /// `WriteFailed` comes only from the writer, which counts one failure more: a beginning of the response was written.
 pub fn write_wait_response<W: Sink>(writer: &mut W) -> Served
@@ -69,7 +69,7 @@ pub fn write_gone_response<W: Sink>(writer: &mut W) -> Served
     put(writer, &Response::gone())
 }
 
-/// Writes that memory ran out (101).
+/// Writes that an allocation failed (101).
 ///
 /// `WriteFailed` comes only from the writer, which counts one failure more: a beginning of the response was written.
 pub fn tell_no_memory<W: Sink>(writer: &mut W) -> Served
@@ -81,10 +81,10 @@ pub fn tell_no_memory<W: Sink>(writer: &mut W) -> Served
     put(writer, &Response::no_memory())
 }
 
-/// Asks the office what a request asks, and writes the response.
+/// Processes a request in the office, and writes the response.
 ///
-/// `WriteFailed` comes only from the writer, which counts one failure more: a beginning of the response was written, and what the
-/// office answered stands. A closed office stays as it is.
+/// `WriteFailed` comes only from the writer, which counts one failure more: a beginning of the response was written, and the
+/// office's answer remains valid. A closed office stays as it is.
 pub fn respond<W: Sink, S: Alter>(
     alloc: Global,
     asked: HttpRequest<'_>,
@@ -105,7 +105,7 @@ pub fn respond<W: Sink, S: Alter>(
     put(writer, &response)
 }
 
-/// Serves one connection: reads a request, hands it on to the office, and writes the answer.
+/// Serves one connection: reads a request, processes it in the office, and writes the response.
 ///
 /// `Answered`: the response to what the reader's bytes ask was written whole, the office is at the state after it, and neither the
 /// reader nor the writer failed. After a fault of the office the response is that fault (503). The office is then as it was; or it
@@ -116,9 +116,9 @@ pub fn respond<W: Sink, S: Alter>(
 /// `ReadFailed` comes only from the reader, which counts one failure more, and only while what was read doesn't say yet what is
 /// asked. A failed read gets no response: nothing was written, and the office is as it was. `WriteFailed` comes only from the
 /// writer, which counts one failure more, while the reader counts none. A beginning of the response was written, the write isn't
-/// repeated, and what the office answered stands. A closed office answers that it is closed, 104 (503), if it is asked anything,
-/// and stays as it is. The response to a rejected request, such as one of a page from elsewhere, is the same at every state, and so
-/// is a page that is shown.
+/// repeated, and the office's answer remains valid. A closed office, if it is asked anything, answers that it is closed, 104
+/// (503), and stays as it is. The response to a rejected request, such as one of a page from elsewhere, is the same at every
+/// state, and so is a page that is shown.
 pub fn serve_one<R: Source, W: Sink, S: Alter>(
     alloc: Global,
     settings: HttpSettings<'_>,

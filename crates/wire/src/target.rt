@@ -9,7 +9,7 @@ use matchit::{InsertError, Params, Router};
 use std::alloc::{AllocError, Global};
 use std::str;
 
-/// What may be read.
+/// A resource that can be read.
 #[derive(Clone, Copy, Debug, PartialEq, Eq)]
 pub enum Resource {
     /// The batches that a clerk is to key.
@@ -25,13 +25,13 @@ pub enum Resource {
 /// What a target names.
 #[derive(Clone, Copy)]
 pub(crate) enum Target {
-    /// A clerk's keying of a batch, which is sent.
+    /// A clerk's keying of a batch, to be sent.
     Keying { clerk: u32, batch: u32 },
     /// The page on which a clerk keys.
     Page { clerk: u32 },
-    /// That a clerk signs out.
+    /// The signing out of a clerk.
     Leave { clerk: u32 },
-    /// What may be read.
+    /// A resource that can be read.
     Resource(Resource),
 }
 
@@ -47,7 +47,7 @@ enum RouteTarget {
     Declaration,
 }
 
-/// Makes the router of the seven routes.
+/// Returns the router with the seven routes.
 fn office_router(alloc: Global) -> Result<Router<RouteTarget>, InsertError>
     ensures { IfOk result (λ router. router ≡ office_routes) }
 {
@@ -62,7 +62,7 @@ fn office_router(alloc: Global) -> Result<Router<RouteTarget>, InsertError>
     Ok(router)
 }
 
-/// Returns the number that a parameter has.
+/// Returns the number in a parameter, if it has one.
 fn parameter(params: &Params<'_, '_>, name: &str) -> Option<u32>
     requires { AllText (taken_by params.now) }
     ensures { result ≡ parameter name.now (taken_by params.now) }
@@ -70,7 +70,7 @@ fn parameter(params: &Params<'_, '_>, name: &str) -> Option<u32>
     number_in(params.get(name)?)
 }
 
-/// Returns what a target names, by where its route leads and by its parameters.
+/// Returns what a target names, by its route and its parameters.
 fn named_at(place: RouteTarget, params: &Params<'_, '_>) -> Option<Target>
     requires { AllText (taken_by params.now) }
     ensures { result ≡ named_at place (taken_by params.now) }
@@ -109,7 +109,7 @@ fn named_at(place: RouteTarget, params: &Params<'_, '_>) -> Option<Target>
     }
 }
 
-/// The seven routes, which whoever serves makes once.
+/// The seven routes. A server makes them once.
 #[derive(Drop)]
 pub struct Routes {
     router: Router<RouteTarget>,
@@ -117,7 +117,7 @@ pub struct Routes {
 }
 
 impl Routes {
-    /// Makes the routes. The only error is that an allocation failed.
+    /// Returns the routes. The only error is a failed allocation.
     pub fn new(alloc: Global) -> Result<Routes, AllocError> {
         match office_router(alloc) {
             Ok(router) => Ok(Routes { router }),
@@ -125,7 +125,7 @@ impl Routes {
         }
     }
 
-    /// Returns what a target names, if anything is served there. Takes no memory.
+    /// Returns what a target names, if anything is served there. Allocates nothing.
     pub(crate) fn named_by(&self, target: &[u8]) -> Option<Target>
         ensures { result ≡ named_by target.now }
     {
