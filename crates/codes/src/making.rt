@@ -85,8 +85,8 @@ fn is_made_for(alloc: Global, text: &[u8], clerks: ClerkRange) -> Result<bool, C
     }
 }
 
-/// Returns the text of a file of new codes for some clerks, one line each. Its letters are those that the last bytes draw. The text
-/// is read back: if a code appears in it twice, all are drawn again.
+/// Returns the text of a file of new codes for some clerks, one line each. Its letters are those that the last bytes draw. The
+/// text is read back: if a code appears in it twice, all are drawn again.
 ///
 /// `NoRandom` comes only from the source, whose failures rose by one. `BadRandom` comes if 100 bytes for each letter draw too few
 /// letters, or if 100 texts are no files of codes. The only other error is that an allocation failed.

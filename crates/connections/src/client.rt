@@ -38,8 +38,8 @@ pub struct PendingResponse {
 }
 
 /// An open connection: its listener, its stream, its number in the order of acceptance, and when its present time limit began, in
-/// milliseconds. Then the bytes that were received, the response once there is one, and how many bytes of the request are still to
-/// come after the response: those are read and dropped.
+/// milliseconds. Then the bytes that were received, the response once there is one, and how many bytes of the request are still
+/// to come after the response: those are read and dropped.
 #[derive(Drop)]
 pub struct Client<L> {
     pub listener: Listener,

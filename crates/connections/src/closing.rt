@@ -17,8 +17,8 @@ pub const TIMEOUT: u64 = 30_000;
 /// How long a new connection is safe from being closed to make room, in milliseconds.
 const GRACE: u64 = 1_000;
 
-/// A rule by which those connections are closed that have waited longest: whether orders are closed too, how long a connection must
-/// have waited at a moment, both in milliseconds, and the reason.
+/// A rule by which those connections are closed that have waited longest: whether orders are closed too, how long a connection
+/// must have waited at a moment, both in milliseconds, and the reason.
 #[derive(Clone, Copy)]
 pub struct Rule {
     pub orders_too: bool,

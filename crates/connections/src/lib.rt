@@ -1,11 +1,11 @@
 //! Connections whose streams are read and written side by side, without blocking.
 //!
-//! A [`Stream`](stream) is one connection's bytes, in and out. A [`Client`](client) is an open connection: what was received of its
-//! request, and how much of its response was sent. The [`ConnectionTable`](table) has the open connections, and says which has
-//! waited longest; [`closing`](closing) has the rules by which they are closed early. A [`Network`](network) accepts connections,
-//! and reports which are ready. Nothing here knows a socket, a clock or an office: the crates above decide when a request is
-//! complete, and what the response is. They read the request by a [`SliceSource`](slice_source), and write the response into a
-//! [`VecSink`](vec_sink).
+//! A [`Stream`](stream) is one connection's bytes, in and out. A [`Client`](client) is an open connection: what was received of
+//! its request, and how much of its response was sent. The [`ConnectionTable`](table) has the open connections, and says which
+//! has waited longest; [`closing`](closing) has the rules by which they are closed early. A [`Network`](network) accepts
+//! connections, and reports which are ready. Nothing here knows a socket, a clock or an office: the crates above decide when a
+//! request is complete, and what the response is. They read the request by a [`SliceSource`](slice_source), and write the
+//! response into a [`VecSink`](vec_sink).
 #![tactic(auto)]
 
 pub mod client;

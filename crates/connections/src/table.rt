@@ -48,7 +48,8 @@ fn is_among(orders_too: bool, listener: Listener) -> bool
     }
 }
 
-/// Returns the earlier of two, each with its place and the moment when its time limit began; the first if the second doesn't count.
+/// Returns the earlier of two, each with its place and the moment when its time limit began; the first if the second doesn't
+/// count.
 fn earlier(
     found: Option<(usize, u64)>,
     is_among: bool,

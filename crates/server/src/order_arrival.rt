@@ -38,8 +38,8 @@ fn receive_length<L: Stream>(client: &mut Client<L>) -> Result<Option<[u8; LENGT
     }
 }
 
-/// Reads the message of an order; returns whether it is complete. A connection is closed if it ends too early, or if the message is
-/// too long.
+/// Reads the message of an order; returns whether it is complete. A connection is closed if it ends too early, or if the message
+/// is too long.
 pub fn receive_message<L: Stream>(client: &mut Client<L>) -> Result<bool, CloseReason>
     requires { client.old.answer ≡ None }
     ensures receives { Receives (stream_of L.held L.taken L.failed) client.old.stream client.new.stream client.old.got.items client.new.got.items }

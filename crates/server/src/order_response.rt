@@ -231,8 +231,8 @@ fn respond_to_message<L: Stream, A: SideJobs, S: Alter>(
     respond_to_asked(&order, stream, office)
 }
 
-/// Responds to an order whose message was received: it is processed in the office, and its output is sent in frames on its stream,
-/// which is returned.
+/// Responds to an order whose message was received: it is processed in the office, and its output is sent in frames on its
+/// stream, which is returned.
 ///
 /// The response is fault 102, as for a file that another program holds, if the bytes are no message, or if the order is from
 /// another version of the program or for another file. For `init`, `migrate` and `serve` it is that the office is being served

@@ -315,23 +315,23 @@ fn serve_rounds<D: Network, A: SideJobs, S: Alter>(
 /// clients were accepted and all connections are closed, or without end if no number is given. Orders are accepted too, before
 /// clients, and don't count.
 ///
-/// Requests are received side by side, and responses are sent side by side. A request is processed once it is complete: a client's
-/// as a whole, and an order's as a whole, in the same office. At most 512 connections are open at once, with 64 MiB of their
-/// requests and responses. If there are more, the next one stays pending, and the client that has waited longest is closed for it,
-/// provided that it has waited for a second. A connection has half a minute to send its request, and half a minute more to accept
-/// its response. One that is closed early gets no response. One that can't be accepted now is accepted later.
+/// Requests are received side by side, and responses are sent side by side. A request is processed once it is complete: a
+/// client's as a whole, and an order's as a whole, in the same office. At most 512 connections are open at once, with 64 MiB of
+/// their requests and responses. If there are more, the next one stays pending, and the client that has waited longest is closed
+/// for it, provided that it has waited for a second. A connection has half a minute to send its request, and half a minute more
+/// to accept its response. One that is closed early gets no response. One that can't be accepted now is accepted later.
 ///
 /// At the gate a request is let in by its clerk's code, whatever wrong codes came. Once 6,000 wrong codes came within a minute, a
 /// request with a wrong code must wait for the rest of that minute. The moments are those that the clock shows.
 ///
-/// What is received of a connection are its own bytes, from the first one on, and what it is sent is the response to exactly these.
-/// Nothing changes an open office but clerks' keyings, at most one for each client, and the requests of orders. Whatever a stop
-/// leaves is the state after the requests that were answered, and at most one more. Each is answered as the office's machine says
-/// at the state at which it is processed. A closed office stays as it is.
+/// What is received of a connection are its own bytes, from the first one on, and what it is sent is the response to exactly
+/// these. Nothing changes an open office but clerks' keyings, at most one for each client, and the requests of orders. Whatever a
+/// stop leaves is the state after the requests that were answered, and at most one more. Each is answered as the office's machine
+/// says at the state at which it is processed. A closed office stays as it is.
 ///
-/// By the network's clock a connection is closed as timed out only once its half minute is over, counted from when it was accepted
-/// or its request was processed. It is closed to make room only while the table is full, or if the system has no room for one more.
-/// The connections that are open as serving ends are closed last, and none is open after an end without a failure.
+/// By the network's clock a connection is closed as timed out only once its half minute is over, counted from when it was
+/// accepted or its request was processed. It is closed to make room only while the table is full, or if the system has no room
+/// for one more. The connections that are open as serving ends are closed last, and none is open after an end without a failure.
 ///
 /// What each clerk sees of the office determines what is sent under that clerk's number, up to a fault, and except for the
 /// responses to wait and that the file is gone.

@@ -2,8 +2,8 @@
 //!
 //! [`Loopback`](loopback) listens on both loopback addresses, a [`Socket`](socket) is one connection, and [`Poller`](poller)
 //! reports which connections are ready and whether another is pending. Nothing guarantees what a socket reads or accepts, which
-//! address is bound, or what the system reports ([`SocketNetwork`](socket_network) adds a clock). So a connection that is reported
-//! as ready may have nothing to read, and a call on it then returns at once.
+//! address is bound, or what the system reports ([`SocketNetwork`](socket_network) adds a clock). So a connection that is
+//! reported as ready may have nothing to read, and a call on it then returns at once.
 #![tactic(auto)]
 
 mod socket_network;

@@ -210,7 +210,8 @@ impl Poller {
     }
 
     /// Notes what the listeners returned, and returns it. The system reports that it is full before it looks whether a connection
-    /// is pending. So unless an event reported one, the result is that none is pending, and the next wait tells whether that is so.
+    /// is pending. So unless an event reported one, the result is that none is pending, and the next wait tells whether that is
+    /// so.
     fn noted(&mut self, outcome: AcceptOutcome<Socket>, clients_too: bool) -> AcceptOutcome<Socket>
         ensures same { (result ≡ outcome) ⊎ ((outcome ≡ AcceptOutcome.Full) × (result ≡ AcceptOutcome.Nobody)) }
         ensures seen { self.old.waiting ≡ Waiting.Somebody → result ≡ outcome }

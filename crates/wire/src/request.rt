@@ -181,10 +181,10 @@ fn read_from_head<'a, R: Source>(
 /// any.
 ///
 /// A request with a header which shows that a page from elsewhere sent it, or that it came by a foreign name, is `Forbidden`,
-/// whatever else it asks. At a gate a request whose target begins with a clerk's number, such as `/clerks/4/`, is let in only with
-/// that clerk's code. Otherwise it is `Unauthorized`, or a `WrongCode`, whatever else it asks. So what is asked under a clerk's
-/// number is asked by the holder of that clerk's code. Every other request needs no such check. The response to a rejected request
-/// is the same at every state of the office, and so is what is `Shown`.
+/// whatever else it asks. At a gate a request whose target begins with a clerk's number, such as `/clerks/4/`, is let in only
+/// with that clerk's code. Otherwise it is `Unauthorized`, or a `WrongCode`, whatever else it asks. So what is asked under a
+/// clerk's number is asked by the holder of that clerk's code. Every other request needs no such check. The response to a
+/// rejected request is the same at every state of the office, and so is what is `Shown`.
 ///
 /// `Broken` comes only from the source, which then counts one failure more. It comes only while what was read doesn't say yet
 /// what is asked. Once it does, nothing more is read, because the client may wait for its response. Some of the bytes that follow

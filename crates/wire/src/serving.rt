@@ -107,11 +107,11 @@ pub fn respond<W: Sink, S: Alter>(
 
 /// Serves one connection: reads a request, processes it in the office, and writes the response.
 ///
-/// `Answered`: the response to what the reader's bytes ask was written whole, the office is at the state after it, and neither the
-/// reader nor the writer failed. After a fault of the office the response is that fault (503). The office is then as it was; or it
-/// is closed, and a stop leaves the state before the request or, of an accepted one, the state after it. The response is 101 (503)
-/// if an allocation failed: for the request, which then wasn't sent to the office; for the response, and then the office is at the
-/// state after the request; or in the office, like any fault.
+/// `Answered`: the response to what the reader's bytes ask was written whole, the office is at the state after it, and neither
+/// the reader nor the writer failed. After a fault of the office the response is that fault (503). The office is then as it was;
+/// or it is closed, and a stop leaves the state before the request or, of an accepted one, the state after it. The response is
+/// 101 (503) if an allocation failed: for the request, which then wasn't sent to the office; for the response, and then the
+/// office is at the state after the request; or in the office, like any fault.
 ///
 /// `ReadFailed` comes only from the reader, which counts one failure more, and only while what was read doesn't say yet what is
 /// asked. A failed read gets no response: nothing was written, and the office is as it was. `WriteFailed` comes only from the
