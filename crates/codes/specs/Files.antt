@@ -117,6 +117,6 @@ abbrev pub weak_clerks : List CodeEntry → List ℕ
 weak_clerks [] = []
 weak_clerks (entry ∷ entries) = if is_strong entry.code then weak_clerks entries else entry.clerk ∷ weak_clerks entries
 
--- who holds the codes of some entries
+-- the holders of the codes of some entries
 abbrev pub holders_by : List CodeEntry → List Holder
 holders_by entries = map (λ (e : CodeEntry). record { clerk = e.clerk; text = credentials_of e.clerk e.code }) entries

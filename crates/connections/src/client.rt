@@ -114,7 +114,7 @@ fn receive_once<L: Stream>(stream: &mut L, got: &mut Vec<u8>) -> Result<Received
     }
 }
 
-/// Receives what has arrived, until there are so many bytes in all, or no more has arrived. It receives fewer than `CHUNK` bytes
+/// Receives what has arrived, until there are `wanted` bytes in all, or no more has arrived. It receives fewer than `CHUNK` bytes
 /// more than that, so that a client that keeps sending doesn't delay the others.
 fn receive_up_to<L: Stream>(stream: &mut L, got: &mut Vec<u8>, wanted: usize) -> Result<ReadProgress, ReceiveError>
     ensures receives { Receives (stream_of L.held L.taken L.failed) stream.old stream.new got.old.items got.new.items }
@@ -153,8 +153,8 @@ pub fn deliver<L: Stream>(stream: &mut L, answer: &mut PendingResponse) -> Resul
     Ok(true)
 }
 
-/// Reads and drops so many bytes of a stream, as far as they have arrived, and counts them down. Returns whether no more of them
-/// will come.
+/// Reads and drops up to `unread` bytes of a stream, as far as they have arrived, and counts them down. Returns whether no more
+/// of them will come.
 fn drop_bytes<L: Stream>(stream: &mut L, unread: &mut usize) -> Result<bool, Broken>
     ensures untold { L.taken stream.new ≡ L.taken stream.old }
     ensures less { unread.new ≤ unread.old }
@@ -202,8 +202,8 @@ impl<L: Stream> Client<L> {
         Removed { number, stream, why }
     }
 
-    /// Receives more of a connection that has no response yet, until there are so many bytes in all, or no more has arrived. It
-    /// receives fewer than 16,384 bytes past that.
+    /// Receives more of a connection that has no response yet, until there are `wanted` bytes in all, or no more has arrived. It
+    /// receives fewer than 16,384 bytes more than that.
     pub fn receive(&mut self, wanted: usize) -> Result<ReadProgress, ReceiveError>
         requires { self.old.answer ≡ None }
         ensures receives { Receives (stream_of L.held L.taken L.failed) self.old.stream self.new.stream self.old.got.items self.new.got.items }

@@ -63,7 +63,7 @@ impl ReadCache {
         None
     }
 
-    /// Removes the oldest responses, until there is room for so many bytes more.
+    /// Removes the oldest responses until `more` bytes fit.
     fn make_room(&mut self, more: usize)
         ensures { (gone : List ReadEntry) × (reads_in self.old ≡ gone ++ reads_in self.new) }
     {

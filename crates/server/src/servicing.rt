@@ -49,7 +49,7 @@ pub enum Serviced {
     Leaves(CloseReason),
 }
 
-/// Receives the body of a request whose head was parsed, until there are so many bytes in all. Returns whether the request is
+/// Receives the body of a request whose head was parsed, until there are `wanted` bytes in all. Returns whether the request is
 /// complete.
 fn receive_body<L: Stream>(
     client: &mut Client<L>,

@@ -321,8 +321,9 @@ fn serve_rounds<D: Network, A: SideJobs, S: Alter>(
 /// for it, provided that it has waited for a second. A connection has half a minute to send its request, and half a minute more
 /// to accept its response. One that is closed early gets no response. One that can't be accepted now is accepted later.
 ///
-/// At the gate a request is let in by its clerk's code, whatever wrong codes came. Once 6,000 wrong codes came within a minute, a
-/// request with a wrong code must wait for the rest of that minute. The moments are those that the clock shows.
+/// At the gate a request with its clerk's code is let in, however many wrong codes were sent. Once 6,000 wrong codes were sent
+/// within a minute, a request with a wrong code must wait for the rest of that minute. The moments are those that the clock
+/// shows.
 ///
 /// What is received of a connection are its own bytes, from the first one on, and what it is sent is the response to exactly
 /// these. Nothing changes an open office but clerks' keyings, at most one for each client, and the requests of orders. Whatever a

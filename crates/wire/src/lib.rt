@@ -2,13 +2,13 @@
 //!
 //! Seven routes are served: `POST /clerks/{c}/batches/{b}/keying`, `GET /clerks/{c}/work`, `GET /wards/{w}/sheet` and
 //! `GET /wards/{w}/result`; and with codes also `GET /clerks/{c}/`, `GET /clerks/{c}/leave` and
-//! `GET /clerks/{c}/batches/{b}/candidates`. [`Routes`] has these seven. A server makes it once.
+//! `GET /clerks/{c}/batches/{b}/candidates`. [`Routes`] has these seven, and a server makes it once.
 //!
-//! [`parse`] parses the head of a request once. Everything but the text of the body is decided from the result, [`Parsed`]:
-//! whether the request is complete ([`Completeness`]), under which clerk's number it asks and whether its code is wrong
-//! ([`Authentication`]), whether it is a read ([`Resource`]), and what it asks ([`HttpRequest`]). A request may be rejected
-//! before the office is asked, with a [`RequestError`]. [`respond`] processes a request in the office, and writes the response.
-//! [`serve_one`] serves one connection from any reader: it parses the head in the same way ([`read_request`]), and then responds.
+//! [`parse`] parses the head of a request once. The result, [`Parsed`], says whether the request is complete ([`Completeness`]),
+//! whose code it has and whether that is wrong ([`Authentication`]), what it reads ([`Resource`]), and what it asks
+//! ([`HttpRequest`]). Only the text of the body is parsed after that. A request may be rejected before the office is asked, with
+//! a [`RequestError`]. [`respond`] processes a request in the office, and writes the response. [`serve_one`] serves one
+//! connection from any reader: it parses the head in the same way ([`read_request`]), and then responds.
 //!
 //! [`HttpSettings`] are the settings of HTTP: the [`Origin`] of pages that come through a proxy, and the [`Gate`], if any.
 //! [`plain`] serves a connection without either. A request with a header which shows that a page from elsewhere sent it is

@@ -177,7 +177,7 @@ pub fn parse(settings: HttpSettings<'_>, routes: &Routes, got: &[u8]) -> Parsed
 }
 
 impl Parsed {
-    /// Returns whether the request is complete, of which so many bytes were received.
+    /// Returns whether the request is complete, if `come` bytes of it were received.
     ///
     /// The bytes of a complete request ask the same, whatever follows them.
     pub fn completeness_of(&self, come: usize) -> Completeness
@@ -238,11 +238,11 @@ impl Parsed {
         }
     }
 
-    /// Returns how many bytes of the body are still to come, of a request of which so many bytes were received. It is at most 1
-    /// MiB, even if the head says more or says nothing valid. It is 0 without a complete head.
+    /// Returns how many bytes of the body are still to come, if `come` bytes of the request were received. It is at most 1 MiB,
+    /// even if the head says more or says nothing valid. It is 0 without a complete head.
     ///
-    /// The server reads so many bytes more before it closes the connection. Otherwise the system would reset the connection, and
-    /// a proxy would report that instead of the response.
+    /// The server reads that many bytes more before it closes the connection. Otherwise the system would reset the connection,
+    /// and a proxy would report that instead of the response.
     pub fn body_to_come(&self, come: usize) -> usize
         ensures { (its : HttpSettingsEntry) (got : List ℕ) → IsParsed its got self.now → result ≤ MAX_BODY_BYTES }
     {
