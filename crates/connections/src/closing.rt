@@ -131,7 +131,7 @@ fn is_full<L>(table: &ConnectionTable<L>) -> bool
     table.clients.len() >= MAX_CLIENTS || bytes_held(table.clients.as_slice()) >= MAX_BYTES
 }
 
-/// Closes a client to make room for a connection for which the system has none. Returns whether one was closed.
+/// Closes a client for the next connection, because the system has no room for both. Returns whether one was closed.
 pub fn evict_one<D: Network>(network: &mut D, table: &mut ConnectionTable<D::Stream>, now: u64) -> bool
     ensures go { ClosesOne (IsClosedByRule (eviction_rule now)) result (D.known network.old) (D.known network.new) table.old table.new }
     ensures nobody { result ≡ false → All (λ client. is_among false client.listener ≡ true → now - client.since < grace) table.old.clients.items }

@@ -6,11 +6,11 @@
 //! bytes that were received, an order's by its message, in the same open office. So no connection waits for another's stream, and
 //! the office does one thing at a time.
 //!
-//! The head of a client's request is parsed once, by [`wire::parse`] with routes that are made once. The result decides when the
-//! request is complete, whether its code is right, and what the office is asked. Responses to reads are cached by what is asked,
-//! not by the bytes of the request, and a cached response is sent again until a keying or an order empties the cache. If the
-//! office has a gate, a request under a clerk's number requires that clerk's code. Once 6,000 wrong codes were sent within a
-//! minute, a wrong code is answered 429.
+//! Whenever more of a client's request has arrived, [`wire::parse`] parses its head, with routes that are made once. From that
+//! one result the server knows whether the request is complete, whose code it has, whether it must wait, what it reads, and what
+//! the office is asked. Responses to reads are cached by what is asked, not by the bytes of the request, and a cached response is
+//! sent again until a keying or an order empties the cache. If the office has a gate, a request under a clerk's number requires
+//! that clerk's code. Once 6,000 wrong codes were sent within a minute, a wrong code is answered 429.
 //!
 //! `specs/Exchanges.antt` defines what is kept of the requests, and `specs/ServedOrders.antt` what an order asks and what it
 //! prints. `specs/Reads.antt` defines the cache and the rate limit, and `specs/Servicing.antt` what servicing a connection does.

@@ -7,6 +7,6 @@ pub enum ServeError {
     Network,
     /// The table of connections couldn't be allocated.
     Memory,
-    /// The number of rounds doesn't fit 64 bits any more.
+    /// As many rounds were served as a number of 64 bits can count.
     Rounds,
 }
