@@ -64,7 +64,7 @@ fn receive_body<L: Stream>(
     ensures lost { IsLostOnly result }
 {
     match client.receive(wanted)? {
-        ReadProgress::ServeError => Ok(true),
+        ReadProgress::Ended => Ok(true),
         ReadProgress::Waits => Ok(false),
         ReadProgress::Enough => match parsed.completeness_of(client.got.len()) {
             Completeness::Nothing => Ok(true),

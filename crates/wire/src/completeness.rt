@@ -4,7 +4,7 @@
 #[derive(Clone, Copy, PartialEq, Eq)]
 pub enum Completeness {
     /// It is complete: the bytes ask the same whatever follows them.
-    Nothing,
+    Complete,
     /// It needs at least so many bytes in all.
-    Bytes(usize),
+    AtLeast(usize),
 }
