@@ -65,11 +65,11 @@ fn receive_body<L: Stream>(
     ensures lost { IsLostOnly result }
 {
     match client.receive(wanted)? {
-        ReadProgress::ServeError => Ok(true),
+        ReadProgress::Ended => Ok(true),
         ReadProgress::Waits => Ok(false),
         ReadProgress::Enough => match parsed.completeness_of(client.got.len()) {
-            Completeness::Nothing => Ok(true),
-            Completeness::Bytes(_) => Ok(false),
+            Completeness::Complete => Ok(true),
+            Completeness::AtLeast(_) => Ok(false),
         },
     }
 }
@@ -90,9 +90,9 @@ fn hear_request<L: Stream>(
     let received = client.receive(MAX_HEAD_BYTES)?;
     let parsed = parse(settings, routes, client.got.as_slice());
     match parsed.completeness_of(client.got.len()) {
-        Completeness::Nothing => Ok(Some(parsed)),
-        Completeness::Bytes(wanted) => match received {
-            ReadProgress::ServeError => Ok(Some(parsed)),
+        Completeness::Complete => Ok(Some(parsed)),
+        Completeness::AtLeast(wanted) => match received {
+            ReadProgress::Ended => Ok(Some(parsed)),
             ReadProgress::Waits => Ok(None),
             ReadProgress::Enough => {
                 if receive_body(client, parsed, wanted)? {

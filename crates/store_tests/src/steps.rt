@@ -267,7 +267,7 @@ fn terms_of(held: &Option<Codes>) -> ServerSettings<'_, Unaided> {
         None => None,
     };
     ServerSettings {
-        given: HttpSettings { origin: None, gate },
+        http: HttpSettings { origin: None, gate },
         file: SERVER_SETTINGS.file,
         side_jobs: SERVER_SETTINGS.side_jobs,
     }

@@ -4,7 +4,7 @@
 #[derive(Clone, Copy, PartialEq, Eq)]
 pub enum Completeness {
     /// They are: they ask the same whatever follows them.
-    Nothing,
+    Complete,
     /// They aren't: at least this many bytes are needed in all.
-    Bytes(usize),
+    AtLeast(usize),
 }

@@ -24,8 +24,8 @@
 //! ```text
 //! let parsed = parse(settings, &routes, got);
 //! match parsed.completeness_of(got.len()) {
-//!     Completeness::Bytes(wanted) => ..,     // receive more
-//!     Completeness::Nothing => respond(alloc, parsed.asked(alloc, settings, got)?, &mut writer, &mut office),
+//!     Completeness::AtLeast(wanted) => ..,     // receive more
+//!     Completeness::Complete => respond(alloc, parsed.asked(alloc, settings, got)?, &mut writer, &mut office),
 //! }
 //! ```
 #![tactic(auto)]

@@ -187,13 +187,13 @@ impl Parsed {
             Parsed::Head(head) => {
                 let whole = head.size.saturating_add(head.needed());
                 if come < whole {
-                    Completeness::Bytes(whole)
+                    Completeness::AtLeast(whole)
                 } else {
-                    Completeness::Nothing
+                    Completeness::Complete
                 }
             }
-            Parsed::Partial => Completeness::Bytes(come.saturating_add(1)),
-            Parsed::Malformed => Completeness::Nothing,
+            Parsed::Partial => Completeness::AtLeast(come.saturating_add(1)),
+            Parsed::Malformed => Completeness::Complete,
         }
     }
 
