@@ -297,7 +297,7 @@ fn reply_in(mut stream: UnixStream) -> Sent {
 
 /// Sends an order on the database at a path to the program that serves it, and waits for the first frame of the reply.
 pub fn send_order(rt: &HostRuntime, database: &str, order_files: &OrderFiles) -> Sent {
-    let Some(mut stream) = beside::reach(rt, database) else {
+    let Some(mut stream) = order_socket::reach(rt, database) else {
         return Sent::Unread;
     };
     let message = match message_of(rt, database, order_files) {

@@ -70,7 +70,7 @@ fn serve_through<D: Network, A: SideJobs, S: Alter>(
         (D.known network.old) (D.known network.new) settings.entry.serving.connections office.old office.new result }
 {
     let server_settings = ServerSettings {
-        given: HttpSettings {
+        http: HttpSettings {
             origin: settings.serving.origin,
             gate: gate_of(settings.gate_files),
         },

@@ -122,13 +122,13 @@ abbrev pub IsGood : Course → Type 0
 IsGood c = (c.page.status ≡ 0) × (c.cut ≡ uncut)
 
 -- what is kept of requests that were sent from a state on
-pub record KeptReceipts (s : OfficeState) (c : Course) (st : State) : Type 0 where
+pub record Kept (s : OfficeState) (c : Course) (st : State) : Type 0 where
   pub within : c.answered ≤ length c.requests
   pub leaves : LeavesState st (IsAfterSome s c.requests c.answered)
   pub all : IsGood c → c.answered ≡ length c.requests
 
 -- nothing was sent
-pub kept_none : (s : OfficeState) (line : Option ℕ) (page : Page) (cut : Cut) (st : State) → LeavesState st (λ x. x ≡ s) → KeptReceipts s (ended line [] 0 page cut) st
+pub kept_none : (s : OfficeState) (line : Option ℕ) (page : Page) (cut : Cut) (st : State) → LeavesState st (λ x. x ≡ s) → Kept s (ended line [] 0 page cut) st
 kept_none s line page cut st leaves = record {
   within = omega arith;
   leaves = λ trees may. let it = leaves trees may in (it.0, (0, omega arith, omega arith, omega arith, it.1), it.2);
@@ -136,7 +136,7 @@ kept_none s line page cut st leaves = record {
 }
 
 -- one request more, before others
-kept_more : (s : OfficeState) (r : Request) (page : Page) (rest : Course) (st : State) → KeptReceipts (after_one s r) rest st → KeptReceipts s (told_above (r ∷ []) page rest) st
+kept_more : (s : OfficeState) (r : Request) (page : Page) (rest : Course) (st : State) → Kept (after_one s r) rest st → Kept s (told_above (r ∷ []) page rest) st
 kept_more s r page rest st kept =
     let low = kept.within in
     record {
@@ -146,7 +146,7 @@ kept_more s r page rest st kept =
     }
 
 -- something that was told, and no request, before others
-kept_above : (s : OfficeState) (page : Page) (rest : Course) (st : State) → KeptReceipts s rest st → KeptReceipts s (told_above [] page rest) st
+kept_above : (s : OfficeState) (page : Page) (rest : Course) (st : State) → Kept s rest st → Kept s (told_above [] page rest) st
 kept_above s page rest st kept =
     let low = kept.within in
     record {
@@ -158,7 +158,7 @@ kept_above s page rest st kept =
 -- the last that was sent
 kept_last : (old : State) (closed : Bool) (st : State) (keep : Bool) (line : Option ℕ) (tells : OfficeState → Request → Told → Page) (s : OfficeState) (r : Request) (rs : List Request) (answered : ℕ) (page : Page) (cut : Cut)
     → (goes_on keep page.status ≡ true → cut ≢ uncut) → IsAnswered old closed st tells s r answered page
-    → KeptReceipts s (ended line (r ∷ rs) answered page cut) st
+    → Kept s (ended line (r ∷ rs) answered page cut) st
 kept_last old closed st keep line tells s r rs answered page cut ends it = record {
   within = by it;
   leaves = leaves it;
@@ -177,41 +177,41 @@ kept_last old closed st keep line tells s r rs answered page cut ends it = recor
       | inr next ↦ (x.0, (1, omega (arith, none), omega (arith, none), omega arith, next), x.2)
     ]
 
-kept_sent : {Then : OfficeState → Course → Type 0} (old : State) (closed : Bool) (st : State) (keep : Bool) (line : Option ℕ) (tells : OfficeState → Request → Told → Page) → ((x : OfficeState) (e : Course) → Then x e → KeptReceipts x e st)
+kept_sent : {Then : OfficeState → Course → Type 0} (old : State) (closed : Bool) (st : State) (keep : Bool) (line : Option ℕ) (tells : OfficeState → Request → Told → Page) → ((x : OfficeState) (e : Course) → Then x e → Kept x e st)
     → (s : OfficeState) (rs : List Request) (c : Course)
-    → IsSent old closed st keep line tells Then s rs c → KeptReceipts s c st
+    → IsSent old closed st keep line tells Then s rs c → Kept s c st
 kept_sent old closed st keep line tells so s [] c sent = so s c sent
 kept_sent old closed st keep line tells so s (r ∷ rs) c (inl (rest, goes, is, more)) =
-    subst (λ e. KeptReceipts s e st) (sym is) (kept_more s r (fronted line (answer tells s r)) rest st (kept_sent old closed st keep line tells so (after_one s r) rs rest more))
+    subst (λ e. Kept s e st) (sym is) (kept_more s r (fronted line (answer tells s r)) rest st (kept_sent old closed st keep line tells so (after_one s r) rs rest more))
 kept_sent old closed st keep line tells so s (r ∷ rs) c (inr (answered, page, cut, is, ends, it)) =
-    subst (λ e. KeptReceipts s e st) (sym is) (kept_last old closed st keep line tells s r rs answered page cut ends it)
+    subst (λ e. Kept s e st) (sym is) (kept_last old closed st keep line tells s r rs answered page cut ends it)
 
 stopped_leaves : (old : State) (closed : Bool) (st : State) (s : OfficeState) (page : Page) → IsStopped old closed st s page → LeavesState st (λ x. x ≡ s)
 stopped_leaves old closed st s page (fault, is, (cause, inl stays)) = stays.open_at.at.leaves
 stopped_leaves old closed st s page (fault, is, (cause, inr shut)) = shut.leaves
 
 kept_unsent : {Then : Course → Type 0} (old : State) (closed : Bool) (st : State) (keep : Bool) (line : Option ℕ) (Tells : Page → Type 0) (s : OfficeState) (c : Course)
-    → ((e : Course) → Then e → KeptReceipts s e st) → IsUnsent old closed st keep line Tells Then s c → KeptReceipts s c st
-kept_unsent old closed st keep line Tells s c so (inl (page, rest, told, goes, is, later)) = subst (λ e. KeptReceipts s e st) (sym is) (kept_above s (fronted line page) rest st (so rest later))
-kept_unsent old closed st keep line Tells s c so (inr (page, cut, is, ends, inl told)) = subst (λ e. KeptReceipts s e st) (sym is) (kept_none s line page cut st told.1.at.leaves)
-kept_unsent old closed st keep line Tells s c so (inr (page, cut, is, ends, inr stopped)) = subst (λ e. KeptReceipts s e st) (sym is) (kept_none s line page cut st (stopped_leaves old closed st s page stopped))
+    → ((e : Course) → Then e → Kept s e st) → IsUnsent old closed st keep line Tells Then s c → Kept s c st
+kept_unsent old closed st keep line Tells s c so (inl (page, rest, told, goes, is, later)) = subst (λ e. Kept s e st) (sym is) (kept_above s (fronted line page) rest st (so rest later))
+kept_unsent old closed st keep line Tells s c so (inr (page, cut, is, ends, inl told)) = subst (λ e. Kept s e st) (sym is) (kept_none s line page cut st told.1.at.leaves)
+kept_unsent old closed st keep line Tells s c so (inr (page, cut, is, ends, inr stopped)) = subst (λ e. Kept s e st) (sym is) (kept_none s line page cut st (stopped_leaves old closed st s page stopped))
 
-kept_played : (old : State) (closed : Bool) (st : State) (keep : Bool) (folder : Folder) (s : OfficeState) (turns : List ScriptStep) (c : Course) → IsPlayed old closed st keep folder s turns c → KeptReceipts s c st
-kept_played old closed st keep folder s [] c played = subst (λ e. KeptReceipts s e st) (sym played.0) (kept_none s None empty_page uncut st played.1.at.leaves)
+kept_played : (old : State) (closed : Bool) (st : State) (keep : Bool) (folder : Folder) (s : OfficeState) (turns : List ScriptStep) (c : Course) → IsPlayed old closed st keep folder s turns c → Kept s c st
+kept_played old closed st keep folder s [] c played = subst (λ e. Kept s e st) (sym played.0) (kept_none s None empty_page uncut st played.1.at.leaves)
 kept_played old closed st keep folder s (turn ∷ turns) c (file, found, inl (own, sends, sent)) =
     kept_sent old closed st keep turn.line (page_answered turn.errand) (λ x e more. kept_played old closed st keep folder x turns e more) s own c sent
 kept_played old closed st keep folder s (turn ∷ turns) c (file, found, inr unsent) =
     kept_unsent old closed st keep turn.line (IsTold s turn.errand file) s c (λ e more. kept_played old closed st keep folder s turns e more) unsent
 
 -- a job that was done in an office that was open
-pub kept_done : (old : State) (closed : Bool) (st : State) (folder : Folder) (s : OfficeState) (job : Job) (c : Course) → IsDone old closed st folder s job c → KeptReceipts s c st
+pub kept_done : (old : State) (closed : Bool) (st : State) (folder : Folder) (s : OfficeState) (job : Job) (c : Course) → IsDone old closed st folder s job c → Kept s c st
 kept_done old closed st folder s job c (inl (turns, are, played)) = kept_played old closed st (keeps_going job) folder s turns c played
 kept_done old closed st folder s job c (inr unsent) = kept_unsent old closed st false None _ s c (λ e never. absurd never) unsent
 
-kept_untouched : (Tells : Page → Type 0) (s : OfficeState) (c : Course) (st : State) → IsUntouched Tells s c st → KeptReceipts s c st
-kept_untouched Tells s c st (page, cut, is, told, leaves) = subst (λ e. KeptReceipts s e st) (sym is) (kept_none s None page cut st leaves)
+kept_untouched : (Tells : Page → Type 0) (s : OfficeState) (c : Course) (st : State) → IsUntouched Tells s c st → Kept s c st
+kept_untouched Tells s c st (page, cut, is, told, leaves) = subst (λ e. Kept s e st) (sym is) (kept_none s None page cut st leaves)
 
-kept_performed : (folder : Folder) (s : OfficeState) (task : Task) (c : Course) (old new : State) → Performs folder s task c old new → KeptReceipts s c new
+kept_performed : (folder : Folder) (s : OfficeState) (task : Task) (c : Course) (old new : State) → Performs folder s task c old new → Kept s c new
 kept_performed folder s task.Init c old new it = kept_untouched _ s c new it
 kept_performed folder s task.Migrate c old new it = kept_untouched _ s c new it
 kept_performed folder s (task.InOffice job) c old new (inr it) = kept_untouched _ s c new it

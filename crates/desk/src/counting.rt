@@ -40,7 +40,7 @@ fn stage_of<S: Alter>(office: &mut Office<S>, is_first: bool, request: &Request)
 {
     match office.handle(request.actor, request.id.as_str(), &request.command) {
         Ok(Answer::Done(reply)) => (LineOutcome::Replied(reply), true),
-        Ok(Answer::KeptReceipts(reply)) => (LineOutcome::Replied(reply), true),
+        Ok(Answer::Kept(reply)) => (LineOutcome::Replied(reply), true),
         Ok(Answer::Refused(refusal)) => (at_rest(is_first, refusal), false),
         Err(fault) => (LineOutcome::Failed(fault), false),
     }

@@ -89,10 +89,10 @@ fn numbered(alloc: Global, all: &[Vec<u8>]) -> Result<Vec<ScriptLine>, AllocErro
 {
     let mut lines = Vec::new(alloc);
     for (i, line) in all.iter().enumerate() {
-        if !cutting::passes_over(line) {
+        if !lexer::passes_over(line) {
             lines.push(ScriptLine {
                 number: i + 1,
-                words: cutting::words_of(alloc, line)?,
+                words: lexer::words_of(alloc, line)?,
             })?;
         }
     }
@@ -103,7 +103,7 @@ fn numbered(alloc: Global, all: &[Vec<u8>]) -> Result<Vec<ScriptLine>, AllocErro
 pub(crate) fn lines_in(alloc: Global, text: &[u8]) -> Result<Vec<ScriptLine>, AllocError>
     ensures { IfOk result (λ lines. map line_entry lines.items ≡ numbered_from 1 (lines_of text.now)) }
 {
-    numbered(alloc, &cutting::lines_of(alloc, text)?)
+    numbered(alloc, &lexer::lines_of(alloc, text)?)
 }
 
 /// Words as they would be typed, or that one isn't UTF-8.

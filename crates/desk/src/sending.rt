@@ -61,7 +61,7 @@ fn outcome_of<S: Alter>(office: &mut Office<S>, request: &Request) -> LineOutcom
 {
     match office.handle(request.actor, request.id.as_str(), &request.command) {
         Ok(Answer::Done(reply)) => LineOutcome::Replied(reply),
-        Ok(Answer::KeptReceipts(reply)) => kept_before(office, request, reply),
+        Ok(Answer::Kept(reply)) => kept_before(office, request, reply),
         Ok(Answer::Refused(refusal)) => LineOutcome::Refused(refusal),
         Err(fault) => LineOutcome::Failed(fault),
     }

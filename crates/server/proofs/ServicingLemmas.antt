@@ -28,7 +28,7 @@ use Rattle.wire.specs.Gates.{HttpSettingsEntry}
 use Rattle.wire.specs.Completeness.{IsCompletenessOf}
 use Rattle.wire.specs.Parsing.{IsParsed}
 use Rattle.wire.specs.declared.completeness.Completeness.{Completeness}
-use Rattle.wire.specs.declared.completeness.Completeness.TheVariants.{Nothing}
+use Rattle.wire.specs.declared.completeness.Completeness.TheVariants.{Complete}
 use Rattle.wire.specs.declared.parsed.Parsed.{Parsed}
 use Rattle.connections.proofs.StreamLemmas.{heard_more, told_more, told_none}
 use Rattle.server.specs.Settings.{ServerSettingsEntry}
@@ -46,7 +46,7 @@ pub same_answer : (old new : PendingResponse) (before : Option PendingResponse) 
 same_answer old new before is same = ap Some same ∙ sym (ap (option_map (λ (a : PendingResponse). a.bytes.items)) is)
 
 -- bytes that lack nothing have come to their end
-pub come_whole : (its : HttpSettingsEntry) (held : Option (List ℕ)) (got : List ℕ) (parsed : Parsed) (lacking : Completeness) (n : ℕ) → n ≡ length got → lacking ≡ Nothing
+pub come_whole : (its : HttpSettingsEntry) (held : Option (List ℕ)) (got : List ℕ) (parsed : Parsed) (lacking : Completeness) (n : ℕ) → n ≡ length got → lacking ≡ Complete
     → ((settings : HttpSettingsEntry) (bytes : List ℕ) → length bytes ≡ n → IsParsed settings bytes parsed → IsCompletenessOf settings bytes lacking) → IsParsed its got parsed → IsCome its held got parsed
 come_whole its held got parsed lacking n long nothing completeness_of is = (inl (subst (λ (l : Completeness). IsCompletenessOf its got l) nothing (completeness_of its got (sym long) is)), is)
 

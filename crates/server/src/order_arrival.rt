@@ -34,7 +34,7 @@ fn receive_length<L: Stream>(client: &mut Client<L>) -> Result<Option<[u8; LENGT
     match client.receive(LENGTH)? {
         ReadProgress::Enough => Ok(client.got.as_slice().first_chunk().copied()),
         ReadProgress::Waits => Ok(None),
-        ReadProgress::ServeError => Err(CloseReason::Unreadable),
+        ReadProgress::Ended => Err(CloseReason::Unreadable),
     }
 }
 
@@ -56,6 +56,6 @@ pub fn receive_message<L: Stream>(client: &mut Client<L>) -> Result<bool, CloseR
     match client.receive(wanted)? {
         ReadProgress::Enough => Ok(true),
         ReadProgress::Waits => Ok(false),
-        ReadProgress::ServeError => Err(CloseReason::Unreadable),
+        ReadProgress::Ended => Err(CloseReason::Unreadable),
     }
 }

@@ -36,7 +36,7 @@ pub fn read_message<'b>(alloc: Global, message: &'b [u8]) -> Result<OrderMessage
     match decode_message(alloc, message) {
         Ok(handed) => Ok(handed),
         Err(DecodeError::Memory) => Err(Fault::Memory),
-        Err(DecodeError::Fault(_)) => Err(Fault::Store),
+        Err(DecodeError::FormatError(_)) => Err(Fault::Store),
     }
 }
 

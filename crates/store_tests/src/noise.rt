@@ -105,7 +105,7 @@ fn sent(alloc: Global, numbers: &mut Pcg32) -> Result<Vec<u8>, AllocError> {
 
 /// Whether a client who sends these bytes may be answered with this status.
 fn may_be_told(alloc: Global, bytes: &[u8], status: &str) -> bool {
-    match read_request(alloc, SERVER_SETTINGS.given, &mut Counted::new(bytes)) {
+    match read_request(alloc, SERVER_SETTINGS.http, &mut Counted::new(bytes)) {
         Ok(HttpRequest::Denied(RequestError::BadRequest)) => status == "400",
         Ok(HttpRequest::Denied(RequestError::Forbidden)) => status == "403",
         Ok(HttpRequest::Denied(RequestError::NotFound)) => status == "404",

@@ -232,7 +232,7 @@ fn work<S: Alter + Drop>(
 
 /// The file that is served, no proxy, and no codes; and nothing beside the office.
 pub const SERVER_SETTINGS: ServerSettings<'static, Unaided> = ServerSettings {
-    given: HttpSettings {
+    http: HttpSettings {
         origin: None,
         gate: None,
     },
@@ -267,7 +267,7 @@ fn terms_of(held: &Option<Codes>) -> ServerSettings<'_, Unaided> {
         None => None,
     };
     ServerSettings {
-        given: HttpSettings { origin: None, gate },
+        http: HttpSettings { origin: None, gate },
         file: SERVER_SETTINGS.file,
         side_jobs: SERVER_SETTINGS.side_jobs,
     }

@@ -14,11 +14,11 @@ use Rattle.wire.specs.Bodies.{body_in, keying_of}
 use Rattle.wire.specs.Gates.{GateEntry, HttpSettingsEntry, IsAuthentication, authentication_at, authentication_entry}
 use Rattle.wire.specs.Heads.{BeginsWith, HasNoHead, IsHeadWanting}
 use Rattle.wire.specs.Completeness.{IsCompletenessOf, IsWhole}
-use Rattle.wire.specs.Lengths.{NamedValue, body_length, most_body_bytes}
+use Rattle.wire.specs.Lengths.{NamedValue, most_body_bytes}
 use Rattle.wire.specs.Parsing.{IsHeadOf, Says, needed, read_in}
 use Rattle.wire.specs.declared.request_error.RequestError.{RequestError}
 use Rattle.wire.specs.declared.request_error.RequestError.TheVariants.{BadRequest}
-use Rattle.wire.specs.declared.completeness.Completeness.TheVariants.{Bytes}
+use Rattle.wire.specs.declared.completeness.Completeness.TheVariants.{AtLeast}
 use Rattle.wire.specs.declared.parsed.Head.{Head}
 use Rattle.wire.specs.declared.target.Resource.{Resource}
 use Rattle.wire.specs.declared.target.Target.{Target}
@@ -139,7 +139,7 @@ wanting_parsed settings got more head is few =
     inr (is.found, is.behind ++ more, grown got more is.found is.behind is.begins, MissesBehind-parsed settings got head is (is.behind ++ more) (lacks_few head.wanted head.body (is.behind ++ more) short))
 
 pub lacks_bytes : (settings : HttpSettingsEntry) (got : List ℕ) (head : Head) → IsHeadOf settings got head → length got < head.size + needed head.wanted head.body
-    → IsCompletenessOf settings got (Bytes (head.size + needed head.wanted head.body))
+    → IsCompletenessOf settings got (AtLeast (head.size + needed head.wanted head.body))
 lacks_bytes settings got head is few = (
   subst (IsWanting settings) (append-nil got) (wanting_parsed settings got [] head is (subst (λ (xs : List ℕ). length xs < head.size + needed head.wanted head.body) (sym (append-nil got)) few)),
   few,
@@ -169,7 +169,7 @@ whole_parsed settings got head is enough =
     (λ completeness_of. lacks_none head.wanted head.body is.behind (omega (arith, enough, parts_of settings got head is)) (MissesBehind-back settings got head is is.behind completeness_of))
 
 -- no head came yet, and one may
-pub lacks_head : (settings : HttpSettingsEntry) (got : List ℕ) → IsHeadWanting got → IsCompletenessOf settings got (Bytes (length got + 1))
+pub lacks_head : (settings : HttpSettingsEntry) (got : List ℕ) → IsHeadWanting got → IsCompletenessOf settings got (AtLeast (length got + 1))
 lacks_head settings got may = (
   inl may,
   omega arith,

@@ -4,7 +4,7 @@
 #[derive(Clone, Copy, PartialEq, Eq)]
 pub enum Completeness {
     /// Nothing: what they ask, they ask whatever follows.
-    Nothing,
+    Complete,
     /// Bytes: fewer than so many in all are never enough.
-    Bytes(usize),
+    AtLeast(usize),
 }

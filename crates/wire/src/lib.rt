@@ -4,10 +4,10 @@
 //! `GET /wards/{w}/result`; and if codes are asked for, `GET /clerks/{c}/`, `GET /clerks/{c}/leave` and
 //! `GET /clerks/{c}/batches/{b}/candidates`. [`Routes`] has these seven, and is made once by whoever serves.
 //!
-//! [`parse`] parses the head of a request once, and all but the body's text comes from what it returns, [`Parsed`]: whether bytes are
-//! still lacking ([`Completeness`]), under whose number the request asks ([`Authentication`]), and what it asks, [`HttpRequest`], or why it is denied before
-//! the office is asked, [`RequestError`]. [`respond`] asks the office that, and writes the response. [`serve_one`] serves one connection
-//! from any reader: it reads what is asked ([`read_request`]) by the same head.
+//! [`parse`] parses the head of a request once. What it returns, [`Parsed`], says whether bytes are still lacking ([`Completeness`]), and
+//! under whose number the request asks ([`Authentication`]). With the bytes it says what is asked, [`HttpRequest`], or why that is denied before the
+//! office is asked, [`RequestError`]. [`respond`] asks the office, and writes the response. [`serve_one`] serves one connection from any
+//! reader: it reads what is asked ([`read_request`]) by the same head.
 //!
 //! [`HttpSettings`] is what an office that serves goes by; [`plain`] serves a connection without any of it. A page from elsewhere in a
 //! browser of this machine asks nothing: each request with a header that shows one is denied. [`Origin`] is that of pages which may
@@ -24,8 +24,8 @@
 //! ```text
 //! let parsed = parse(given, &routes, got);
 //! match parsed.lacks(got.len()) {
-//!     Lacks::Bytes(wanted) => ..,     // more is to come
-//!     Lacks::Nothing => respond(alloc, parsed.asked(alloc, given, got)?, &mut writer, &mut office),
+//!     Lacks::AtLeast(wanted) => ..,     // more is to come
+//!     Lacks::Complete => respond(alloc, parsed.asked(alloc, given, got)?, &mut writer, &mut office),
 //! }
 //! ```
 #![tactic(auto)]

@@ -187,13 +187,13 @@ impl Parsed {
             Parsed::Head(head) => {
                 let whole = head.size.saturating_add(head.needed());
                 if come < whole {
-                    Completeness::Bytes(whole)
+                    Completeness::AtLeast(whole)
                 } else {
-                    Completeness::Nothing
+                    Completeness::Complete
                 }
             }
-            Parsed::Partial => Completeness::Bytes(come.saturating_add(1)),
-            Parsed::Malformed => Completeness::Nothing,
+            Parsed::Partial => Completeness::AtLeast(come.saturating_add(1)),
+            Parsed::Malformed => Completeness::Complete,
         }
     }
 
@@ -237,8 +237,8 @@ impl Parsed {
         }
     }
 
-    /// Returns how many bytes are still to come of the body, of a request of which so many bytes came: as many as its head says, and at
-    /// most 1 MiB, also if it says more, or nothing that is understood. It is 0 if there is no whole head.
+    /// Returns how many bytes are still to come of the body, of a request of which so many bytes came. They are as many as its head says,
+    /// and at most 1 MiB, also if it says more, or nothing that is understood. If there is no whole head, it is 0.
     ///
     /// Whoever answers such a request reads so many bytes more before closing the connection: else the system resets it, and a proxy
     /// reports that in place of the response.

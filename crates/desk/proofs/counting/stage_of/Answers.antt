@@ -10,9 +10,9 @@ returns-in-Ok-Done-clause-told g c = λ clean is_open s at.
     let handled = rw c.in-Ok-Done.field-0-is at (rw c.as_str.ensures.value at (c.in-Ok-Done.ensures.handled clean is_open s at)) in
     (1, inl (refl, ap (page_counted c.args.is_first) handled.0, handled.1), ap (λ (b : Bool). 1 == 1 && not b) (ap tells_no handled.0 ∙ no_is_refused _))
 
-pub returns-in-Ok-KeptReceipts-clause-told : goal.returns-in-Ok-KeptReceipts-clause-told
-returns-in-Ok-KeptReceipts-clause-told g c = λ clean is_open s at.
-    let handled = rw c.in-Ok-KeptReceipts.field-0-is at (rw c.as_str.ensures.value at (c.in-Ok-KeptReceipts.ensures.handled clean is_open s at)) in
+pub returns-in-Ok-Kept-clause-told : goal.returns-in-Ok-Kept-clause-told
+returns-in-Ok-Kept-clause-told g c = λ clean is_open s at.
+    let handled = rw c.in-Ok-Kept.field-0-is at (rw c.as_str.ensures.value at (c.in-Ok-Kept.ensures.handled clean is_open s at)) in
     (1, inl (refl, ap (page_counted c.args.is_first) handled.0, handled.1), ap (λ (b : Bool). 1 == 1 && not b) (ap tells_no handled.0 ∙ no_is_refused _))
 
 pub returns-in-Ok-Refused-clause-told : goal.returns-in-Ok-Refused-clause-told
