@@ -42,8 +42,8 @@ fn listen<'a>(
         return Err(io::Error::from(ErrorKind::InvalidInput));
     };
     let clients = Loopback::bind(rt, port)?;
-    let watch = Poller::new(rt, rt.alloc(), clients, orders)?;
-    Ok(SocketNetwork { watch, clock: rt })
+    let poller = Poller::new(rt, rt.alloc(), clients, orders)?;
+    Ok(SocketNetwork { poller, clock: rt })
 }
 
 /// Returns the failure that is printed when the doors can't be opened.

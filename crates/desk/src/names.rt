@@ -40,7 +40,7 @@ pub(crate) fn name_of<'a>(candidates: &'a [Candidate], number: u32) -> &'a str
 }
 
 impl<'a> NamesByNumber<'a> {
-    #[tactic(auto, unfolding(crate::specs::NamesByNumber::names_of))]
+    #[tactic(auto, unfolding(crate::specs::Names::names_of))]
     /// The names of candidates. Each number from 0 to 30 is looked for among them once, and a preference finds its name at
     /// its place.
     pub(crate) fn new(alloc: Global, candidates: &'a [Candidate]) -> Result<NamesByNumber<'a>, AllocError>

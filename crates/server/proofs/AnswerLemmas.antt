@@ -13,14 +13,11 @@ use Rattle.connections.specs.Streams.{HasTaken, Stream}
 use Rattle.connections.specs.declared.client.Listener.TheVariants.{Clients}
 use Rattle.tables.specs.Faults.{fault_number}
 use Rattle.tables.specs.declared.fault.Fault.{Fault}
-use Rattle.wire.specs.Requests.{HttpRequestEntry, Asks, http_request_entry, denied, keying, reading, shown}
+use Rattle.wire.specs.Requests.{HttpRequestEntry, Asks, denied, keying, reading, shown}
 use Rattle.wire.specs.Gates.{HttpSettingsEntry}
 use Rattle.wire.specs.Responses.{ResponseEntry, fault_response}
 use Rattle.wire.specs.Serving.{FaultLeaves, IsAnswered, IsPut, IsServed, Readies, ReadiesClosed, ReadiesFor, closed_response, reading_response}
 use Rattle.wire.specs.Told.{IsTold, IsWritten}
-use Rattle.wire.specs.declared.request.HttpRequest.{HttpRequest}
-use Rattle.wire.specs.declared.request.HttpRequest.TheVariants as variant
-use Rattle.wire.specs.declared.request.Keying.{Keying}
 use Rattle.wire.specs.declared.serving.Served.{Served}
 use Rattle.wire.specs.declared.serving.Served.TheVariants.{Answered, ReadFailed, WriteFailed}
 use Rattle.wire.specs.declared.target.Resource.{Resource}
@@ -59,13 +56,6 @@ no_fault : (s : OfficeState) (what : Resource) (status : ℕ) (old new : Option 
 no_fault s what status old new response closed st (entry, tells, inl answered) put other = subst (λ (e : ResponseEntry). IsTold e response) answered.is.1 tells
 no_fault s what status old new response closed st (entry, tells, inr (fault, told, more)) put other =
     absurd (other (told_fault (fault_number fault) status old new response (subst (λ (e : ResponseEntry). IsTold e response) told tells) put))
-
--- what is no keying changes nothing
-pub changes_nothing : (asked : HttpRequest) → ((keyed : Keying) → asked ≡ variant.Keying keyed → ⊥) → ChangesNothing (http_request_entry asked)
-changes_nothing (variant.Denied why) other = tt
-changes_nothing (variant.Shown clerk show) other = tt
-changes_nothing (variant.Resource what) other = tt
-changes_nothing (variant.Keying keyed) other = absurd (other keyed refl)
 
 -- ---- one call
 
@@ -114,34 +104,28 @@ module _ {S : Type 0} (state_of : Held S → State) (old new : OfficeValue S) (a
 -- ---- a client is served
 
 module _ {S : Type 0} (settings : HttpSettingsEntry) (state_of : Held S → State) where
-  -- what was ready in one way was in another
-  ready-too : (P Q : _) (answer : List ℕ) → ((response : _) → P response → Q response) → EndsIn answer (IsServed P) → EndsIn answer (IsServed Q)
-  ready-too P Q answer so (served, it) = (served, record { response = it.response; ready = so it.response it.ready; put = it.put })
-
   -- by the office
   pub served_anew : (old new : OfficeValue S) (kept later : MemoryEntry) (number moment : ℕ) (got : List ℕ) (asked : HttpRequestEntry) (answer : List ℕ) → Asks settings got asked
       → HasAnswered state_of old asked answer new → KeepsReads settings state_of (served_office old kept) got (served_office new later)
       → ServesClient settings state_of (served_office old kept) (record { listener = Clients; number = number; moment = moment; got = got; answer = answer }) (served_office new later)
   served_anew old new kept later number moment got asked answer asks has keeps = record {
     serves = λ clean is_open s at right.
-        ready-too (λ response. Readies s asked response new.closed (state_of new.held)) (λ response. ReadiesFor settings (Some got) s response new.closed (state_of new.held)) answer
-        (λ response ready. inl (record { asked = asked; asks = asks; readies = ready })) (has.serves clean is_open s at);
+        let (served, it) = has.serves clean is_open s at in
+        (served, record { response = it.response; ready = inl (record { asked = asked; asks = asks; readies = it.ready }); put = it.put });
     keeps = keeps;
     turned_away = λ was.
-        let it = has.turned_away was in
-        (ready-too (IsTold (closed_response asked)) (ReadiesClosed settings (Some got)) answer (λ response ready. inl (record { asked = asked; asks = asks; tells = ready })) it.0, it.1);
+        let ((served, it), stays) = has.turned_away was in
+        ((served, record { response = it.response; ready = inl (record { asked = asked; asks = asks; tells = it.ready }); put = it.put }), stays);
     clean = has.clean;
   }
 
   -- memory ran out to read what he asks, and nothing is kept any more
   pub served_none : (office : OfficeValue S) (kept later : MemoryEntry) (number moment : ℕ) (got answer : List ℕ) → later.reads ≡ [] → EndsIn answer (IsServed (IsWritten (fault_response 101)))
       → ServesClient settings state_of (served_office office kept) (record { listener = Clients; number = number; moment = moment; got = got; answer = answer }) (served_office office later)
-  served_none office kept later number moment got answer none told = record {
-    serves = λ clean is_open s at right.
-        ready-too (IsWritten (fault_response 101)) (λ response. ReadiesFor settings (Some got) s response office.closed (state_of office.held)) answer
-        (λ response ready. inr (ready, record { is_open = is_open; at = at })) told;
+  served_none office kept later number moment got answer none (served, it) = record {
+    serves = λ clean is_open s at right. (served, record { response = it.response; ready = inr (it.ready, record { is_open = is_open; at = at }); put = it.put });
     keeps = inl none;
-    turned_away = λ was. (ready-too (IsWritten (fault_response 101)) (ReadiesClosed settings (Some got)) answer (λ response ready. inr ready) told, refl);
+    turned_away = λ was. ((served, record { response = it.response; ready = inr it.ready; put = it.put }), refl);
     clean = λ clean. clean;
   }
 

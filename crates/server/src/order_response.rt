@@ -1,6 +1,6 @@
 //! The response to an order: it is processed in the open office, and its output is sent in frames.
 
-ghost use Rattle.std.specs.Prelude.{◌≡◌, ◌-◌, ◌^◌, ◌<◌, ℕ, List, [], true};
+ghost use Rattle.std.specs.Prelude.{◌≡◌, ⊤, ◌-◌, ◌^◌, ◌<◌, ℕ, List, [], true};
 ghost use Rattle.sqlite.specs.State.{HasCleanDisk};
 ghost use Rattle.sqlite.specs.Held.{state};
 ghost use Rattle.office.specs.Answers.{IsReadAt, WhenOpenAt};
@@ -20,7 +20,7 @@ use connections::{PendingResponse, Stream, VecSink};
 use order_protocol::{OrderMessage, MessagePart};
 use office::Office;
 use sqlite::Alter;
-use std::alloc::Global;
+use std::alloc::{AllocError, Global};
 use store::Fault;
 use votes::Sink;
 
@@ -54,8 +54,19 @@ struct Handing<'t, A> {
     attached: AttachedFiles<'t>,
 }
 
-/// Prints the output of a closed office for an order: that it is closed, if the order would be followed, and otherwise why it
-/// isn't.
+impl<A> Clone for Handing<'_, A> {
+    ghost is_clone = { λ x y. y ≡ x };
+
+    ghost is_infallible = { λ _. ⊤ };
+
+    fn clone(&self) -> Result<Self, AllocError> {
+        Ok(*self)
+    }
+}
+
+impl<A> Copy for Handing<'_, A> {}
+
+/// Prints what a closed office says of an order: that it is closed, of what is followed; and why anything else isn't.
 fn print_closed<O: Sink, E: Sink>(asked: &ServedOrder<'_>, out: &mut O, err: &mut E) -> u8
     requires out { O.failed out.old < 2 ^ 64 - 1 }
     requires err { E.failed err.old < 2 ^ 64 - 1 }
@@ -209,7 +220,7 @@ fn respond_to_message<L: Stream, A: SideJobs, S: Alter>(
 ) -> (L, PendingResponse)
     requires { HasTaken (L.taken stream) [] }
     ensures told { IsSent (stream_of L.held L.taken L.failed) result.0 result.1.bytes.items result.1.sent }
-    ensures followed { (got : List ℕ) → IsMessage got (order_message_entry message.now) → FollowsOrder server_settings.file (state S.Store) office.old got result.1.bytes.items office.new }
+    ensures followed { (got : List ℕ) → IsMessage got (order_message_entry message.now) → FollowsOrder server_settings.entry.file (state S.Store) office.old got result.1.bytes.items office.new }
 {
     if !is_for_file(message, server_settings.file) {
         return tell_refused(alloc, server_settings.side_jobs, Fault::Store, stream, office);
@@ -247,7 +258,7 @@ pub fn answer_order<L: Stream, A: SideJobs, S: Alter>(
     requires fresh { HasTaken (L.taken stream) [] }
     requires whole { HasCameWhole got.now }
     ensures told { IsSent (stream_of L.held L.taken L.failed) result.0 result.1.bytes.items result.1.sent }
-    ensures followed { FollowsOrder server_settings.file (state S.Store) office.old got.now result.1.bytes.items office.new }
+    ensures followed { FollowsOrder server_settings.entry.file (state S.Store) office.old got.now result.1.bytes.items office.new }
 {
     match read_message(alloc, &got[LENGTH..]) {
         Ok(message) => respond_to_message(alloc, server_settings, &message, stream, office),

@@ -2,7 +2,7 @@
 //!
 //! Its key is what is read, whatever the bytes of the request are. It is emptied before a keying or an order is processed.
 
-ghost use Rattle.std.specs.Prelude.{◌≡◌, ◌⊎◌, ◌++◌, ◌∷◌, [], IfSome, List};
+ghost use Rattle.std.specs.Prelude.{◌≡◌, ◌⊎◌, ◌++◌, ◌∷◌, [], IfSome, List, true};
 ghost use Rattle.std.specs.List.{Contains};
 ghost use Rattle.server.specs.Reads.{ReadEntry, reads_in};
 
@@ -29,6 +29,25 @@ pub struct ReadCache {
     pub bytes: usize,
 }
 
+/// Returns whether the same is read.
+fn is_same(one: Resource, other: Resource) -> bool
+    ensures { result ≡ true → one ≡ other }
+{
+    match (one, other) {
+        (Resource::Work { clerk }, Resource::Work { clerk: theirs }) => clerk == theirs,
+        (
+            Resource::Candidates { clerk, batch },
+            Resource::Candidates {
+                clerk: theirs,
+                batch: too,
+            },
+        ) => clerk == theirs && batch == too,
+        (Resource::Sheet { ward }, Resource::Sheet { ward: other }) => ward == other,
+        (Resource::Declaration { ward }, Resource::Declaration { ward: other }) => ward == other,
+        _ => false,
+    }
+}
+
 impl ReadCache {
     /// Returns an empty cache. Allocates nothing.
     pub fn new(alloc: Global) -> ReadCache
@@ -53,7 +72,7 @@ impl ReadCache {
         ensures { IfSome result (λ answer. (entry : ReadEntry) × Contains (reads_in self.now) entry × (entry.what ≡ what) × (entry.answer ≡ answer.items)) }
     {
         for kept in &self.answers {
-            if kept.what == what {
+            if is_same(kept.what, what) {
                 return match Vec::from_slice(alloc, kept.answer.as_slice()) {
                     Ok(answer) => Some(answer),
                     Err(_) => None,

@@ -67,10 +67,13 @@ fn receive_body<L: Stream>(
     match client.receive(wanted)? {
         ReadProgress::Ended => Ok(true),
         ReadProgress::Waits => Ok(false),
-        ReadProgress::Enough => match parsed.completeness_of(client.got.len()) {
-            Completeness::Complete => Ok(true),
-            Completeness::AtLeast(_) => Ok(false),
-        },
+        ReadProgress::Enough => {
+            let got = client.got.as_slice();
+            match parsed.completeness_of(got.len()) {
+                Completeness::Complete => Ok(true),
+                Completeness::AtLeast(_) => Ok(false),
+            }
+        }
     }
 }
 
@@ -88,8 +91,9 @@ fn hear_request<L: Stream>(
     ensures lost { IsLostOnly result }
 {
     let received = client.receive(MAX_HEAD_BYTES)?;
-    let parsed = parse(settings, routes, client.got.as_slice());
-    match parsed.completeness_of(client.got.len()) {
+    let got = client.got.as_slice();
+    let parsed = parse(settings, routes, got);
+    match parsed.completeness_of(got.len()) {
         Completeness::Complete => Ok(Some(parsed)),
         Completeness::AtLeast(wanted) => match received {
             ReadProgress::Ended => Ok(Some(parsed)),
@@ -144,9 +148,10 @@ fn answer_reading<S: Alter>(what: Resource, office: &mut Office<S>, kept: &mut S
         }
     }
     let (bytes, is_told) = response_to(kept.alloc, HttpRequest::Resource(what), office);
-    if is_told {
-        kept.reads.keep(kept.alloc, what, bytes.as_slice());
+    if !is_told {
+        return PendingResponse { bytes, sent: 0 };
     }
+    kept.reads.keep(kept.alloc, what, bytes.as_slice());
     PendingResponse { bytes, sent: 0 }
 }
 
@@ -176,8 +181,12 @@ fn answer_request<S: Alter>(
             let (bytes, _) = response_to(kept.alloc, HttpRequest::Keying(keying), office);
             PendingResponse { bytes, sent: 0 }
         }
-        other => {
-            let (bytes, _) = response_to(kept.alloc, other, office);
+        HttpRequest::Denied(why) => {
+            let (bytes, _) = response_to(kept.alloc, HttpRequest::Denied(why), office);
+            PendingResponse { bytes, sent: 0 }
+        }
+        HttpRequest::Shown(clerk, show) => {
+            let (bytes, _) = response_to(kept.alloc, HttpRequest::Shown(clerk, show), office);
             PendingResponse { bytes, sent: 0 }
         }
     }
@@ -227,7 +236,7 @@ fn to_no_memory(alloc: Global) -> PendingResponse
 struct Due<'a> {
     parsed: Parsed,
     got: &'a [u8],
-    now: u64,
+    moment: u64,
 }
 
 /// Returns the response to a client; nothing of it was sent yet. If its code is wrong and the rate limit is reached, the response
@@ -241,12 +250,16 @@ fn answer_client<A: SideJobs, S: Alter>(
 ) -> PendingResponse
     requires { IsParsed (settings_entry server_settings.http) due.got.now due.parsed }
     ensures meets { (number : ℕ) → RespondsToClient (settings_entry server_settings.entry.settings) (state S.Store) (served_office office.old (memory_entry kept.old))
-        (record { listener = Listener.Clients; number = number; moment = due.now; got = due.entry.got.now; answer = result.bytes.items }) (served_office office.new (memory_entry kept.new)) }
+        (record { listener = Listener.Clients; number = number; moment = due.entry.moment; got = due.entry.got.now; answer = result.bytes.items }) (served_office office.new (memory_entry kept.new)) }
     ensures untold { result.sent ≡ 0 }
 {
-    let Due { parsed, got, now } = due;
+    let Due {
+        parsed,
+        got,
+        moment,
+    } = due;
     let authentication = parsed.authentication();
-    if kept.must_wait(authentication, now) {
+    if kept.must_wait(authentication, moment) {
         return wait_response(kept.alloc);
     }
     let is_read = parsed.reading().is_some() && !office.is_closed();
@@ -254,7 +267,7 @@ fn answer_client<A: SideJobs, S: Alter>(
         return gone_response(kept.alloc);
     }
     let answer = answer_request(server_settings.http, parsed, got, office, kept);
-    kept.note(authentication, now);
+    kept.note(authentication, moment);
     answer
 }
 
@@ -290,8 +303,13 @@ fn send_more<L: Stream>(client: &mut Client<L>) -> Serviced
     }
 }
 
-/// Sets the response of a connection, and sends as much of it as the connection accepts now.
-fn begin_answer<L: Stream>(client: Client<L>, answer: PendingResponse, unread: usize) -> (Client<L>, Serviced)
+/// Sends one its response, as much of it as it accepts now.
+fn begin_answer<L: Stream>(
+    alloc: Global,
+    client: Client<L>,
+    answer: PendingResponse,
+    unread: usize,
+) -> (Client<L>, Serviced)
     requires { IsSent (stream_of L.held L.taken L.failed) client.stream answer.bytes.items answer.sent }
     ensures is { (start : L) → IsOf (stream_of L.held L.taken L.failed) start result.0 }
     ensures same { IsSameClient client result.0 }
@@ -332,7 +350,12 @@ fn attend_client<L: Stream, A: SideJobs, S: Alter>(
         Ok(Some(parsed)) => {
             let got = client.got.as_slice();
             let unread = parsed.body_to_come(got.len());
-            let answer = answer_client(server_settings, Due { parsed, got, now }, office, kept);
+            let due = Due {
+                parsed,
+                got,
+                moment: now,
+            };
+            let answer = answer_client(server_settings, due, office, kept);
             begin_answer(kept.alloc, client, answer, unread)
         }
         Ok(None) => (client, Serviced::Waits),

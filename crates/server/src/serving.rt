@@ -267,9 +267,9 @@ fn serve_round<D: Network, A: SideJobs, S: Alter>(
     ensures goes_on { ServesOn (settings_in serving.entry.server_settings) (stream_of D.Stream.held D.Stream.taken D.Stream.failed) (state S.Store) (D.known network.old)
         (D.known network.new) table.old table.new
         (served_office office.old (memory_entry kept.old)) (served_office office.new (memory_entry kept.new)) }
-    ensures few { table.old.counted ≤ serving.most → table.new.counted ≤ serving.most }
+    ensures few { table.old.counted ≤ serving.entry.most → table.new.counted ≤ serving.entry.most }
     ensures within { OnOk result (IsWithin table.new) }
-    ensures all { result ≡ Ok true → (serving.most ≤ table.new.counted) × (table.new.clients.items ≡ []) }
+    ensures all { result ≡ Ok true → (serving.entry.most ≤ table.new.counted) × (table.new.clients.items ≡ []) }
     ensures round { IsRound result (D.known network.old) (D.known network.new) }
 {
     service_ready(network, serving.server_settings, table, office, kept)?;
@@ -296,8 +296,8 @@ fn serve_rounds<D: Network, A: SideJobs, S: Alter>(
     ensures goes_on { ServesOn (settings_in serving.entry.server_settings) (stream_of D.Stream.held D.Stream.taken D.Stream.failed) (state S.Store) (D.known network.old)
         (D.known network.new) table.old table.new
         (served_office office.old (memory_entry kept.old)) (served_office office.new (memory_entry kept.new)) }
-    ensures few { table.old.counted ≤ serving.most → table.new.counted ≤ serving.most }
-    ensures all { OnOk result (serving.most ≤ table.new.counted) }
+    ensures few { table.old.counted ≤ serving.entry.most → table.new.counted ≤ serving.entry.most }
+    ensures all { OnOk result (serving.entry.most ≤ table.new.counted) }
     ensures none { OnOk result (table.new.clients.items ≡ []) }
     ensures ended { IsEndedBy (D.known network.old) (D.known network.new) result }
 {

@@ -350,18 +350,18 @@ fn hold_too_much<M: Machine + Drop>(
     let mut body = Vec::from_slice(alloc, head)?;
     body.resize(body.len() + (1 << 20), 0xff)?;
     let all_but_one = body.len().saturating_sub(1);
-    let comer = TestClient::slow(body.as_slice(), all_but_one);
+    let slow_client = TestClient::slow(body.as_slice(), all_but_one);
     // Most never send their last byte.
     let waits = TestClient {
         sends: body.get(..all_but_one).unwrap_or(&[]),
         ends: false,
-        ..comer
+        ..slow_client
     };
     let mut clients = [Some(waits); 64];
     let mut texts = [""; 64];
-    clients[0] = Some(comer);
-    clients[1] = Some(comer);
-    clients[63] = Some(comer);
+    clients[0] = Some(slow_client);
+    clients[1] = Some(slow_client);
+    clients[63] = Some(slow_client);
     texts[1] = BAD_REQUEST;
     texts[63] = BAD_REQUEST;
     serve(rt, machine, wanted(&clients, None, &texts, "Err(Doors)"))

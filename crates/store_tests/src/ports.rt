@@ -45,7 +45,7 @@ fn connections_are_answered_side_by_side(rt: HostRuntime) -> Result<(), Fail> {
     };
     let port = Port {
         network: RefCell::new(SocketNetwork {
-            watch: Poller::new(&rt, rt.alloc(), clients, None)?,
+            poller: Poller::new(&rt, rt.alloc(), clients, None)?,
             clock: Jumping::by(31),
         }),
         connections: 3,

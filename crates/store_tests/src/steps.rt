@@ -232,7 +232,7 @@ fn work<S: Alter + Drop>(
 
 /// The file that is served, no proxy, and no codes; and nothing beside the office.
 pub const SERVER_SETTINGS: ServerSettings<'static, Unaided> = ServerSettings {
-    given: HttpSettings {
+    http: HttpSettings {
         origin: None,
         gate: None,
     },

@@ -14,7 +14,7 @@ use Rattle.wire.specs.Bodies.{body_in, keying_of}
 use Rattle.wire.specs.Gates.{GateEntry, HttpSettingsEntry, IsAuthentication, authentication_at, authentication_entry}
 use Rattle.wire.specs.Heads.{BeginsWith, HasNoHead, IsHeadWanting}
 use Rattle.wire.specs.Completeness.{IsCompletenessOf, IsWhole}
-use Rattle.wire.specs.Lengths.{NamedValue, body_length, most_body_bytes}
+use Rattle.wire.specs.Lengths.{NamedValue, most_body_bytes}
 use Rattle.wire.specs.Parsing.{IsHeadOf, Says, needed, read_in}
 use Rattle.wire.specs.declared.request_error.RequestError.{RequestError}
 use Rattle.wire.specs.declared.request_error.RequestError.TheVariants.{BadRequest}

@@ -1,8 +1,6 @@
--- The length of a request's body, by its header fields.
-use Rattle.std.specs.Prelude.{◌&&◌, ◌∷◌, Bool, List, [], None, Option, Some, Result, Ok, Err, codes, filter, if◌then◌else◌, length, map, nat_le, nat_lt, not, ℕ}
+-- How long the body of a request is, by its header fields.
+use Rattle.std.specs.Prelude.{◌∷◌, List, [], None, Option, Some, Result, Ok, Err, codes, filter, if◌then◌else◌, length, map, nat_le, nat_lt, not, ℕ}
 use Rattle.std.specs.Borrow.{Bor}
-use Rattle.std.specs.Char.{is_ascii_digit}
-use Rattle.std.specs.List.{list_all}
 use Rattle.std.specs.Str.{str_eq_ignore_ascii_case}
 use Rattle.std.specs.Str.Parse.{digits_value}
 use Rattle.origins.specs.Origins.{are_digits}

@@ -3,8 +3,8 @@
 /// Whether the bytes that were received of a request are a complete request.
 #[derive(Clone, Copy, PartialEq, Eq)]
 pub enum Completeness {
-    /// They are: they ask the same whatever follows them.
+    /// Nothing: what they ask, they ask whatever follows.
     Complete,
-    /// They aren't: at least this many bytes are needed in all.
+    /// Bytes: fewer than so many in all are never enough.
     AtLeast(usize),
 }

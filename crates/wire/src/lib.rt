@@ -4,11 +4,10 @@
 //! `GET /wards/{w}/result`; and with codes also `GET /clerks/{c}/`, `GET /clerks/{c}/leave` and
 //! `GET /clerks/{c}/batches/{b}/candidates`. [`Routes`] has these seven, and a server makes it once.
 //!
-//! [`parse`] parses the head of a request once. The result, [`Parsed`], says whether the request is complete ([`Completeness`]),
-//! whose code it has and whether that is wrong ([`Authentication`]), what it reads ([`Resource`]), and what it asks
-//! ([`HttpRequest`]). Only the text of the body is parsed after that. A request may be rejected before the office is asked, with
-//! a [`RequestError`]. [`respond`] processes a request in the office, and writes the response. [`serve_one`] serves one
-//! connection from any reader: it parses the head in the same way ([`read_request`]), and then responds.
+//! [`parse`] parses the head of a request once. What it returns, [`Parsed`], says whether bytes are still lacking ([`Completeness`]), and
+//! under whose number the request asks ([`Authentication`]). With the bytes it says what is asked, [`HttpRequest`], or why that is denied before the
+//! office is asked, [`RequestError`]. [`respond`] asks the office, and writes the response. [`serve_one`] serves one connection from any
+//! reader: it reads what is asked ([`read_request`]) by the same head.
 //!
 //! [`HttpSettings`] are the settings of HTTP: the [`Origin`] of pages that come through a proxy, and the [`Gate`], if any.
 //! [`plain`] serves a connection without either. A request with a header which shows that a page from elsewhere sent it is
@@ -22,10 +21,10 @@
 //! each outcome of a connection leaves.
 //!
 //! ```text
-//! let parsed = parse(settings, &routes, got);
-//! match parsed.completeness_of(got.len()) {
-//!     Completeness::AtLeast(wanted) => ..,     // receive more
-//!     Completeness::Complete => respond(alloc, parsed.asked(alloc, settings, got)?, &mut writer, &mut office),
+//! let parsed = parse(given, &routes, got);
+//! match parsed.lacks(got.len()) {
+//!     Lacks::AtLeast(wanted) => ..,     // more is to come
+//!     Lacks::Complete => respond(alloc, parsed.asked(alloc, given, got)?, &mut writer, &mut office),
 //! }
 //! ```
 #![tactic(auto)]

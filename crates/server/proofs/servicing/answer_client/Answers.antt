@@ -13,14 +13,14 @@ pub returns-then-must_wait-clause-meets : goal.returns-then-must_wait-clause-mee
 returns-then-must_wait-clause-meets g c = λ number. inl (inl (record {
   authentication = option_map authentication_entry c.authentication-authentication.result;
   is = c.authentication-authentication.ensures (settings_entry c.args.server_settings.http) c.args.due.got.now c.requires;
-  waits = sym {b = must_wait (option_map authentication_entry c.authentication-authentication.result) c.args.due.now (limit_entry c.args.kept.now.limit)} c.must_wait.ensures ∙ c.if-must_wait.true;
-  told = c.wait_response.ensures.told (record { listener = Clients; number = number; moment = c.args.due.now; got = c.args.due.got.now; answer = c.wait_response.result.bytes.items }) refl;
+  waits = sym {b = must_wait (option_map authentication_entry c.authentication-authentication.result) c.args.due.moment (limit_entry c.args.kept.now.limit)} c.must_wait.ensures ∙ c.if-must_wait.true;
+  told = c.wait_response.ensures.told (record { listener = Clients; number = number; moment = c.args.due.moment; got = c.args.due.got.now; answer = c.wait_response.result.bytes.items }) refl;
   stays = refl;
 }))
 
-pub returns-then-not-is_read-clause-meets : goal.returns-then-not-is_read-clause-meets
-returns-then-not-is_read-clause-meets g c = λ number. inl (inr (record {
-  told = c.gone_response.ensures.told (record { listener = Clients; number = number; moment = c.args.due.now; got = c.args.due.got.now; answer = c.gone_response.result.bytes.items }) refl;
+pub returns-then-not-is_whole-clause-meets : goal.returns-then-not-is_whole-clause-meets
+returns-then-not-is_whole-clause-meets g c = λ number. inl (inr (record {
+  told = c.gone_response.ensures.told (record { listener = Clients; number = number; moment = c.args.due.moment; got = c.args.due.got.now; answer = c.gone_response.result.bytes.items }) refl;
   stays = refl;
 }))
 
@@ -28,12 +28,12 @@ pub returns-clause-meets : goal.returns-clause-meets
 returns-clause-meets g c = λ number.
     let authentication = option_map authentication_entry c.authentication-authentication.result in
     let answered = c.answer_request-answer in
-    let exchange : Exchange = record { listener = Clients; number = number; moment = c.args.due.now; got = c.args.due.got.now; answer = answered.result.bytes.items } in
+    let exchange : Exchange = record { listener = Clients; number = number; moment = c.args.due.moment; got = c.args.due.got.now; answer = answered.result.bytes.items } in
     inr (record {
       authentication = authentication;
       is = c.authentication-authentication.ensures (settings_entry c.args.server_settings.http) c.args.due.got.now c.requires;
-      free = sym {b = must_wait authentication c.args.due.now (limit_entry c.args.kept.now.limit)} c.must_wait.ensures ∙ c.if-must_wait.false;
+      free = sym {b = must_wait authentication c.args.due.moment (limit_entry c.args.kept.now.limit)} c.must_wait.ensures ∙ c.if-must_wait.false;
       serves = noted_still (settings_entry c.args.server_settings.http) (state g.S.Store) (served_office c.args.office.now (memory_entry c.args.kept.now)) exchange answered.new.office (memory_entry answered.new.kept)
-          (memory_entry c.note.new.self) c.note.ensures.reads (answered.ensures.served number c.args.due.now);
-      noted = c.note.ensures.limit ∙ ap (limit_after authentication c.args.due.now) answered.ensures.limit;
+          (memory_entry c.note.new.self) c.note.ensures.reads (answered.ensures.served number c.args.due.moment);
+      noted = c.note.ensures.limit ∙ ap (limit_after authentication c.args.due.moment) answered.ensures.limit;
     })

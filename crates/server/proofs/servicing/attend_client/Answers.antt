@@ -17,7 +17,7 @@ use Rattle.server.proofs.servicing.attend_client.Goals as goal
 -- what was parsed are the bytes that came
 pub answer_client-answer-requires : goal.answer_client-answer-requires
 answer_client-answer-requires g c =
-    subst (λ (xs : List ℕ). IsParsed (settings_entry c.args.server_settings.http) xs c.in-Ok-Some.parsed) (sym c.as_slice-got.ensures.value) c.in-Ok-Some.ensures.come.1
+    subst (λ (xs : List ℕ). IsParsed (settings_entry c.args.server_settings.http) xs c.in-Ok-Some.parsed) (sym c.as_slice-got.ensures.value) (rw c.in-Ok-Some.field-0-is at c.in-Ok-Some.ensures.come).1
 
 pub begin_answer-requires : goal.begin_answer-requires
 begin_answer-requires g c =
@@ -39,7 +39,7 @@ returns-in-Ok-Some-clause-turn g c =
     let behind = served_office answered.new.office (memory_entry answered.new.kept) in
     attends_turn stream settings (state g.S.Store) c.args.now c.begin_answer.result.1 c.args.client new at behind c.begin_answer.ensures.apart
     (has_turn stream settings (state g.S.Store) c.args.now c.args.client mid new at behind c.requires.unanswered received.receives received.same.0.0 received.same.0.1
-    (subst (λ (d : Listener). HasComeAt d settings (g.L.Stream.held mid.stream) mid.got.items) (sym c.requires.listener) received.come.0) (
+    (subst (λ (d : Listener). HasComeAt d settings (g.L.Stream.held mid.stream) mid.got.items) (sym c.requires.listener) (rw c.in-Ok-Some.field-0-is at received.come).0) (
       record { listener = Clients; number = mid.number; moment = c.args.now; got = mid.got.items; answer = answered.result.bytes.items },
       sym (received.same.0.0 ∙ c.requires.listener),
       refl,

@@ -5,19 +5,20 @@ use Rattle.connections.specs.Streams.{HasTaken, stream_of}
 use Rattle.connections.specs.declared.client.Listener.{Listener}
 use Rattle.connections.specs.declared.client.Listener.TheVariants.{Orders}
 use Rattle.server.specs.ServedOrders.{FollowsOrder, HasCameWhole}
-use Rattle.server.specs.Reads.{served_office, memory_entry}
+use Rattle.codes.specs.RateLimits.{limit_entry}
+use Rattle.server.specs.Reads.{served_office, memory_entry, reads_in}
 use Rattle.server.specs.Settings.{settings_in}
 use Rattle.server.specs.Servicing.{HasComeAt}
 use Rattle.server.proofs.ServicingLemmas.{attends_turn, ends_lost, has_turn, left_as}
 use Rattle.server.proofs.servicing.attend_order.Goals as goal
 
 -- its message came whole
-pub answer_order-requires-clause-whole : goal.answer_order-requires-clause-whole
-answer_order-requires-clause-whole g c =
+pub answer_order-stream-requires-clause-whole : goal.answer_order-stream-requires-clause-whole
+answer_order-stream-requires-clause-whole g c =
     subst HasCameWhole (sym c.as_slice.ensures.value) (c.receive_message.ensures.come (c.in-Ok-true.is ∙ ap Ok c.in-Ok-true.field-0-test))
 
-pub answer_order-requires-clause-fresh : goal.answer_order-requires-clause-fresh
-answer_order-requires-clause-fresh g c = subst (λ (t : Option (List ℕ)). HasTaken t []) (sym c.receive_message.ensures.receives.untold) c.requires.fresh
+pub answer_order-stream-requires-clause-fresh : goal.answer_order-stream-requires-clause-fresh
+answer_order-stream-requires-clause-fresh g c = subst (λ (t : Option (List ℕ)). HasTaken t []) (sym c.receive_message.ensures.receives.untold) c.requires.fresh
 
 pub returns-in-Ok-true-clause-is : goal.returns-in-Ok-true-clause-is
 returns-in-Ok-true-clause-is g c = λ start own. c.begin_answer.ensures.is start
@@ -31,7 +32,7 @@ returns-in-Ok-true-clause-turn g c =
     let answered = c.answer_order-stream in
     let new = c.begin_answer.result.0 in
     let at = served_office c.args.office.now (memory_entry c.args.kept.now) in
-    let behind = served_office answered.new.office (memory_entry c.empty.new.self) in
+    let behind = served_office answered.new.office (record { reads = reads_in c.empty.new.self; limit = limit_entry c.args.kept.now.limit }) in
     attends_turn stream settings (state g.S.Store) c.args.now c.begin_answer.result.1 c.args.client new at behind c.begin_answer.ensures.apart
     (has_turn stream settings (state g.S.Store) c.args.now c.args.client mid new at behind c.requires.unanswered received.receives received.same.0.0 received.same.0.1
     (subst (λ (d : Listener). HasComeAt d settings (g.L.Stream.held mid.stream) mid.got.items) (sym c.requires.listener) (received.come (c.in-Ok-true.is ∙ ap Ok c.in-Ok-true.field-0-test))) (

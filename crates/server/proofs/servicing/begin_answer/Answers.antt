@@ -8,8 +8,8 @@ returns-in-Waits-clause-is g c = λ start. c.send_more.ensures.is start c.requir
 pub returns-in-Served-clause-is : goal.returns-in-Served-clause-is
 returns-in-Served-clause-is g c = λ start. c.send_more.ensures.is start c.requires
 
-pub returns-clause-is : goal.returns-clause-is
-returns-clause-is g c = λ start. c.send_more.ensures.is start c.requires
+pub returns-in-Leaves-clause-is : goal.returns-in-Leaves-clause-is
+returns-in-Leaves-clause-is g c = λ start. c.send_more.ensures.is start c.requires
 
-pub returns-clause-leaves : goal.returns-clause-leaves
-returns-clause-leaves g c = λ why is. c.send_more.ensures.leaves why (c.in-Leaves.is ∙ is)
+pub returns-in-Leaves-clause-leaves : goal.returns-in-Leaves-clause-leaves
+returns-in-Leaves-clause-leaves g c = λ why is. c.send_more.ensures.leaves why (c.in-Leaves.is ∙ is)

@@ -17,10 +17,10 @@ pub attend_client-requires-clause-unanswered : goal.attend_client-requires-claus
 attend_client-requires-clause-unanswered g c = none_from c.args.client.answer (sym c.is_some.ensures ∙ c.if-is_some.false)
 
 pub attend_client-requires-clause-fresh : goal.attend_client-requires-clause-fresh
-attend_client-requires-clause-fresh g c = c.requires (none_from c.args.client.answer (sym c.is_some.ensures ∙ c.if-is_some.false))
+attend_client-requires-clause-fresh g c = c.requires.untold (none_from c.args.client.answer (sym c.is_some.ensures ∙ c.if-is_some.false))
 
 pub attend_order-requires-clause-unanswered : goal.attend_order-requires-clause-unanswered
 attend_order-requires-clause-unanswered g c = none_from c.args.client.answer (sym c.is_some.ensures ∙ c.if-is_some.false)
 
 pub attend_order-requires-clause-fresh : goal.attend_order-requires-clause-fresh
-attend_order-requires-clause-fresh g c = c.requires (none_from c.args.client.answer (sym c.is_some.ensures ∙ c.if-is_some.false))
+attend_order-requires-clause-fresh g c = c.requires.untold (none_from c.args.client.answer (sym c.is_some.ensures ∙ c.if-is_some.false))

@@ -6,4 +6,4 @@ use Rattle.server.proofs.read_cache.ReadCache.get.Goals as goal
 pub returns-in-Ok : goal.returns-in-Ok
 returns-in-Ok c =
     kept_has c.args.self.now.answers.items c.deref-kept-items.result.now c.loop-kept.kept-index c.kept-item.result c.args.what c.in-Ok.answer.items c.deref-kept-items.ensures.value
-    c.loop-kept-test.true c.kept-item.is (cc c.eq.ensures) (c.in-Ok.ensures.items ∙ c.as_slice.ensures.value)
+    c.loop-kept-test.true c.kept-item.is (c.is_same.ensures c.if-is_same.true) (c.in-Ok.ensures.items ∙ c.as_slice.ensures.value)

@@ -1,5 +1,5 @@
 -- Why `completeness_of` keeps its promise.
-use Rattle.std.proofs.Common.{◌≡◌, ◌≤◌, ◌<◌, ◌+◌, ap, arith, rules, subst, sym, length}
+use Rattle.std.proofs.Common.{◌≤◌, ◌<◌, arith, rules, subst, sym}
 use Rattle.wire.specs.Completeness.{IsCompletenessOf}
 use Rattle.wire.specs.Parsing.{IsHeadOf, IsParsed}
 use Rattle.wire.specs.Heads.{IsHeadWanting}
