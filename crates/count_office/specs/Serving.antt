@@ -43,7 +43,7 @@ use Rattle.count_office.specs.declared.serving.GateSettings.{GateSettings}
 abbrev pub gate_with : List Holder → List ℕ → List ℕ → GateEntry
 gate_with holders text policy = record { holders = holders; page = record { text = text; policy = policy } }
 
--- the gate that a porter makes
+-- the gate of these files
 abbrev pub gate_at : GateFiles → GateEntry
 gate_at gate_files = gate_with (holders_of gate_files.codes) (string_bytes gate_files.page) (string_bytes gate_files.policy)
 
@@ -62,11 +62,11 @@ IsUngated codes_at (Some path) why = IsReadAs (codes_at path) (Err why)
 abbrev pub path_in : Serving → Option (List ℕ)
 path_in serving = option_map (λ path. path.now) serving.codes
 
--- an origin, a gate and a file are given
+-- the settings of an origin, a gate and a file
 abbrev pub settings_with : Option (List ℕ) → Option GateEntry → FileNumbers → ServerSettingsEntry
 settings_with origin gate file = record { clients = record { origin = origin; gate = gate }; file = file }
 
--- what settings give
+-- the settings of the server
 abbrev pub server_settings_of : GateSettings → ServerSettingsEntry
 server_settings_of settings = settings_with (given_by settings.serving.origin) (option_map gate_at settings.gate_files.now) settings.file
 
@@ -76,9 +76,9 @@ pub record AreSettingsFor (serving : Serving) (codes_at : CodeFiles) (numbers : 
   pub gate : IsGateFor codes_at (path_in serving) settings.clients.gate
   pub file : IfSome numbers (λ known. settings.file ≡ known)
 
--- ---- an open office at doors
+-- ---- an open office on a network
 
--- An open office was served at doors, with this end.
+-- An open office was served on a network, with this end.
 pub record ServesAtNetwork {L S : Type 0} (settings : ServerSettingsEntry) (stream : Stream L) (state_of : Held S → State) (before later : NetworkEntry L) (most : Option ℕ)
     (old new : OfficeValue S) (ends : Result (Unit {0}) ServeError) : Type 0 where
   pub serves : ServesConnections settings stream state_of before later most old new ends
@@ -96,11 +96,11 @@ abbrev pub outcome_by : Result (Unit {0}) ServeError → Result (Unit {0}) Failu
 outcome_by (Ok end) = Ok end
 outcome_by (Err why) = Err (failure_by why)
 
--- on every other port nobody came in or left
+-- on every other port no connection was accepted or closed
 abbrev pub IsElsewhereSame : {L : Type 0} → ℕ → (ℕ → NetworkEntry L) → (ℕ → NetworkEntry L) → Type 0
 IsElsewhereSame port before later = (other : ℕ) → other ≢ port → later other ≡ before other
 
--- The doors on a port couldn't be opened: nobody came in, and the office is as it was. Or it was served at them, by what was given, and on no other port.
+-- The network on a port couldn't be opened: no connection was accepted, and the office is as it was. Or it was served there, by these settings, and on no other port.
 abbrev pub MayServe : {L S : Type 0} → (ServerSettingsEntry → Type 0) → Stream L → (Held S → State) → ℕ → (ℕ → NetworkEntry L) → (ℕ → NetworkEntry L) → Option ℕ
     → OfficeValue S → OfficeValue S → Result (Unit {0}) Failure → Type 0
 MayServe AreSettings stream state_of port before later most old new outcome =
@@ -120,7 +120,7 @@ abbrev pub TellsOutcome : (List ℕ → ℕ → ℕ → Type 0) → Type 0 → �
 TellsOutcome Tells Quiet status (Ok end) = Quiet × (status ≡ 0)
 TellsOutcome Tells Quiet status (Err failure) = Tells (failed failure).err 3 status
 
--- The codes weren't read: nobody came in, and the connection is as it was.
+-- The codes weren't read: no connection was accepted, and that to the database is as it was.
 pub record IsUnread {L S : Type 0} (Tells : List ℕ → ℕ → ℕ → Type 0) (status : ℕ) (serving : Serving) (codes_at : CodeFiles) (before later : ℕ → NetworkEntry L) (old new : Held S) : Type 0 where
   pub why : CodesError
   pub unread : IsUngated codes_at (path_in serving) why
@@ -128,7 +128,7 @@ pub record IsUnread {L S : Type 0} (Tells : List ℕ → ℕ → ℕ → Type 0)
   pub nobody : later ≡ before
   pub same : new ≡ old
 
--- The office wasn't opened: nobody came in, and the database is as it was. The fault is one for which an opening fails there.
+-- The office wasn't opened: no connection was accepted, and the database is as it was. The fault is one for which an opening fails there.
 pub record IsUnopened {L S : Type 0} (Tells : List ℕ → ℕ → ℕ → Type 0) (status : ℕ) (state_of : Held S → State) (before later : ℕ → NetworkEntry L) (old new : Held S) : Type 0 where
   pub why : Fault
   pub told : Tells (failed (Office why)).err 3 status
@@ -143,7 +143,7 @@ pub record IsOpenedFrom {S : Type 0} (state_of : Held S → State) (conn : Held 
   pub reads : OnlyReads (state_of conn) (state_of office.held)
   pub at : HasCleanDisk (state_of office.held) → (db : Database) → RestsAt db (state_of conn) → (s : OfficeState) → IsLeftAt s db → IsOpenAt s office.closed (state_of office.held)
 
--- The office was opened, but its doors weren't: nobody came in, and it is as it was opened.
+-- The office was opened, but its network wasn't: no connection was accepted, and the office is as it was opened.
 pub record IsShut {L S : Type 0} (Tells : List ℕ → ℕ → ℕ → Type 0) (status : ℕ) (state_of : Held S → State) (before later : ℕ → NetworkEntry L) (old new : Held S) : Type 0 where
   pub office : OfficeValue S
   pub opened : IsOpenedFrom state_of old office
@@ -152,7 +152,7 @@ pub record IsShut {L S : Type 0} (Tells : List ℕ → ℕ → ℕ → Type 0) (
   pub nobody : later ≡ before
   pub same : new ≡ office.held
 
--- The office was opened and served at its doors, by what was given. If the database held the state after earlier requests, this is kept of these and of those that came.
+-- The office was opened and served on its network, by these settings. If the database held the state after earlier requests, this is kept of these and of those that came.
 pub record IsServed {L S : Type 0} (Tells : List ℕ → ℕ → ℕ → Type 0) (Quiet : Type 0) (status : ℕ) (AreSettings : ServerSettingsEntry → Type 0) (stream : Stream L) (state_of : Held S → State)
     (port : ℕ) (before later : ℕ → NetworkEntry L) (most : Option ℕ) (old new : Held S) : Type 0 where
   pub office : OfficeValue S
@@ -167,7 +167,7 @@ pub record IsServed {L S : Type 0} (Tells : List ℕ → ℕ → ℕ → Type 0)
   pub keeps : HasCleanDisk (state_of new) → (db : Database) → RestsAt db (state_of old) → (earlier : List Request) → IsLeftAt (after empty_office earlier) db
       → IsKeptOf state_of settings earlier at_network.serves.exchanges closed (state_of new)
 
--- What the order to serve comes to: the codes weren't read, or the office or its doors weren't opened; or it was served.
+-- What the order to serve comes to: the codes weren't read, or the office or its network wasn't opened; or it was served.
 abbrev pub ServesOrder : {L S : Type 0} → (List ℕ → ℕ → ℕ → Type 0) → Type 0 → ℕ → Serving → CodeFiles → Option FileNumbers → Stream L → (Held S → State)
     → (ℕ → NetworkEntry L) → (ℕ → NetworkEntry L) → Held S → Held S → Type 0
 ServesOrder Tells Quiet status serving codes_at file stream state_of before later old new =

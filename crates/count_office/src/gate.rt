@@ -10,7 +10,7 @@ use keying_page::{page_text, policy_text};
 use std::alloc::Global;
 use wire::{Gate, Page};
 
-/// What a gate is made of: clerks' codes, their page, and its policy.
+/// The files of a gate: clerks' codes, their page, and its policy.
 #[derive(Drop)]
 pub struct GateFiles {
     pub codes: Codes,
@@ -40,7 +40,7 @@ pub fn read_gate_files<H: Host>(
     }))
 }
 
-/// Returns the gate with the porter's codes, page and policy; `None` if there is no porter.
+/// Returns the gate with these codes, page and policy; `None` if there are none.
 pub fn gate_of(gate_files: &Option<GateFiles>) -> Option<Gate<'_>>
     ensures { option_map gate_entry result ≡ option_map gate_at gate_files.now }
 {

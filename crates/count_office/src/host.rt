@@ -1,8 +1,8 @@
-//! What serving an office needs of a machine: its files of clerks' codes, its doors, and the numbers of the office's file.
+//! What serving an office needs of a machine: its files of clerks' codes, its network, and the numbers of the office's file.
 //!
-//! `serving.rt` serves on any host, and gets nothing else of the machine but a connection and the error output. This machine is a host
-//! (`localhost.rt`) of which nothing is known. The contracts of `serving.rt` hold as well on one that says what its files have and what
-//! came in on each port.
+//! `serving.rt` serves on any host, and gets nothing else of the machine but a connection and the error output. This machine is a
+//! host (`localhost.rt`) of which nothing is known. The contracts of `serving.rt` hold as well on one that says what its files have
+//! and what came in on each port.
 
 ghost use Rattle.std.specs.Prelude.{◌≡◌, ◌≢◌, IfOk, IfSome, Option, ℕ};
 ghost use Rattle.connections.specs.Tables.{NetworkEntry};
@@ -14,7 +14,7 @@ use desk::Failure;
 use connections::Network;
 use server::{SideJobs, FileNumbers};
 
-/// Open doors, what orders need besides the office, and the numbers of its file.
+/// An open network, what orders need besides the office, and the numbers of its file.
 #[derive(Drop)]
 pub struct Opened<D, A> {
     pub network: D,
@@ -28,7 +28,7 @@ pub trait Host {
 
     type Side: SideJobs;
 
-    /// What is known of its doors on each port, before they are opened and after they are closed.
+    /// What is known of its network on each port, before it is opened and after it is closed.
     ghost known: { Self → ℕ → NetworkEntry Self.Port.Stream };
 
     /// The codes in the file at each path, as far as the host says which.
@@ -41,13 +41,13 @@ pub trait Host {
     fn read_codes(&self, path: &str) -> Result<Codes, CodesError>
         ensures { IsReadAs (codes_at self.now path.now) result };
 
-    /// Opens the doors on a port.
+    /// Opens the network on a port.
     fn open(&mut self, port: u32) -> Result<Opened<Self::Port, Self::Side>, Failure>
         ensures known { IfOk result (λ opened. Self.Port.known opened.network ≡ known self.old port) }
         ensures file { IfOk result (λ opened. IfSome (file self.old) (λ numbers. opened.file ≡ numbers)) }
         ensures same { known self.new ≡ known self.old };
 
-    /// Closes the doors on a port.
+    /// Closes the network on a port.
     fn close(&mut self, port: u32, opened: Opened<Self::Port, Self::Side>)
         ensures known { known self.new port ≡ Self.Port.known opened.network }
         ensures others { (other : ℕ) → other ≢ port → known self.new other ≡ known self.old other };

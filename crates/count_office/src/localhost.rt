@@ -46,7 +46,7 @@ fn listen<'a>(
     Ok(SocketNetwork { poller, clock: rt })
 }
 
-/// Returns the failure that is printed when the doors can't be opened.
+/// Returns the failure that is printed when the network can't be opened.
 fn failure_at_the_doors(error: &io::Error) -> Failure {
     match error.kind() {
         ErrorKind::OutOfMemory => Failure::Office(Fault::Memory),
@@ -88,7 +88,7 @@ fn warn_of_weak(rt: &HostRuntime, codes: &Codes) {
     }
 }
 
-/// Opens the doors on a port, and looks at the file of the office at a place.
+/// Opens the network on a port, and looks at the file of the office at a place.
 fn open_at<'a>(
     place: LockedDatabase<'a>,
     port: u32,

@@ -26,8 +26,8 @@ const LAST_STREAM: i32 = 2;
 /// How many orders may wait to be let in.
 const QUEUE: i32 = 128;
 
-/// Whether a database belongs to the account that this program runs under. The socket that root would make beside another's database
-/// could be used by root alone; and if its owner could use it, he would have orders done with root's rights.
+/// Whether a database belongs to the account that this program runs under. The socket that root would make beside another's
+/// database could be used by root alone; and if its owner could use it, orders of that owner would be done with root's rights.
 fn is_own(rt: &HostRuntime, database: &str) -> io::Result<bool> {
     Ok(fs::metadata(rt, database)?.uid() == libc::geteuid())
 }
@@ -134,7 +134,7 @@ pub fn is_served(rt: &HostRuntime, database: &str) -> bool {
 
 /// Reaches the office that serves a database; none, where nobody serves it.
 ///
-/// The socket has to be the database owner's, and for him alone: another's may give out what he likes.
+/// The socket has to belong to the owner of the database, and be for that owner alone: anyone else's may print anything.
 pub fn reach(rt: &HostRuntime, database: &str) -> Option<UnixStream> {
     let path = path_of(rt, database).ok()?;
     let mode = mode_at(rt, database, path.as_str()).ok()??;

@@ -20,8 +20,8 @@ use store::Fault;
 use votes::Sink;
 use wire::{HttpSettings, Origin};
 
-/// What `serve` was given: its port, after how many clients it ends, if it does, the origin of a proxy, and the path of a file
-/// of clerks' codes, if one is given.
+/// The words of `serve`: its port, the number of clients after which it ends, the origin of a proxy, and the path of a file of
+/// clerks' codes, if they are given.
 #[derive(Clone, Copy)]
 pub struct Serving<'a> {
     pub port: u32,
@@ -30,7 +30,8 @@ pub struct Serving<'a> {
     pub codes: Option<&'a str>,
 }
 
-/// What an office is served by: what `serve` was given, what its gate is made of, if it has one, and its file.
+/// The settings by which an office is served: the words of `serve`, the codes and the page of the gate, if there is one, and the
+/// office's file.
 #[derive(Clone, Copy)]
 pub struct GateSettings<'a> {
     pub serving: Serving<'a>,
@@ -58,7 +59,7 @@ fn most_of(connections: Option<u32>) -> Option<u64>
     }
 }
 
-/// Serves an open office at its doors, by its settings.
+/// Serves an open office on its network, by its settings.
 fn serve_through<D: Network, A: SideJobs, S: Alter>(
     alloc: Global,
     network: &mut D,
@@ -81,7 +82,7 @@ fn serve_through<D: Network, A: SideJobs, S: Alter>(
     serve_connections(alloc, network, server_settings, most, office)
 }
 
-/// Opens the doors of a host, serves an open office there, and closes them. The error is that they can't be opened, or why serving
+/// Opens the network of a host, serves an open office there, and closes it. The error is that it can't be opened, or why serving
 /// ended early.
 fn serve_at<H: Host, S: Alter>(
     alloc: Global,
@@ -125,9 +126,9 @@ fn tell_outcome<E: Sink>(outcome: Result<(), Failure>, err: &mut E) -> u8
 
 /// Opens the office of a connection, serves it on a host, and returns the status and the connection.
 ///
-/// If the settings name a file of clerks' codes, it is read first, and every client is served at a gate with just these codes. Without
-/// one there is no gate. If the codes can't be read, or the office or the doors can't be opened, nobody is served and nothing changes.
-/// The failure is printed.
+/// If the settings name a file of clerks' codes, it is read first, and every client is served at a gate with just these codes.
+/// Without one there is no gate. If the codes can't be read, or the office or the network can't be opened, nobody is served and
+/// nothing changes. The failure is printed.
 pub fn serve<H: Host, S: Alter, E: Sink>(
     alloc: Global,
     host: &mut H,

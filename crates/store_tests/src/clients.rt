@@ -1,5 +1,5 @@
-//! Clients over HTTP, and orders that are handed over, who come to doors; and what their lines give and take. Which bytes come of
-//! them is known, also to clauses.
+//! Clients over HTTP, and orders that are handed over, on a network of the tests; and what their streams give and accept. The bytes
+//! that they send are known, also to clauses.
 
 ghost use Rattle.std.specs.Prelude.{◌≡◌, None, Some, length, nat_lt};
 ghost use Rattle.connections.specs.Tables.{with_removed};
@@ -15,9 +15,9 @@ use std::time::{Clock, Duration};
 use std::{fmt, io};
 use votes::Broken;
 
-/// A client, or an order: what he sends, and whether he ends his side behind it. Then how many bytes come at once before nothing
-/// more has come, and how many he takes of his answer before he takes no more now. At last after how many that came reading him
-/// fails, and after how many that he took writing to him fails.
+/// A client, or an order: what it sends, and whether it ends its side afterwards. Then how many bytes arrive at once before no more
+/// has arrived, and how many of its response it accepts before it accepts no more now. Last the number of bytes after which reading
+/// fails, and the number after which writing fails.
 #[derive(Clone, Copy, Debug)]
 pub struct TestClient<'a> {
     pub is_order: bool,
@@ -30,7 +30,7 @@ pub struct TestClient<'a> {
 }
 
 impl<'a> TestClient<'a> {
-    /// One who sends all of this at once, and takes his answer so. His line doesn't break.
+    /// A client that sends all of this at once, and accepts its response at once. Its stream doesn't fail.
     pub fn whole(sends: &'a [u8]) -> TestClient<'a> {
         TestClient {
             is_order: false,
@@ -43,7 +43,7 @@ impl<'a> TestClient<'a> {
         }
     }
 
-    /// An order whose message is this, and who stays.
+    /// An order with this message, which doesn't end its side.
     pub fn order(message: &'a [u8]) -> TestClient<'a> {
         TestClient {
             is_order: true,
@@ -52,7 +52,7 @@ impl<'a> TestClient<'a> {
         }
     }
 
-    /// One who sends so many bytes at once, and takes as many.
+    /// A client that sends so many bytes at once, and accepts as many.
     pub fn slow(sends: &'a [u8], at_once: usize) -> TestClient<'a> {
         TestClient {
             at_once,
@@ -61,7 +61,7 @@ impl<'a> TestClient<'a> {
         }
     }
 
-    /// One who says nothing, and stays.
+    /// A client that sends nothing, and doesn't end its side.
     pub fn silent() -> TestClient<'a> {
         TestClient {
             ends: false,
@@ -70,12 +70,13 @@ impl<'a> TestClient<'a> {
     }
 }
 
-/// Clients who come in turn; or one who can't be let in when his turn comes, and isn't there any more later.
+/// Clients in their order; `None` is a connection that fails as it is accepted.
 pub type TestClients<'a> = &'a [Option<TestClient<'a>>];
 
-/// An office that serves: who comes, and of whom the doors say behind each wait that they may go on, all who were let in or those
-/// of these numbers, in their order. Then after how many serving ends, how many seconds later the clock is at each look, and
-/// after how many waits the doors fail. Last the text of a file of clerks' codes, if they are asked for.
+/// A server in a test: its clients, and which of them the network reports as ready after each wait, all that were accepted or those
+/// of these numbers, in their order. Then the number of clients after which serving ends, how many seconds pass between two looks
+/// at the clock, and the number of waits after which the network fails. Last the text of a file of clerks' codes, if there is a
+/// gate.
 #[derive(Clone, Copy, Debug)]
 pub struct Evening<'a> {
     pub clients: TestClients<'a>,
@@ -87,7 +88,7 @@ pub struct Evening<'a> {
 }
 
 impl<'a> Evening<'a> {
-    /// All who come are served, and no time passes.
+    /// All clients are served, and no time passes.
     pub fn of(clients: TestClients<'a>) -> Evening<'a> {
         Evening {
             clients,
@@ -100,7 +101,7 @@ impl<'a> Evening<'a> {
     }
 }
 
-/// The line of a client, and the page on which he writes what he takes.
+/// The stream of a client, and the page on which it writes what it accepts.
 #[derive(Drop)]
 pub struct TestStream<'s, 'p> {
     left: &'s [u8],
@@ -179,7 +180,7 @@ impl Stream for TestStream<'_, '_> {
     }
 }
 
-/// The doors to which clients come, and how many they have named since the last wait.
+/// The network on which clients connect, and how many it has reported since the last wait.
 #[derive(Drop)]
 pub struct TestNetwork<'c, 'p> {
     evening: Evening<'c>,
@@ -191,7 +192,7 @@ pub struct TestNetwork<'c, 'p> {
 }
 
 impl<'c, 'p> TestNetwork<'c, 'p> {
-    /// Those of an evening, with a page for each.
+    /// The network of an evening, with a page for each client.
     pub fn new(evening: Evening<'c>, pages: &'p [RefCell<Vec<u8>>]) -> TestNetwork<'c, 'p> {
         TestNetwork {
             evening,
@@ -203,7 +204,7 @@ impl<'c, 'p> TestNetwork<'c, 'p> {
         }
     }
 
-    /// The next comes in, under this number.
+    /// The next client is accepted, under this number.
     fn lets_in(&mut self, number: u64) {
         self.next = self.next.saturating_add(1);
         self.came = number.saturating_add(1);
@@ -288,7 +289,7 @@ pub fn pages_of(alloc: Global, count: usize) -> Result<Vec<RefCell<Vec<u8>>>, Fa
     Ok(pages)
 }
 
-/// What stands on the pages, each of them behind a line feed but the first.
+/// Returns the pages, each but the first after a line feed.
 pub fn joined(alloc: Global, pages: Vec<RefCell<Vec<u8>>>) -> Result<String, Fail> {
     let mut all = Vec::new(alloc);
     for (place, page) in pages.into_iter().enumerate() {
@@ -301,7 +302,7 @@ pub fn joined(alloc: Global, pages: Vec<RefCell<Vec<u8>>>) -> Result<String, Fai
     Ok(String::from_utf8(all)?)
 }
 
-/// The doors at a port of this machine, and after how many clients serving ends.
+/// The network on a port of this machine, and the number of clients after which serving ends.
 #[derive(Drop)]
 pub struct Port {
     pub network: RefCell<SocketNetwork<Jumping>>,
@@ -314,7 +315,7 @@ impl fmt::Debug for Port {
     }
 }
 
-/// A clock that is so many seconds later each time it is looked at.
+/// A clock on which so many seconds pass between two looks.
 #[derive(Drop)]
 pub struct Jumping {
     now: Cell<u64>,
@@ -350,7 +351,7 @@ impl Clock for Jumping {
     }
 }
 
-/// The bytes that were taken, up to a failure.
+/// The bytes that were accepted, up to a failure.
 #[derive(Drop)]
 pub struct LimitedWriter {
     taken: Vec<u8>,
@@ -358,7 +359,7 @@ pub struct LimitedWriter {
 }
 
 impl LimitedWriter {
-    /// A writer that takes so many bytes, and then fails.
+    /// A writer that accepts so many bytes, and then fails.
     pub fn new(alloc: Global, room: usize) -> LimitedWriter {
         LimitedWriter {
             taken: Vec::new(alloc),
@@ -366,7 +367,7 @@ impl LimitedWriter {
         }
     }
 
-    /// What was taken.
+    /// Returns what was accepted.
     pub fn text(self) -> Result<String, Fail> {
         let LimitedWriter { taken, .. } = self;
         Ok(String::from_utf8(taken)?)
