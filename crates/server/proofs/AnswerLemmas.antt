@@ -16,7 +16,7 @@ use Rattle.tables.specs.declared.fault.Fault.{Fault}
 use Rattle.wire.specs.Requests.{HttpRequestEntry, Asks, denied, keying, reading, shown}
 use Rattle.wire.specs.Gates.{HttpSettingsEntry}
 use Rattle.wire.specs.Responses.{ResponseEntry, fault_response}
-use Rattle.wire.specs.Serving.{FaultLeaves, IsAnswered, IsPut, IsServed, Readies, ReadiesClosed, ReadiesFor, closed_response, reading_response}
+use Rattle.wire.specs.Serving.{FaultLeaves, IsAnswered, IsPut, IsServed, Readies, ReadiesFor, closed_response, reading_response}
 use Rattle.wire.specs.Told.{IsTold, IsWritten}
 use Rattle.wire.specs.declared.serving.Served.{Served}
 use Rattle.wire.specs.declared.serving.Served.TheVariants.{Answered, ReadFailed, WriteFailed}

@@ -21,7 +21,6 @@ use Rattle.wire.specs.Requests.{HttpRequestEntry, Asks, denied, keying, reading,
 use Rattle.wire.specs.Responses.{ResponseEntry, fault_response}
 use Rattle.wire.specs.Serving.{FaultLeaves, IsAnswered, IsServed, ReadiesFor, TellsAsked, TellsFault, TellsFor, told_response}
 use Rattle.wire.specs.Told.{IsTold, IsWritten}
-use Rattle.wire.specs.declared.target.Resource.{Resource}
 use Rattle.wire.proofs.RequestLemmas.{AsksOneThing-all}
 use Rattle.connections.specs.declared.client.Listener.{Listener}
 use Rattle.connections.specs.declared.client.Listener.TheVariants.{Clients, Orders}

@@ -11,11 +11,7 @@ use Rattle.connections.specs.declared.removed.CloseReason.TheVariants.{Broken, C
 use Rattle.server.specs.declared.servicing.Serviced.{Serviced}
 use Rattle.server.specs.declared.servicing.Serviced.TheVariants.{Leaves, Served, Waits}
 use Rattle.sqlite.specs.Held.{Held}
-use Rattle.sqlite.specs.State.{HasCleanDisk, State}
-use Rattle.register.specs.Offices.{OfficeState}
-use Rattle.store.specs.Offices.{IsAt}
-use Rattle.office.specs.Values.{OfficeValue}
-use Rattle.office.specs.Answers.{IsOpenAt}
+use Rattle.sqlite.specs.State.{State}
 use Rattle.wire.specs.Responses.{ResponseEntry, fault_response, waits_response}
 use Rattle.wire.specs.Serving.{IsServed}
 use Rattle.wire.specs.Told.{IsWritten}

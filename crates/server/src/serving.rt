@@ -85,47 +85,70 @@ fn service_one<D: Network, A: SideJobs, S: Alter>(
     }
 }
 
-/// Services the next connection that the network reports as ready, if it is open. It is closed if servicing ends it, and stays in
-/// its place if the clock fails. Returns whether the network reported one.
-fn go_on_next<D: Network, A: SideJobs, S: Alter>(
+/// The one at a place goes on. If it is done or lost, it leaves. If the clock fails, it stays where it was.
+fn service_at<D: Network, A: SideJobs, S: Alter>(
     network: &mut D,
     server_settings: ServerSettings<'_, A>,
     table: &mut ConnectionTable<D::Stream>,
+    place: usize,
     office: &mut Office<S>,
     kept: &mut ServerMemory,
-) -> Result<bool, Broken>
+) -> Result<(), Broken>
+    requires place { place < length table.old.clients.items }
     requires sound { IsSound (settings_in server_settings) (stream_of D.Stream.held D.Stream.taken D.Stream.failed) table.old }
     requires within { IsWithin table.old }
-    ensures goes_on { ServesOn (settings_in server_settings.entry) (stream_of D.Stream.held D.Stream.taken D.Stream.failed) (state S.Store) (D.known network.old)
-        (D.known network.new) table.old table.new
+    ensures goes_on { (number : ℕ) → IsNumbered table.old.clients.items place number → (before : NetworkEntry D.Stream) → D.known network.old ≡ after_ready (Some number) before
+        → ServesOn (settings_in server_settings.entry) (stream_of D.Stream.held D.Stream.taken D.Stream.failed) (state S.Store) before (D.known network.new) table.old table.new
         (served_office office.old (memory_entry kept.old)) (served_office office.new (memory_entry kept.new)) }
     ensures came { table.new.came ≡ table.old.came }
     ensures counted { table.new.counted ≡ table.old.counted }
     ensures within { OnOk result (IsWithin table.new) }
     ensures called { IsCalled result (D.known network.old) (D.known network.new) }
 {
-    let Some(number) = network.next_ready() else {
-        return Ok(false);
-    };
-    let Some(place) = place_of_number(table.clients.as_slice(), number) else {
-        return Ok(true);
-    };
     let client = table.remove_at(place);
     let (client, next) = service_one(network, server_settings, client, office, kept);
-    match next {
-        Ok(Some(why)) => {
-            network.close(client.into_removed(why));
-            Ok(true)
-        }
-        Ok(None) => {
-            table.put_back_at(place, client);
-            keep_within(network, table);
-            Ok(true)
-        }
+    let reason = match next {
+        Ok(reason) => reason,
         Err(Broken) => {
             table.put_back_at(place, client);
-            Err(Broken)
+            return Err(Broken);
         }
+    };
+    match reason {
+        Some(why) => {
+            network.close(client.into_removed(why));
+            Ok(())
+        }
+        None => {
+            table.put_back_at(place, client);
+            keep_within(network, table);
+            Ok(())
+        }
+    }
+}
+
+/// The one with a number goes on, if it is in.
+fn service_numbered<D: Network, A: SideJobs, S: Alter>(
+    network: &mut D,
+    server_settings: ServerSettings<'_, A>,
+    table: &mut ConnectionTable<D::Stream>,
+    number: u64,
+    office: &mut Office<S>,
+    kept: &mut ServerMemory,
+) -> Result<(), Broken>
+    requires sound { IsSound (settings_in server_settings) (stream_of D.Stream.held D.Stream.taken D.Stream.failed) table.old }
+    requires within { IsWithin table.old }
+    ensures goes_on { (before : NetworkEntry D.Stream) → D.known network.old ≡ after_ready (Some number) before
+        → ServesOn (settings_in server_settings.entry) (stream_of D.Stream.held D.Stream.taken D.Stream.failed) (state S.Store) before (D.known network.new) table.old table.new
+        (served_office office.old (memory_entry kept.old)) (served_office office.new (memory_entry kept.new)) }
+    ensures came { table.new.came ≡ table.old.came }
+    ensures counted { table.new.counted ≡ table.old.counted }
+    ensures within { OnOk result (IsWithin table.new) }
+    ensures called { IsCalled result (D.known network.old) (D.known network.new) }
+{
+    match place_of_number(table.clients.as_slice(), number) {
+        Some(place) => service_at(network, server_settings, table, place, office, kept),
+        None => Ok(()),
     }
 }
 
@@ -148,9 +171,10 @@ fn service_ready<D: Network, A: SideJobs, S: Alter>(
     ensures called { IsCalled result (D.known network.old) (D.known network.new) }
 {
     for _ in 0..u64::MAX {
-        if !go_on_next(network, server_settings, table, office, kept)? {
+        let Some(number) = network.next_ready() else {
             return Ok(());
-        }
+        };
+        service_numbered(network, server_settings, table, number, office, kept)?;
     }
     Ok(())
 }

@@ -18,7 +18,7 @@ returns-in-Waits-clause-receives g c =
     gathers_then (stream_of g.L.Stream.held g.L.Stream.taken g.L.Stream.failed) c.args.client.now.stream c.receive_length.new.client.stream c.receive.new.self.stream c.args.client.now.got.items c.receive_length.new.client.got.items c.receive.new.self.got.items
     c.receive_length.ensures.receives c.receive.ensures.receives
 
-pub returns-in-ServeError-clause-receives : goal.returns-in-ServeError-clause-receives
-returns-in-ServeError-clause-receives g c =
+pub returns-in-Ended-clause-receives : goal.returns-in-Ended-clause-receives
+returns-in-Ended-clause-receives g c =
     gathers_then (stream_of g.L.Stream.held g.L.Stream.taken g.L.Stream.failed) c.args.client.now.stream c.receive_length.new.client.stream c.receive.new.self.stream c.args.client.now.got.items c.receive_length.new.client.got.items c.receive.new.self.got.items
     c.receive_length.ensures.receives c.receive.ensures.receives

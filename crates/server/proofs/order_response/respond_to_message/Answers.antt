@@ -20,7 +20,7 @@ returns-in-Err-clause-followed g c = λ got message.
 
 pub returns-clause-followed : goal.returns-clause-followed
 returns-clause-followed g c = λ got message.
-    follows_read c.args.server_settings.file (state g.S.Store) c.args.office.now c.respond_to_asked.new.office got c.respond_to_asked.result.1.bytes.items c.args.message.now c.deref-2.result.now c.unless_gone-asked.result message
-    (c.is_for_file.ensures.0 (cc c.if-not-is_for_file.false)) c.deref-2.ensures.value
-    (c.unless_gone-asked.ensures (order_message_entry c.args.message.now) (c.served_order_by.ensures (order_message_entry c.args.message.now) (words_same c.args.message.now c.deref.result.now c.in-Ok.words.items c.deref-3.result.now c.deref.ensures.value c.in-Ok.ensures.ok c.deref-3.ensures.value)))
+    follows_read c.args.server_settings.file (state g.S.Store) c.args.office.now c.respond_to_asked.new.office got c.respond_to_asked.result.1.bytes.items c.args.message.now c.deref-3.result.now c.unless_gone-asked.result message
+    (c.is_for_file.ensures.0 (cc c.if-not-is_for_file.false)) c.deref-3.ensures.value
+    (c.unless_gone-asked.ensures (order_message_entry c.args.message.now) (c.served_order_by.ensures (order_message_entry c.args.message.now) (words_same c.args.message.now c.deref.result.now c.in-Ok.words.items c.deref-2.result.now c.deref.ensures.value c.in-Ok.ensures.ok c.deref-2.ensures.value)))
     c.respond_to_asked.ensures.followed

@@ -13,12 +13,12 @@ returns-in-Nothing-clause-come g c =
     come_whole its (g.L.Stream.held client.stream) client.got.items parsed.result c.completeness_of.result _ (ap length c.as_slice-got.ensures.value) c.in-Nothing.is c.completeness_of.ensures
     (subst (λ (xs : List ℕ). IsParsed its xs parsed.result) c.as_slice-got.ensures.value parsed.ensures.is)
 
-pub returns-in-ServeError-clause-come : goal.returns-in-ServeError-clause-come
-returns-in-ServeError-clause-come g c =
+pub returns-in-Ended-clause-come : goal.returns-in-Ended-clause-come
+returns-in-Ended-clause-come g c =
     let client = c.receive.new.self in
     let its = settings_entry c.args.settings in
     let parsed = c.parse-parsed in
-    come_ended its (g.L.Stream.held client.stream) client.got.items parsed.result (c.in_ok-received.ensures.ended (ap Ok c.in-ServeError.is))
+    come_ended its (g.L.Stream.held client.stream) client.got.items parsed.result (c.in_ok-received.ensures.ended (ap Ok c.in-Ended.is))
     (subst (λ (xs : List ℕ). IsParsed its xs parsed.result) c.as_slice-got.ensures.value parsed.ensures.is)
 
 -- the body came, too

@@ -27,8 +27,8 @@ returns-in-Waits-clause-went g c =
     went_at stream (is_some settings.clients.gate) settings (state g.S.Store) c.in-Ok.now (Ok None) (known c.args.network.now) (known c.moment_at_gate.new.network) (known c.moment_at_gate.new.network) c.args.client went.result.0 at behind c.in-Ok.ensures
     (went_waits stream settings (state g.S.Store) c.in-Ok.now went.result.1 c.args.client went.result.0 at behind (known c.moment_at_gate.new.network) went.ensures.turn c.in-Waits.is went.ensures.same.2)
 
-pub returns-in-Ok-clause-went : goal.returns-in-Ok-clause-went
-returns-in-Ok-clause-went g c =
+pub returns-in-Ok-now-clause-went : goal.returns-in-Ok-now-clause-went
+returns-in-Ok-now-clause-went g c =
     let settings = settings_in c.args.server_settings in
     let stream = stream_of g.D.Stream.Stream.held g.D.Stream.Stream.taken g.D.Stream.Stream.failed in
     let went = c.service-client in

@@ -1,5 +1,5 @@
 -- Why `get` keeps its promise.
-use Rattle.std.proofs.Common.{◌∙◌, sym}
+use Rattle.std.proofs.Common.{◌∙◌}
 use Rattle.server.proofs.ReadLemmas.{kept_has}
 use Rattle.server.proofs.read_cache.ReadCache.get.Goals as goal
 
