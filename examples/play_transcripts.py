@@ -242,7 +242,7 @@ def play_act(folder, act, all_asked):
             with blamed(asked):
                 damage(folder, asked, act.removeprefix("damage: ").split(" "))
     elif act == "older office" and not all_asked:
-        older_office.make(folder / TOWN)
+        older_office.main(folder / TOWN)
     else:
         raise Wrong(f"no act: {act}")
 

@@ -1,4 +1,4 @@
-"""Chromium without a window on a screen, driven through its DevTools protocol by the standard library alone."""
+"""Chromium without a window on a screen, driven through its DevTools protocol by the standard library alone; and pages from elsewhere."""
 import base64
 import itertools
 import json
@@ -8,11 +8,14 @@ import shutil
 import subprocess
 import tempfile
 import time
+from pathlib import Path
 
 from office_tools.office import SECONDS, Wrong, needs
+from office_tools.web import HERE
 
 # Chromium takes the protocol's messages from descriptor 3, and writes its own to 4.
 PIPED = 'exec "$0" "$@" 3<&0 4>&1 </dev/null >/dev/null 2>&1'
+WORDS = ["--headless=new", "--no-sandbox", "--disable-gpu", "--no-first-run", "--disable-background-networking", "--remote-debugging-pipe"]
 # The keys that aren't a character, and signs: their code, and Windows' number of them, which the protocol asks for.
 NAMED = {
     "Enter": 13, "Backspace": 8, "Tab": 9, "Escape": 27, "Delete": 46, "Insert": 45, "Home": 36, "End": 35,
@@ -49,7 +52,8 @@ class Window:
             self.logins += 1
             is_new = self.name and said["requestId"] not in self.tried
             self.tried.add(said["requestId"])
-            answer = {"response": "ProvideCredentials", "username": self.name, "password": self.code} if is_new else {"response": "CancelAuth"}
+            given = {"response": "ProvideCredentials", "username": self.name, "password": self.code}
+            answer = given if is_new else {"response": "CancelAuth"}
             self.send("Fetch.continueWithAuth", requestId=said["requestId"], authChallengeResponse=answer)
         elif method == "Page.javascriptDialogOpening":
             self.send("Page.handleJavaScriptDialog", accept=True)
@@ -75,13 +79,11 @@ class Window:
         return answer["result"].get("value")
 
     def until(self, expression, seconds=SECONDS):
-        """Waits until something holds on the page."""
         end = time.monotonic() + seconds
-        while time.monotonic() < end:
-            if self.value(expression):
-                return
+        while not self.value(expression):
+            if time.monotonic() > end:
+                raise Wrong(f"never: {expression}; the page shows {self.text()!r}")
             self.wait(0.05)
-        raise Wrong(f"never: {expression}; the page shows {self.text()!r}")
 
     def open(self, address):
         """Opens an address, as if it were typed."""
@@ -114,13 +116,11 @@ class Window:
 
     def press(self, key, modifiers=0, repeats=False, place=""):
         """Presses a key, as on a keyboard; at a place on it, if another is meant than the usual one."""
-        if key in NAMED:
-            code, number, text = key, NAMED[key], "\r" if key == "Enter" else ""
-        else:
-            code, number = SIGNS.get(key) or (("Digit" if key.isdigit() else "Key") + key.upper(), ord(key.upper()))
-            text = key
+        usual = (("Digit" if key.isdigit() else "Key") + key.upper(), ord(key[0].upper()))
+        code, number = (key, NAMED[key]) if key in NAMED else SIGNS.get(key, usual)
+        text = {"text": "\r" if key == "Enter" else key} if key == "Enter" or key not in NAMED else {}
         said = {"key": key, "code": place or code, "windowsVirtualKeyCode": number, "modifiers": modifiers}
-        self.call("Input.dispatchKeyEvent", type="keyDown" if text else "rawKeyDown", autoRepeat=repeats, **said, **({"text": text} if text else {}))
+        self.call("Input.dispatchKeyEvent", type="keyDown" if text else "rawKeyDown", autoRepeat=repeats, **said, **text)
         self.call("Input.dispatchKeyEvent", type="keyUp", **said)
 
 
@@ -130,9 +130,8 @@ class Browser(Window):
     def __init__(self, folder, name="", code="", words=()):
         needs("chromium")
         self.home, self.rest, self.numbers, self.windows = tempfile.mkdtemp(dir=folder), b"", itertools.count(1), {}
-        self.process = subprocess.Popen(
-            ["sh", "-c", PIPED, "chromium", "--headless=new", "--no-sandbox", "--disable-gpu", "--no-first-run", "--disable-background-networking",
-             "--remote-debugging-pipe", f"--user-data-dir={self.home}", *words], stdin=subprocess.PIPE, stdout=subprocess.PIPE)
+        command = ["sh", "-c", PIPED, "chromium", *WORDS, f"--user-data-dir={self.home}", *words]
+        self.process = subprocess.Popen(command, stdin=subprocess.PIPE, stdout=subprocess.PIPE)
         super().__init__(self, name, code)
 
     def __enter__(self):
@@ -184,3 +183,22 @@ class Browser(Window):
         if answer is None or "error" in answer:
             raise Wrong(f"{method}: {answer}")
         return answer["result"]
+
+
+NAME = "elsewhere.example"
+# Words for Chromium: the name leads to this machine, and no newer guard of its own stands before that of the office.
+LOOSE = ("--disable-features=LocalNetworkAccessChecks,BlockInsecurePrivateNetworkRequests", f"--host-resolver-rules=MAP {NAME} {HERE}")
+# Where pages come from, and where they look for the office.
+PLACES = (HERE, HERE), (NAME, HERE), (NAME, NAME)
+TRIES = Path(__file__).with_name("elsewhere.js")
+
+
+def tries(window, office, batch, step=1, turns=3):
+    """Has the page of a window try what it can. Returns [(what, the id of its keying, the text that it read)]."""
+    setting = {"office": office, "batch": batch, "step": step, "turns": turns}
+    return [tuple(found) for found in window.value(TRIES.read_text(encoding="utf-8").replace("SETTING", json.dumps(setting)), 10 * SECONDS)]
+
+
+def is_of_office(text):
+    """Returns whether a text that was read is something of an office."""
+    return any(word in text for word in ('"work"', '"reply"', '"refusal"', "atch", "lerk"))

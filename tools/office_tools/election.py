@@ -1,4 +1,4 @@
-"""A small election, order by order: for tools that make its orders fail, kill them, or give two at once."""
+"""Small elections: one, order by order, for tools that make its orders fail; one ward, as others begin it; and an evening with codes."""
 import os
 import sqlite3
 from dataclasses import dataclass, field
@@ -10,7 +10,19 @@ from office_tools.web import request
 FILE, COPY, COPY_LOG = "rows.csv", "copy.db", "copy.db-wal"
 # What an order prints when it is given again after its result was found, if it has no receipt.
 MADE = {"init": (3, "", NO_OFFICE), "migrate": (0, "office is at version 2\n", "")}
-CANDIDATES = ["ward,candidate,name"] + [f"7,{c},Candidate {c}" for c in range(1, 5)]
+
+
+def ward_orders(*batches, candidates=("Ann", "Bob", "Cy"), seats=2):
+    """Returns the orders of ward 7 up to its batches, each of a number, a size and two clerks."""
+    nominated = [f"candidate 7 {number} '{name}' --id c{number}" for number, name in enumerate(candidates, 1)]
+    given_out = [f"batch {batch} 7 {size} {first} {second} --id b{batch}" for batch, size, first, second in batches]
+    return [f"ward 7 {seats} Harbour --id w", *nominated, "close 7 --id n", *given_out]
+
+
+def keying(papers, columns):
+    """Returns the lines of a keying's import file. The marks of a doubtful paper are D."""
+    records = [f"{number},{'D' + ',' * (len(columns) - 1) if marks == 'D' else marks}" for number, marks in enumerate(papers, 1)]
+    return [",".join(["paper", *map(str, columns)]), *records]
 
 
 @dataclass
@@ -32,10 +44,9 @@ class Order:
             if self.lines and name.endswith((".csv", ".txt")):
                 office.write(name, self.lines)
         if SCRIPT in self.words:
-            office.write(FILE, keying(MARKS))
+            office.write(FILE, ELECTION[7].lines)
 
     def started(self, office, **how):
-        """Starts the order."""
         self.put_files(office)
         return office.start(*self.words, town=self.town, **how)
 
@@ -54,51 +65,28 @@ class Order:
         return int(out.startswith("HTTP/1.1 200 ")) if self.sends else out.count("\n")
 
 
-def keying(papers):
-    """Returns the lines of a keying's import file."""
-    return ["paper,1,2,3,4"] + [f"{number},{marks}" for number, marks in enumerate(papers, 1)]
-
-
-def typed(marks):
-    """Returns marks as the words of the order `key`."""
-    return "D" if "D" in marks else marks
-
-
 def election(copies=1):
     """Returns the orders of an election of two seats, with nine valid papers, or so many copies of them, and a doubtful one.
 
     The first candidate has the quota, the fourth is excluded, and a lot is drawn between the two others. The second clerk errs once; a
     third one is set, and all three may key again.
     """
-    papers = (["1,,,"] * 4 + [",1,,", ",1,,2", ",,1,", ",,1,", ",,,1"]) * copies + ["D,,,"]
-    wrong, size = ["1,2,,"] + papers[1:], str(len(papers))
+    papers = (["1,,,"] * 4 + [",1,,", ",1,,2", ",,1,", ",,1,", ",,,1"]) * copies + ["D"]
+    right, wrong, size = keying(papers, range(1, 5)), keying(["1,2,,", *papers[1:]], range(1, 5)), len(papers)
     # More papers leave the first candidate a surplus, which is a stage of its own.
     lot = 3 if copies == 1 else 4
-    return [
-        Order(["init"]),
-        Order(["ward", "7", "2", "Harbour", "--id", "w1"]),
-        Order(["import-candidates", FILE, "--id", "c"], CANDIDATES),
-        Order(["withdraw", "7", "4", "--id", "x1"]),
-        Order(["candidate", "7", "4", "Dee", "--id", "c4"]),
-        Order(["close", "7", "--id", "n1"]),
-        Order(["batch", "12", "7", size, "4", "9", "--id", "b1"]),
-        Order(["import-keying", "4", "12", "1", FILE, "--id", "k1"], keying(papers)),
-        Order(["import-keying", "9", "12", "1", FILE, "--id", "k1"], keying(wrong)),
-        Order(["third", "12", "5", "--id", "t1"]),
-        Order(["again", "12", "--id", "g1"]),
-        Order(["import-keying", "4", "12", "2", FILE, "--id", "k2"], keying(papers)),
-        Order(["key", "9", "12", "2", *map(typed, papers), "--id", "k2"]),
-        Order(["judge", "12", size, "reject:5", "--id", "j1"]),
-        Order(["seal", "7", "--id", "s1"]),
-        *(Order(["advance", "7", "--id", f"a{stage}"]) for stage in range(1, lot)),
-        Order(["lot", "7", str(lot), "2", "--id", f"l{lot}"]),
-        Order(["count", "7", "--id", "a"]),
-        Order(["declare", "7", "--id", "d1"]),
+    lines = [
+        "init", "ward 7 2 Harbour --id w1", f"import-candidates {FILE} --id c", "withdraw 7 4 --id x1", "candidate 7 4 Dee --id c4",
+        "close 7 --id n1", f"batch 12 7 {size} 4 9 --id b1", f"import-keying 4 12 1 {FILE} --id k1", f"import-keying 9 12 1 {FILE} --id k1",
+        "third 12 5 --id t1", "again 12 --id g1", f"import-keying 4 12 2 {FILE} --id k2", f"key 9 12 2 {' '.join(papers)} --id k2",
+        f"judge 12 {size} reject:5 --id j1", "seal 7 --id s1", *(f"advance 7 --id a{stage}" for stage in range(1, lot)),
+        f"lot 7 {lot} 2 --id l{lot}", "count 7 --id a", "declare 7 --id d1",
     ]
+    files = {2: ["ward,candidate,name", *(f"7,{c},Candidate {c}" for c in range(1, 5))], 7: right, 8: wrong, 11: right}
+    return [Order(line.split(), files.get(number)) for number, line in enumerate(lines)]
 
 
 ELECTION = election()
-MARKS = [line.split(",", 1)[1] for line in ELECTION[7].lines[1:]]
 END = len(ELECTION)
 # A script of some of the orders, after a line that is passed over; it is sent to the office before the first of them.
 SCRIPTED = range(4, 8)
@@ -108,14 +96,10 @@ COPYING = Order(["copy", COPY])
 READS = [(number, Order(line.split())) for number, line in (
     (END, "status 7"), (END, "sheet 7"), (END, "result 7"), (17, "advance 7 --id a3"), (17, "next 7"), (0, "status 7"), (END, "wards"),
     (END, "receipts"), (END, "journal"), (13, "batches 7"), (13, "doubtful 7"), (9, "differences 12"), (13, "papers 12"))]
-ERRING = ",".join(f'"{typed(line.split(",", 1)[1])}"' for line in ELECTION[8].lines[1:])
 # The same of requests; the keying is that of the order 8.
-REQUESTS = [
-    (8, Order(["GET /clerks/9/work"], sends=request("/clerks/9/work"))),
-    (8, Order(["POST /clerks/9/batches/12/keying"], sends=request("/clerks/9/batches/12/keying", body='{"id":"k1","round":1,"papers":[%s]}' % ERRING))),
-    (END, Order(["GET /wards/7/sheet"], sends=request("/wards/7/sheet"))),
-    (END, Order(["GET /wards/7/result"], sends=request("/wards/7/result"))),
-]
+KEYING = '{"id":"k1","round":1,"papers":["1,2,,",%s"D"]}' % "".join(f'"{line.split(",", 1)[1]}",' for line in ELECTION[8].lines[2:-1])
+REQUESTS = [(number, Order([f"{'POST' if body else 'GET'} {target}"], sends=request(target, body=body))) for number, target, body in (
+    (8, "/clerks/9/work", ""), (8, "/clerks/9/batches/12/keying", KEYING), (END, "/wards/7/sheet", ""), (END, "/wards/7/result", ""))]
 
 
 def offices(folder, orders=ELECTION):
@@ -130,9 +114,8 @@ def offices(folder, orders=ELECTION):
 
 
 def earlier_office(folder):
-    """Returns an office of an earlier program."""
     office = Office(folder)
-    older_office.make(office.folder / TOWN)
+    older_office.main(office.folder / TOWN)
     return office
 
 
@@ -143,3 +126,22 @@ def execute(path, *statements):
         for statement in statements:
             base.execute(statement)
     base.close()
+
+
+CODES = {4: "kf7m-2wxt-h4dn", 9: "w3hd-4psn-7kfr"}
+SMALL = ["Ann", "Bob", "Cy", "Dee", "Maximiliane Oberhuber-Featherstonehaugh of the Old Harbour Road"]
+LARGE = [*(f"Candidate {c}" for c in range(1, 29)), "<img src=x onerror=document.title='marked'>", "\u202eesrever\u2066 in"]
+
+
+def evening_office(folder, codes=None):
+    """Returns an office of two wards and four batches for clerks 4 and 9, with a file of codes."""
+    office = Office(folder).begin()
+    for ward, name, candidates in ((7, "Harbour", SMALL), (8, "Old Town <b>&", LARGE)):
+        office.do("ward", ward, 2, name, "--id", f"w{ward}")
+        for number, candidate in enumerate(candidates, 1):
+            office.do("candidate", "--id", f"c{ward}-{number}", "--", ward, number, candidate)
+        office.do("close", ward, "--id", f"n{ward}")
+    for batch, ward, size in ((12, 7, 50), (13, 8, 3), (14, 7, 1), (15, 7, 1)):
+        office.do("batch", batch, ward, size, 4, 9, "--id", f"b{batch}")
+    office.write_codes(codes or CODES)
+    return office

@@ -8,6 +8,7 @@ import socket
 import sqlite3
 import subprocess
 import tempfile
+import threading
 import time
 from pathlib import Path
 from typing import NamedTuple
@@ -34,12 +35,12 @@ class Printed(NamedTuple):
 
 
 @functools.cache
-def program():
-    """Returns the program that COUNT_OFFICE names, or else the one that the script count-office keeps, which builds it if it has to."""
-    if named := os.environ.get("COUNT_OFFICE"):
+def program(variable="COUNT_OFFICE"):
+    """Returns the program that a variable names, or else the one that the script count-office keeps, which unpacks it if it has to."""
+    if named := os.environ.get(variable):
         return os.path.realpath(named)
     subprocess.run([ROOT / "count-office", "--help"], stdout=subprocess.DEVNULL, check=True)
-    return str(ROOT / "out" / "count-office")
+    return str(ROOT / "out" / variable.lower().replace("_", "-"))
 
 
 def needs(*commands):
@@ -49,41 +50,30 @@ def needs(*commands):
             raise Wrong(f"the command {command} is missing; on Debian: apt-get install {command}")
 
 
-@functools.cache
-def has_ipv6():
-    """Returns whether this machine has the address [::1]."""
-    return is_free(0, socket.AF_INET6, "::1")
-
-
-def is_free(port, family=socket.AF_INET, host=HERE):
-    """Returns whether a port can be bound."""
-    with socket.socket(family) as listener:
-        listener.setsockopt(socket.SOL_SOCKET, socket.SO_REUSEADDR, 1)
-        try:
-            listener.bind((host, port))
-            return True
-        except OSError:
-            return False
+def is_free(port, host=HERE):
+    """Returns whether a port can be bound. Of port 0 it says whether the machine has the address."""
+    try:
+        socket.create_server((host, port), family=socket.AF_INET6 if ":" in host else socket.AF_INET).close()
+        return True
+    except OSError:
+        return False
 
 
 def free_port():
     """Returns a port that is free at both loopback addresses. Processes side by side take theirs from ranges of their own."""
-    first = 10000 + 1000 * (os.getpid() % 20)
-    while True:
-        port = first + next(PORTS) % 1000
-        if is_free(port) and (not has_ipv6() or is_free(port, socket.AF_INET6, "::1")):
-            return port
+    hosts, first = [host for host in (HERE, "::1") if is_free(0, host)], 10000 + 1000 * (os.getpid() % 20)
+    return next(port for port in (first + number % 1000 for number in PORTS) if all(is_free(port, host) for host in hosts))
 
 
 def ended(process, seconds=SECONDS):
     """Waits for a program, and returns what it printed."""
     try:
-        out, err = process.communicate(timeout=seconds)
+        printed = process.communicate(timeout=seconds)
     except subprocess.TimeoutExpired as error:
         process.kill()
         process.communicate()
         raise Wrong(f"no end within {seconds} seconds") from error
-    return Printed(process.returncode, out.decode("utf-8", "surrogateescape"), err.decode("utf-8", "surrogateescape"))
+    return Printed(process.returncode, *(text.decode("utf-8", "surrogateescape") for text in printed))
 
 
 @contextlib.contextmanager
@@ -100,8 +90,27 @@ def open_many_files():
     resource.setrlimit(resource.RLIMIT_NOFILE, (most, most))
 
 
+def timed(act, *words):
+    """Returns what a function returns, and its seconds."""
+    began = time.perf_counter()
+    return act(*words), time.perf_counter() - began
+
+
+def waited(is_so, seconds=SECONDS):
+    """Waits until something is so, at most some seconds. Returns whether it is."""
+    until = time.monotonic() + seconds
+    while not is_so() and time.monotonic() < until:
+        time.sleep(0.0005)
+    return is_so()
+
+
+def listens(address, family=socket.AF_INET):
+    """Returns whether a connection to an address is accepted."""
+    with socket.socket(family) as line:
+        return line.connect_ex(address) == 0
+
+
 def remove(*paths):
-    """Removes the files that are there."""
     for path in paths:
         Path(path).unlink(missing_ok=True)
 
@@ -109,13 +118,12 @@ def remove(*paths):
 class Office:
     """A folder with the file of an office."""
 
-    def __init__(self, folder, town=TOWN):
-        self.folder, self.town = Path(folder), town
+    def __init__(self, folder):
+        self.folder = Path(folder)
         self.folder.mkdir(parents=True, exist_ok=True)
 
-    def start(self, *words, town=None, **how):
-        """Starts the program on the file."""
-        words = [program(), town or self.town, *map(str, words)]
+    def start(self, *words, town=TOWN, **how):
+        words = [program(), town, *map(str, words)]
         return subprocess.Popen(words, cwd=self.folder, stdout=subprocess.PIPE, stderr=subprocess.PIPE, **how)
 
     def run(self, *words, seconds=SECONDS, **how):
@@ -140,7 +148,8 @@ class Office:
 
     def begin(self, lines=()):
         """Makes the office, sends these orders as one script, and returns the office."""
-        self.do("init")
+        if (printed := self.run("init")) != (0, "office ready\n", ""):
+            raise Wrong(f"init: {printed}")
         if lines:
             self.replay(lines)
         return self
@@ -154,17 +163,17 @@ class Office:
         """Starts `serve`, for so many connections; 0 for no limit."""
         return Serving(self, connections, *words, **how)
 
-    def copied(self, folder, town=None):
+    def copied(self, folder, town=TOWN):
         """Copies the file, or the copy of it that has another name, with its log into an empty folder."""
         shutil.rmtree(folder, ignore_errors=True)
         copy = Office(folder)
         for ending in ("", "-wal"):
-            source = self.folder / ((town or self.town) + ending)
+            source = self.folder / (town + ending)
             if source.exists():
                 shutil.copyfile(source, copy.folder / (TOWN + ending))
         return copy
 
-    def rows(self, town=None):
+    def rows(self, town=TOWN):
         """Returns every row of every table, or None if there is no office. Python's own SQLite reads them from a copy.
 
         An `init` that was stopped may leave a file without the first byte of a database's.
@@ -216,7 +225,6 @@ class Serving:
         return None
 
     def wait(self):
-        """Waits until it listens."""
         line = self.connect()
         if line is None:
             raise Wrong(f"serve doesn't start: {ended(self.process)}")
@@ -231,6 +239,12 @@ class Serving:
     def ended(self, seconds=SECONDS):
         """Waits for its end, and returns what it printed."""
         return ended(self.process, seconds)
+
+    def killed_after(self, seconds=None):
+        """Begins to wait for so many seconds, and kills it then; without a number it does nothing."""
+        killer = threading.Timer(seconds or 0, self.process.kill if seconds is not None else bool)
+        killer.start()
+        return killer
 
     def kill(self):
         """Kills it, and returns what it printed."""

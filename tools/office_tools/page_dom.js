@@ -9,20 +9,17 @@ const FOCUSED = new Set(['BUTTON', 'INPUT', 'SUMMARY']);
 const ENTITIES = {amp: '&', lt: '<', gt: '>', quot: '"', rsquo: '\u2019', larr: '\u2190', rarr: '\u2192', uarr: '\u2191', darr: '\u2193'};
 const MARKUP = /<!DOCTYPE[^>]*>|<(\/?)([a-z0-9]+)((?:\s+[a-z-]+(?:="[^"]*")?)*)>|[^<]+/g;
 
-const markupRefused = () => { throw new Error('markup is made of a text'); };
-
 class Element {
   constructor(window, name) {
-    Object.defineProperties(this, {window: {value: window}, parent: {value: null, writable: true}, nodes: {value: [], writable: true}, listeners: {value: new Map()}});
+    const inner = {window, parent: null, nodes: [], listeners: {}};
+    Object.entries(inner).forEach(([key, value]) => Object.defineProperty(this, key, {value, writable: true}));
     Object.assign(this, {tagName: name.toUpperCase(), id: '', className: '', hidden: false, disabled: false, value: '', open: false});
   }
 
   get children() { return this.nodes.filter((node) => node instanceof Element); }
   get textContent() { return this.nodes.map((node) => node.textContent ?? node).join(''); }
   set textContent(text) { this.replaceChildren(String(text)); }
-  set innerHTML(text) { markupRefused(); }
-  set outerHTML(text) { markupRefused(); }
-  insertAdjacentHTML() { markupRefused(); }
+  set innerHTML(text) { throw new Error('markup is made of a text'); }
 
   append(...nodes) {
     nodes.forEach((node) => {
@@ -42,7 +39,8 @@ class Element {
 
   querySelectorAll(selector) {
     const [, sign, word] = /^([.#]?)([\w-]+)$/.exec(selector);
-    return this.all().filter((it) => (sign === '.' ? it.classList.contains(word) : sign === '#' ? it.id === word : it.tagName === word.toUpperCase()));
+    const names = (it) => ({'.': it.classList.contains(word), '#': it.id === word, '': it.tagName === word.toUpperCase()}[sign]);
+    return this.all().filter(names);
   }
 
   querySelector(selector) { return this.querySelectorAll(selector)[0] ?? null; }
@@ -73,13 +71,15 @@ class Element {
   }
 
   scrollIntoView() {}
-  addEventListener(type, act) { this.listeners.set(type, [...(this.listeners.get(type) ?? []), act]); }
+  addEventListener(type, act) { (this.listeners[type] ??= []).push(act); }
 
   // Tells the listeners here and above. Returns the event.
   dispatch(type, fields = {}) {
-    const event = {type, target: this, isPrevented: false, isStopped: false, ...fields, preventDefault() { this.isPrevented = true; }, stopPropagation() { this.isStopped = true; }};
+    const event = {type, target: this, ...fields};
+    event.preventDefault = () => { event.isPrevented = true; };
+    event.stopPropagation = () => { event.isStopped = true; };
     for (let it = this; it && !event.isStopped; it = it.parent ?? (it === this.window.document ? null : this.window.document)) {
-      (it.listeners.get(type) ?? []).forEach((act) => act(event));
+      it.listeners[type]?.forEach((act) => act(event));
     }
     return event;
   }
@@ -128,7 +128,7 @@ class Storage {
 // Lets everything run that waits for nothing but its turn.
 const settled = async () => { for (let turn = 0; turn < 12; turn += 1) await new Promise(setImmediate); };
 
-// A window that shows a page at an address. `office` responds to its requests: with a status and what it says, or null, where the line breaks.
+// A window that shows a page at an address. `office` responds to its requests: with a status and what it says, or null if the line breaks.
 class Window {
   constructor(page, address, office, storage = new Storage()) {
     const [, before, script, after] = /^([^]*?)<script>([^]*?)<\/script>([^]*)$/.exec(page);
@@ -144,7 +144,6 @@ class Window {
     const window = this;
     document.createElement = (name) => new Element(window, name);
     document.getElementById = (id) => document.querySelector(`#${id}`);
-    document.write = markupRefused;
     document.body = document.querySelector('body');
     Object.defineProperty(document, 'activeElement', {get: () => (window.focused?.isShown() ? window.focused : document.body)});
     this.context = {
@@ -155,10 +154,10 @@ class Window {
         set hash(text) { url.hash = text; setImmediate(() => document.dispatch('hashchange')); },
       },
       history: {replaceState: (_state, _title, address) => { url.hash = new URL(address).hash; }},
-      crypto: {getRandomValues: (bytes) => bytes.map((_, place) => { window.random += 1; bytes[place] = window.random * 7; return bytes[place]; })},
+      crypto: {getRandomValues: (bytes) => bytes.set(bytes.map(() => { window.random += 7; return window.random; })) ?? bytes},
       fetch: (address, options) => window.fetched(address, options),
       setTimeout: (act, wait) => window.timers.push({act, at: window.now + wait}),
-      clearTimeout: (number) => { if (number) window.timers[number - 1] = null; },
+      clearTimeout: (number) => { if (number) window.timers[number - 1].at = Infinity; },
       addEventListener: (type, act) => document.addEventListener(type, act),
     };
   }
@@ -174,13 +173,10 @@ class Window {
   // Lets some seconds pass.
   async pass(seconds) {
     const end = this.now + 1000 * seconds;
-    for (;;) {
-      const place = this.timers.findIndex((it) => it && it.at <= end);
-      if (place < 0) break;
-      const {act, at} = this.timers[place];
-      this.timers[place] = null;
-      this.now = Math.max(this.now, at);
-      act();
+    for (let due; (due = this.timers.find((it) => it.at <= end));) {
+      this.now = Math.max(this.now, due.at);
+      due.at = Infinity;
+      due.act();
       await settled();
     }
     this.now = end;

@@ -1,5 +1,5 @@
-// Runs the script of the page on which clerks key, for `tools/check script`, in the small stand-in for a browser of page_dom.js. Its word
-// is the file of the page. Prints a line for each thing that isn't as it must be, and ends with status 1 then.
+// Runs the script of the page on which clerks key, for `tools/check script`, in the small stand-in for a browser of page_dom.js. Its
+// word is the file of the page. Prints a line for each thing that isn't as it must be, and ends with status 1 then.
 'use strict';
 
 const assert = require('node:assert/strict');
@@ -18,6 +18,8 @@ const CANDIDATES = {batch: 12, candidates: NAMES.map((name, place) => ({candidat
 const KEPT = {status: 200, says: {reply: 'batch 12 round 1 keyed'}};
 const REFUSED = {status: 409, says: {refusal: 17, text: 'wrong number of papers'}};
 const FAILED = {status: 503, says: {fault: 101}};
+const DENIED = {status: 401, says: {error: 'unauthorized'}};
+const TOO_MANY = {status: 429, says: {error: 'too many wrong codes'}};
 const PAPERS = ['1,2,', ',,12', 'D'];
 const KEYS = [['1', '2', 'Enter'], ['0', '0', '.', '1', '2', 'Enter'], ['d', 'Enter']];
 
@@ -64,6 +66,8 @@ const finished = async (page, ...answers) => {
 };
 
 const said = (window) => window.at('said').textContent;
+const listed = (window) => window.at('list').querySelectorAll('li').map(({textContent}) => textContent);
+const SENT = 'Batch 13: ward 7, round 1, 2 papers. The office has your keying.';
 const drafts = (window) => Object.values(window.storage).map((text) => JSON.parse(text));
 const sent = (window) => window.asked.filter(({method}) => method === 'POST').map(({target, body}) => ({target, ...JSON.parse(body)}));
 const isOffered = (window, id) => !window.at(id).hidden && !window.at(id).disabled;
@@ -78,7 +82,7 @@ const assertNotKept = (window, words) => {
 
 const PLAYS = {
   'a clerk without a code is told so, and lists his batches by a code': async (page) => {
-    const answers = [{status: 401, says: {error: 'unauthorized'}}, {status: 429, says: {error: 'too many wrong codes'}}];
+    const answers = [DENIED, TOO_MANY];
     const office = officeOf();
     const window = await opened(page, async (asked) => answers.shift() ?? office(asked));
     assert.match(window.at('asked').textContent, /code is wrong, or none was sent/);
@@ -86,8 +90,7 @@ const PLAYS = {
     await click(window, window.at('look'));
     assert.match(window.at('asked').textContent, /code is wrong, and very many wrong codes/);
     await click(window, window.at('look'));
-    assert.deepEqual(window.at('list').querySelectorAll('li').map(({textContent}) => textContent), [
-      'Batch 12 ward 7, round 1, 3 papers.', 'Batch 13: ward 7, round 1, 2 papers. The office has your keying.']);
+    assert.deepEqual(listed(window), ['Batch 12 ward 7, round 1, 3 papers.', SENT]);
     assert.equal(window.at('who').textContent, 'clerk 4');
     assert.equal(window.document.title, 'Clerk 4: keying');
   },
@@ -133,7 +136,7 @@ const PLAYS = {
     assert.deepEqual(drafts(later), []);
   },
   'a keying under a wrong code stays, and can be sent again': async (page) => {
-    const window = await finished(page, {status: 401, says: {error: 'unauthorized'}}, {status: 429, says: {error: 'too many wrong codes'}}, KEPT);
+    const window = await finished(page, DENIED, TOO_MANY, KEPT);
     await press(window, 's');
     assertNotKept(window, /code is wrong, or none was sent/);
     await press(window, 's');
@@ -156,7 +159,8 @@ const PLAYS = {
   'the paper that is asked for is shown, and it is the one that is keyed': async (page) => {
     const window = await begun(page, officeOf());
     const now = () => window.at('rows').querySelector('.now');
-    const shown = () => [window.at('paper').textContent, now().querySelector('th').textContent, ...now().querySelectorAll('input').map(({value}) => value)];
+    const marks = () => now().querySelectorAll('input').map(({value}) => value);
+    const shown = () => [window.at('paper').textContent, now().querySelector('th').textContent, ...marks()];
     await press(window, ...KEYS[0], ...KEYS[1]);
     assert.deepEqual(shown(), ['Paper 3 of 3', '3', '', '', '']);
     await press(window, 'g', '1', 'Enter');
@@ -184,7 +188,7 @@ const PLAYS = {
     const own = await opened(page, officeOf(), {storage});
     assert.match(own.at('list').textContent, /3 keyed here/);
     const other = await opened(page, async () => ({status: 200, says: {clerk: 9, work: WORK.work.slice(1)}}), {clerk: 9, storage});
-    assert.deepEqual(other.at('list').querySelectorAll('li').map(({textContent}) => textContent), ['Batch 13: ward 7, round 1, 2 papers. The office has your keying.']);
+    assert.deepEqual(listed(other), [SENT]);
     assert.equal(drafts(own).length, 1);
     assert.deepEqual(other.asked.map(({target}) => target), ['/clerks/9/work']);
     assert.equal(other.at('who').textContent, 'clerk 9');
@@ -196,21 +200,22 @@ const PLAYS = {
     await click(window, window.at('go-away'));
     assert.match(window.document.body.textContent, /Clerk 4 has left/);
     const asked = window.asked.map(({method, target, redirect, cache}) => `${method} ${target} ${redirect} ${cache}`);
-    const strange = asked.filter((it) => !/^(GET \/clerks\/4\/(work|leave|batches\/12\/candidates)|POST \/clerks\/4\/batches\/12\/keying) error no-store$/.test(it));
-    assert.deepEqual(strange, []);
+    const own = /^(GET \/clerks\/4\/(work|leave|batches\/12\/candidates)|POST \/clerks\/4\/batches\/12\/keying) error no-store$/;
+    assert.deepEqual(asked.filter((it) => !own.test(it)), []);
   },
 };
 
 // What somebody tired or hostile might write in the page: a text that stands there once, and what is written in its place.
 const PLANTED = {
-  'a refused keying is shown as kept': ['if (isReply(answer, sent)) return {kept: answer.says.reply};', 'if (answer) return {kept: answer.says.reply ?? answer.says.text};'],
+  'a refused keying is shown as kept': ['if (isReply(answer, sent)) return {kept: answer.says.reply};',
+    'if (answer) return {kept: answer.says.reply ?? answer.says.text};'],
   'a refused keying is shown as kept, by the view': ['if (kept) return showKept(kept);', 'if (kept || refusal) return showKept(kept);'],
-  'whatever is answered by 200 is kept': ['answer?.status === 200 && answer.says?.reply === `batch ${batch} round ${round} keyed`', 'answer?.status === 200'],
+  'whatever is answered by 200 is kept': [' && answer.says?.reply === `batch ${batch} round ${round} keyed`', ''],
   'a keying that failed is shown as kept': ['if (waits) return waitToSend(told(why));', 'if (waits) return showKept(told(why));'],
   'a keying that failed isn\u2019t sent again': ['timer = setTimeout(sendNow, 1000 * seconds);', ''],
   'a keying is sent again under another id': ['answer.says.refusal === 2) sent.id', 'answer.says.refusal > 0) sent.id'],
   'each sending has an id of its own': ['sent.sent = true;\n', 'sent.sent = true;\n  sent.id = newId(sent.batch, sent.round);\n'],
-  'a keying that may have been kept is changed': ['every ${seconds} seconds, and kept once.`, {sends: true, goesBack: false}', 'every ${seconds} seconds, and kept once.`, {sends: true, goesBack: true}'],
+  'a keying that may have been kept is changed': ['once.`, {sends: true, goesBack: false}', 'once.`, {sends: true, goesBack: true}'],
   'a draft is forgotten once it was sent': ['if (draft !== sent) return undefined;', 'forget(draftName(sent.batch, sent.round));'],
   'the drafts of all clerks are listed': ['name.startsWith(FRONT)', 'name.startsWith(\'keying\')'],
   'all clerks share their drafts': ['const FRONT = `keying ${CLERK} `;', 'const FRONT = `keying 4 `;'],

@@ -16,15 +16,20 @@ def first_sentence(comment):
 
 
 def changes_of(edit):
-    """Returns [(file, old text)] of an edit."""
+    """Returns [(file, old text, new text)] of an edit."""
     path, found = "", []
-    for line in edit.splitlines():
-        key, _, words = line.partition(": ")
+    for key, _, words in (line.partition(":") for line in edit.splitlines()):
         if key == "file":
             path = words.strip()
         elif key == "old":
-            found.append((path, words))
+            found.append([path, words[1:], ""])
+        elif key == "new":
+            found[-1][2] = words[1:]
     return found
+
+
+def text_at(crate, path):
+    return (crate.folder / path).read_text() if (crate.folder / path).is_file() else ""
 
 
 def definition_at(text, place):
@@ -36,9 +41,8 @@ def definition_at(text, place):
 def targets_of(crate, edit):
     """Returns what an edit changes: functions of the crate, or (file, name) of something else."""
     found = []
-    for path, old in changes_of(edit):
-        there = crate.folder / path
-        text = there.read_text() if there.is_file() else ""
+    for path, old, _ in changes_of(edit):
+        text = text_at(crate, path)
         place = text.find(old)
         inside = [f for f in crate.functions if f.path == path and f.start <= place < f.end]
         if inside and inside[-1] not in found:
@@ -51,24 +55,17 @@ def targets_of(crate, edit):
 def misplaced(crate):
     """Yields what is reported of the edits whose old text doesn't stand just once in its file."""
     for name, edit in crate.edits.items():
-        for path, old in changes_of(edit):
-            there = crate.folder / path
-            times = there.read_text().count(old) if there.is_file() else 0
-            if times != 1:
+        for path, old, _ in changes_of(edit):
+            if (times := text_at(crate, path).count(old)) != 1:
                 yield f"{crate.name}/{name}.edit: its old text stands {times} times in {path}"
 
 
-def function_cell(crate, function):
-    if crate.is_shown(function):
-        return f"`{function.title}`"
-    if function.in_trait_impl:
-        return f"`{function.title}`, of `{function.owners[-1]}`"
-    return f"`{function.title}`, within `{function.path}`"
-
-
-def clauses_cell(function):
-    names = [f"`{name}`" if name else "one without a name" for name in function.ensures]
-    return ", ".join(names) or "–"
+def row(crate, function, edits):
+    """Returns the row of a function."""
+    where = "" if crate.is_shown(function) else f", of `{function.owners[-1]}`" if function.in_trait_impl else f", within `{function.path}`"
+    clauses = ", ".join(f"`{name}`" if name else "one without a name" for name in function.ensures)
+    refused = ", ".join(f"`{name}`" for name in edits)
+    return f"| `{function.title}`{where} | {first_sentence(function.comment)} | {clauses or '–'} | {refused or '–'} |"
 
 
 def edits_by_target(crate):
@@ -90,8 +87,7 @@ def section(crate):
     rows = []
     for function in sorted(crate.functions, key=lambda f: order.index(f.module[0]) if f.module[0] in order else -1):
         if crate.is_shown(function) or id(function) in edits:
-            refused = ", ".join(f"`{name}`" for name in edits.get(id(function), [])) or "–"
-            rows.append(f"| {function_cell(crate, function)} | {first_sentence(function.comment)} | {clauses_cell(function)} | {refused} |")
+            rows.append(row(crate, function, edits.get(id(function), [])))
     for path, name in others:
         what = f"`{name}`, within `{path}`" if name else f"`{path}`"
         rows.append(f"| {what} | – | – | {', '.join(f'`{edit}`' for edit in edits[(path, name)])} |")
@@ -100,7 +96,6 @@ def section(crate):
 
 
 def page(crates):
-    """Returns the whole page, as text."""
     shown = [function for crate in crates for function in crate.functions if crate.is_shown(function)]
     clauses, edits = sum(len(function.ensures) for function in shown), sum(len(crate.edits) for crate in crates)
     head = HEAD.rstrip().format(public=len(shown), clauses=clauses, edits=edits)

@@ -1,17 +1,20 @@
 """Made-up evenings at an office: for tools that compare the results of many of them.
 
-A `Session` has a list of lives, of wards, each of which sends its orders in pieces: a generator that yields lists of orders, and is sent
-the result of each: None if it was accepted, else the number and the text of its refusal. Between them come orders that are refused,
-or sent again. Everything is drawn from one seed.
+A `Session` has wards, each of which lives for itself: a generator that yields lists of orders, and is sent the result of each, None if it
+was accepted, else the number and the text of its refusal. Between them come orders that are refused, or sent again. Everything is drawn
+from one seed.
 """
+import collections
 import string
+
+from office_tools.election import keying
 
 LAST_CANDIDATE = 30
 CLERKS = (1, 4, 5, 9, 17, 998, 999)
 NAMES = (
-    "Ann", "Bob", "Old Harbour", "O'Neill", 'the "Red" one', '"', "'", "''", '""', "\"'\"'", "-Harbour", "-", "--", "--id", "--id=x", "--help", "-h",
-    "#", "# a comment", "key", "ward 7 2", "withdrawn candidate 1", " before", "behind ", "  ", "\\", "a\\b", "$HOME", "`ls`", "=1+1", "*", "~",
-    "Łódź", "名前", "\u00a0", "\u0080", "\u202eeman", "\ufeff", "x" * 120, "é" * 60, "7", "0", "accept:1,,",
+    "Ann", "Bob", "Old Harbour", "O'Neill", 'the "Red" one', '"', "'", "''", '""', "\"'\"'", "-Harbour", "-", "--", "--id", "--id=x",
+    "--help", "-h", "#", "# a comment", "key", "ward 7 2", "withdrawn candidate 1", " before", "behind ", "  ", "\\", "a\\b", "$HOME",
+    "`ls`", "=1+1", "*", "~", "Łódź", "名前", "\u00a0", "\u0080", "\u202eeman", "\ufeff", "x" * 120, "é" * 60, "7", "0", "accept:1,,",
 )
 ODD_IDS = ("-", "--", "---", "-x", "--id", "--help", "-h", "id", "7", "0", "z" * 40, "-" * 40, "a-1", "a-2")
 
@@ -25,10 +28,10 @@ class Ids:
     """The ids that were given, by actor."""
 
     def __init__(self, chance):
-        self.chance, self.given = chance, {}
+        self.chance, self.given = chance, collections.defaultdict(list)
 
     def new(self, actor=0):
-        given = self.given.setdefault(actor, [])
+        given = self.given[actor]
         while True:
             odd = self.chance.random() < 0.2
             name = self.chance.choice(ODD_IDS) if odd else self.chance.choice(string.ascii_lowercase) + str(self.chance.randint(1, 999))
@@ -37,8 +40,7 @@ class Ids:
                 return name
 
     def used(self, actor=0):
-        given = self.given.get(actor)
-        return self.chance.choice(given) if given else self.new(actor)
+        return self.chance.choice(self.given[actor]) if self.given[actor] else self.new(actor)
 
 
 def under(words, name):
@@ -51,23 +53,17 @@ def named(words, text, name):
     return [*map(str, words), f"--id={name}", "--", text]
 
 
+def ranked(chance, columns, least, odd=False):
+    """Returns marks by which so many candidates at least are ranked; if they may be odd, some are rejected."""
+    fields = [""] * columns
+    for place, column in enumerate(chance.sample(range(columns), chance.randint(least, columns)), 1):
+        fields[column] = str(chance.choice((1, 2, 99)) if odd and chance.random() >= 0.95 else place)
+    return ",".join(fields)
+
+
 def marks(chance, columns):
-    """Returns the marks text of a paper; one in six is doubtful, and some are rejected."""
-    if chance.random() < 0.17:
-        return "D"
-    ranked = chance.sample(range(columns), chance.randint(0, columns))
-    fields = [""] * columns
-    for place, column in enumerate(ranked, 1):
-        fields[column] = str(place if chance.random() < 0.95 else chance.choice((1, 2, 99)))
-    return ",".join(fields)
-
-
-def valid_marks(chance, columns):
-    """Returns marks by which a paper is valid."""
-    fields = [""] * columns
-    for place, column in enumerate(chance.sample(range(columns), chance.randint(1, columns)), 1):
-        fields[column] = str(place)
-    return ",".join(fields)
+    """Returns the marks text of a paper; one in six is doubtful."""
+    return "D" if chance.random() < 0.17 else ranked(chance, columns, 0, odd=True)
 
 
 def unlike(chance, papers, columns, others):
@@ -80,25 +76,21 @@ def unlike(chance, papers, columns, others):
 
 
 class Session:
-    def __init__(self, chance, folder):
-        self.chance, self.folder, self.ids = chance, folder, Ids(chance)
+    """What happens at an office in an evening, and the files that its orders name."""
+
+    def __init__(self, chance, office):
+        self.chance, self.office, self.ids = chance, office, Ids(chance)
         self.files, self.batches = 0, list(range(1, 10000))
         self.wards = chance.sample(range(1, 100), chance.choice((0, 1, 1, 2, 3)))
-
-    def lives(self):
-        return [self.ward(number) for number in self.wards]
 
     def chosen(self, likely):
         return self.chance.random() < likely
 
-    # ---- files
-
     def written(self, lines):
-        """Returns the name of a file with these lines, in the session's folder."""
+        """Returns the name of a file with these lines."""
         self.files += 1
-        name = f"rows{self.files}.csv"
-        (self.folder / name).write_text("\n".join(lines) + "\n", encoding="utf-8")
-        return name
+        self.office.write(f"rows{self.files}.csv", lines)
+        return f"rows{self.files}.csv"
 
     def added(self, ward, candidates):
         """Returns orders that add candidates, each by itself or all by a file."""
@@ -110,12 +102,8 @@ class Session:
     def keyed(self, columns, clerk, batch, turn, papers):
         """Returns the order of a keying, by words or by a file."""
         if self.chosen(0.3):
-            lines = ["paper," + ",".join(map(str, columns))]
-            lines += [f"{number}," + ("D" + "," * (len(columns) - 1) if text == "D" else text) for number, text in enumerate(papers, 1)]
-            return under(["import-keying", clerk, batch, turn, self.written(lines)], self.ids.new(clerk))
+            return under(["import-keying", clerk, batch, turn, self.written(keying(papers, columns))], self.ids.new(clerk))
         return [*map(str, ("key", clerk, batch, turn)), f"--id={self.ids.new(clerk)}", *papers]
-
-    # ---- lives
 
     def ward(self, ward):
         """Plays a ward, from its first order on, as far as it comes."""
@@ -129,8 +117,7 @@ class Session:
             if self.chosen(0.7):
                 yield [under(["declare", ward], self.ids.new())]
             return
-        lives = [self.batch(ward, standing) for _ in range(self.chance.choice((0, 1, 1, 2, 3)))]
-        yield from self.side_by_side(lives)
+        yield from self.side_by_side(self.batch(ward, standing) for _ in range(self.chance.choice((0, 1, 1, 2, 3))))
         if self.chosen(0.1):
             return
         sealed = yield [under(["seal", ward], self.ids.new())]
@@ -219,8 +206,7 @@ class Session:
         for paper in doubtful:
             if self.chosen(0.03):
                 continue
-            accepted = self.chosen(0.5)
-            word = "accept:" + valid_marks(self.chance, len(columns)) if accepted else f"reject:{self.chance.randint(3, 5)}"
+            word = "accept:" + ranked(self.chance, len(columns), 1) if self.chosen(0.5) else f"reject:{self.chance.randint(3, 5)}"
             yield [under(["judge", batch, paper, word], self.ids.new())]
 
     def count(self, ward):
@@ -240,8 +226,6 @@ class Session:
             yield [under(["lot", ward, stage, self.chance.choice(tied.split(", "))], self.ids.new())]
             if self.chosen(0.1):
                 return
-
-    # ---- what is refused, or was done already
 
     def noise(self):
         """Returns an order that changes nothing, most often since it is refused."""

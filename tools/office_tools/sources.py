@@ -2,6 +2,7 @@
 
 Read as text, by brackets and words; nothing is built or checked.
 """
+import itertools
 import re
 from dataclasses import dataclass, field
 from pathlib import Path
@@ -68,20 +69,13 @@ def after_bracket(text, at):
 
 def comment_above(lines, number):
     """Returns the comment right above a line, past its attributes; its lines without slashes."""
-    found = []
-    while number > 0:
-        number -= 1
-        line = lines[number].strip()
-        if line.startswith("//"):
-            found.append(line.lstrip("/").strip())
-        elif not line.startswith("#["):
-            break
-    return "\n".join(reversed(found))
+    above = itertools.takewhile(lambda line: line.startswith(("//", "#[")), map(str.strip, reversed(lines[:number])))
+    return "\n".join(reversed([line.lstrip("/").strip() for line in above if line.startswith("//")]))
 
 
 def read_contract(function, text, at):
     """Reads a function's contract from the end of its name on: the names of its clauses, and where its body is."""
-    depth, heads = 0, []
+    depth = 0
     for match in re.compile(r"[()\[\]{};]").finditer(text, at):
         token, place = match.group(), match.start()
         if place < at:
@@ -92,17 +86,15 @@ def read_contract(function, text, at):
             function.head, function.end = text[function.start:place], match.end()
             break
         elif token == "{":
-            clause = CONTRACT.search(text[at:place])
-            at = after_bracket(text, place)
+            clause, at = CONTRACT.search(text[at:place]), after_bracket(text, place)
             if not clause:
                 function.head, function.body, function.end = text[function.start:place], text[place:at], at
                 break
-            (function.ensures if clause.group(1) == "ensures" else function.requires).append(clause.group(2))
-            if clause.group(1) == "ensures":
-                function.words[clause.group(2)] = re.match(r"\W*(\w*)", text[place:at]).group(1)
-            heads.append(place)
-    if heads:
-        function.head = re.split(r"\b(?:ensures|requires)\b", function.head)[0]
+            kind, name = clause.groups()
+            getattr(function, kind).append(name)
+            if kind == "ensures":
+                function.words[name] = re.match(r"\W*(\w*)", text[place:at])[1]
+    function.head = re.split(r"\b(?:ensures|requires)\b", function.head)[0]
 
 
 def functions_in(path, source):
@@ -122,13 +114,11 @@ def functions_in(path, source):
             read_contract(function, text, match.end())
             found.append(function)
             past = function.end
-        elif token == "{":
-            blocks.append(None)
         elif token == "}":
             blocks and blocks.pop()
         else:
             public_trait = token.startswith("trait") and text[:match.start()].rstrip().endswith("pub")
-            blocks.append((owners_of(token), public_trait, token.startswith("impl") and " for " in token))
+            blocks.append((owners_of(token), public_trait, token.startswith("impl") and " for " in token) if token != "{" else None)
     return found
 
 
@@ -144,14 +134,12 @@ class Crate:
     """A crate's sources: texts by path below its folder, functions, and wrong bodies by name."""
 
     def __init__(self, folder):
-        self.name = folder.name
+        self.name, self.folder = folder.name, folder
         self.texts = {str(path.relative_to(folder)): path.read_text() for path in sorted((folder / "src").rglob("*.rt"))}
         self.functions = [f for path, text in self.texts.items() for f in functions_in(path, text)]
-        self.records = {}
-        for path in sorted(folder.glob("specs/**/*.antt")):
-            self.records.update(fields_in(path.read_text() + "\n"))
-        self.edits = {path.stem: path.read_text() for part in ("must-fail", "wrong-bodies") for path in sorted(folder.glob(part + "/*.edit"))}
-        self.folder = folder
+        self.records = fields_in("\n".join(path.read_text() for path in sorted(folder.glob("specs/**/*.antt"))) + "\n")
+        edits = (path for part in ("must-fail", "wrong-bodies") for path in sorted(folder.glob(part + "/*.edit")))
+        self.edits = {path.stem: path.read_text() for path in edits}
 
     def is_shown(self, function):
         """Returns whether a function is public, and its module is open or its type named by a `pub use`."""
@@ -162,15 +150,12 @@ class Crate:
         return "src/lib.rt" in self.texts and function.public and (is_open or (function.owners or [function.name])[0] in shown)
 
 
-def spread(functions, records):
-    """Puts the fields of a record in the place of a clause that says no more than that record."""
-    for function in functions:
-        function.ensures = [part for name in function.ensures for part in records.get(WORDS.get(function.words.get(name)), [name])]
-
-
 def crates():
     """Returns all crates in the order of crates.txt, lowest first."""
     names = [line.split(":")[0].strip() for line in (ROOT / "crates.txt").read_text().splitlines() if ":" in line.split("#")[0]]
     found = [Crate(ROOT / "crates" / name) for name in names]
-    spread([function for crate in found for function in crate.functions], {name: fields for crate in found for name, fields in crate.records.items()})
+    records = {name: fields for crate in found for name, fields in crate.records.items()}
+    for function in (function for crate in found for function in crate.functions):
+        # The fields of a record stand in the place of a clause that says no more than that record.
+        function.ensures = [part for name in function.ensures for part in records.get(WORDS.get(function.words.get(name)), [name])]
     return found

@@ -2,12 +2,16 @@
 import os
 import re
 import subprocess
+import sys
+from concurrent.futures import ProcessPoolExecutor
 from pathlib import Path
 
-from office_tools.election import COPY, COPY_LOG, COPYING, ELECTION, FILE, MADE, READS, REPLAY, REQUESTS, SCRIPTED, Order, earlier_office, offices
+from office_tools.election import (
+    COPY, COPY_LOG, COPYING, ELECTION, FILE, MADE, READS, REPLAY, REQUESTS, SCRIPTED, Order, earlier_office, offices)
 from office_tools.office import LOG, NO_OFFICE, ROOT, SCRIPT, TOWN, Wrong, remove
 
 NOT_WRITTEN = "fault 110: copy not written"
+RESULTS = ("rows before it found", "rows after it", "some records")
 
 
 def library(folder):
@@ -37,13 +41,12 @@ class Trial:
             self.states.append(left(after))
 
     def between(self):
-        """Returns what an order of several records leaves after each but the last."""
-        if not self.is_script and self.order.words[0] != "import-candidates":
-            return
-        for count in range(2, len(self.order.lines)):
-            part = self.office.copied(self.folder / "part")
-            Order(self.order.words, self.order.lines[:count]).done(part)
-            yield left(part)
+        """Yields what an order of several records leaves after each but the last."""
+        if self.is_script or self.order.words[0] == "import-candidates":
+            for count in range(2, len(self.order.lines)):
+                part = self.office.copied(self.folder / "part")
+                Order(self.order.words, self.order.lines[:count]).done(part)
+                yield left(part)
 
     def allowed(self, out, faults):
         """Returns those of some faults that may be printed after an output; a script names the line that was under way."""
@@ -80,13 +83,11 @@ class Trial:
 
     def judged(self, printed, found, faults):
         """Returns ("fault" or "answered", the number of the state that was found)."""
-        place = self.place_of(printed, found)
+        place, replies = self.place_of(printed, found), self.order.replies(printed.out)
         if printed == self.printed:
             return "answered", place
-        if not self.is_fault(printed, faults):
-            raise Wrong(f"printed {printed}")
-        if not self.order.replies(printed.out) <= place <= self.order.replies(printed.out) + 1:
-            raise Wrong(f"{place} of {len(self.states) - 1} records found: {printed}")
+        if not self.is_fault(printed, faults) or not replies <= place <= replies + 1:
+            raise Wrong(f"printed {printed}, and {place} of {len(self.states) - 1} records are found")
         return "fault", place
 
     def check_beside(self, office, printed, keeps):
@@ -120,7 +121,7 @@ class Trial:
         return what if note.exists() else None
 
     def runs(self, refusals, faults):
-        """Returns ([what was found by each refusal until a run meets none], [what was wrong])."""
+        """Gives the order with each refusal until a run meets none. Returns ([how many met one, and what they found], [what was wrong])."""
         found, wrong = [], []
         for which, refusal in refusals:
             try:
@@ -131,18 +132,14 @@ class Trial:
             if what is None:
                 break
             found.append(what)
-        return found, wrong
+        kinds = [kind for kind, _ in found]
+        return [len(found), kinds.count("fault"), kinds.count("answered"), *self.places([place for _, place in found])], wrong
 
     def places(self, places):
         """Returns how many found the rows before the order, those after it, and some records."""
         old = sum(place == 0 for place in places)
         new = sum(place == len(self.states) - 1 for place in places if place)
         return [old, new, len(places) - old - new]
-
-    def counts(self, found):
-        """Returns how many reported a fault, were answered, and found the rows before, after and in between."""
-        kinds = [kind for kind, _ in found]
-        return [kinds.count("fault"), kinds.count("answered"), *self.places([place for _, place in found])]
 
 
 def trials(folder, name="", orders=None):
@@ -160,3 +157,15 @@ def trials(folder, name="", orders=None):
         raise Wrong("a script leaves other rows than its orders, each given alone")
     return [trial for trial in found if name in ("", trial.order.words[0])]
 
+
+def side_by_side(runs, tried):
+    """Yields each trial with the numbers of its runs, of two trials at a time. Prints what was wrong, and raises that at the end."""
+    wrongs = refused = 0
+    with ProcessPoolExecutor(2) as pool:
+        for trial, results in zip(tried, pool.map(runs, tried)):
+            for counts, wrong in results:
+                print(*wrong, sep="\n", end="\n" * bool(wrong), file=sys.stderr, flush=True)
+                wrongs, refused = wrongs + len(wrong), refused + counts[0]
+            yield trial, [counts for counts, _ in results]
+    if wrongs or not refused:
+        raise Wrong(f"{wrongs} runs were wrong" if wrongs else "nothing was refused: the program has to be linked dynamically")

@@ -2,9 +2,11 @@
 import collections
 import re
 
+from office_tools.election import keying
 from office_tools.office import Office, Wrong
 
-PIECES = ["Ann", "O'Neill", 'Bob "jr"', "back\\slash", "\\", '"', "Zoë", "李小龙", "🗳", "a, b", " two  blanks ", "#7", "-Hyphen", "withdrawn", "\u0085", "0", "long" * 20]
+PIECES = ["Ann", "O'Neill", 'Bob "jr"', "back\\slash", "\\", '"', "Zoë", "李小龙", "🗳", "a, b", " two  blanks ", "#7", "-Hyphen", "withdrawn",
+          "\u0085", "0", "long" * 20]
 # The least and the most candidates of a ward, papers of it, and kinds of papers.
 SMALL, MIDDLING = [(2, 6), (0, 24), (1, 4)], [(5, 14), (20, 90), (10, 60)]
 CROWDED, LARGE = [(4, 30), (0, 120), (4, 120)], [(30, 30), (300, 900), (20, 900)]
@@ -48,25 +50,25 @@ class Ward:
 
     def voted(self, papers, kinds):
         """Returns the preferences of about so many papers, of about so many kinds: many are equal, so that many candidates tie."""
-        numbers, spread = list(self.names), self.chance.choice([1, 4, 12, 40])
-        favourites = self.chance.sample(numbers, len(numbers))
-        if self.chance.randrange(3) == 0:
-            level = min(len(numbers) - 1, self.chance.choice([len(numbers) // 2, self.seats, self.seats + 2]))
+        chance, numbers, spread = self.chance, list(self.names), self.chance.choice([1, 4, 12, 40])
+        favourites = chance.sample(numbers, len(numbers))
+        if chance.randrange(3) == 0:
+            level = min(len(numbers) - 1, chance.choice([len(numbers) // 2, self.seats, self.seats + 2]))
             return self.levelled(favourites[:level], favourites[level:], papers)
-        kinds = [self.chance.sample(numbers, self.chance.randint(1, len(numbers))) for _ in range(kinds)]
+        kinds = [chance.sample(numbers, chance.randint(1, len(numbers))) for _ in range(kinds)]
         for preferences in kinds:
             # The smaller the spread, the more often the favourites come first, and have surpluses.
-            preferences.sort(key=lambda number: favourites.index(number) + self.chance.randrange(spread))
-        if self.chance.randrange(2):
+            preferences.sort(key=lambda number: favourites.index(number) + chance.randrange(spread))
+        if chance.randrange(2):
             # To each voter belongs one who has two candidates the other way round: these two tie at all stages.
-            pair = self.chance.sample(numbers, 2)
+            pair = chance.sample(numbers, 2)
             other = dict(zip(pair, reversed(pair)))
             kinds += [[other.get(number, number) for number in preferences] for preferences in kinds]
         copies = papers // len(kinds)
-        return kinds * copies if copies and self.chance.randrange(2) else [self.chance.choice(kinds) for _ in range(papers)]
+        return kinds * copies if copies and chance.randrange(2) else [chance.choice(kinds) for _ in range(papers)]
 
     def levelled(self, level, others, papers):
-        """Returns the preferences by which some candidates have equally many votes at last, which came from the others at different stages."""
+        """Returns the preferences by which some candidates tie at last, with votes that came from the others at different stages."""
         return [
             list(dict.fromkeys([*self.chance.sample(others, self.chance.choice([0, 0, 0, 1])), number, *self.chance.sample(level, 1)]))
             for number in level for _ in range(papers // len(level))
@@ -91,12 +93,10 @@ class Ward:
 
 
 class PlayedWard:
-    """An office of the program, with a made-up ward."""
+    """An office of the program, with a made-up ward, and the lots that were drawn, by stage."""
 
     def __init__(self, folder, ward):
-        self.office, self.ward = Office(folder), ward
-        # What was drawn, by stage.
-        self.lots = {}
+        self.office, self.ward, self.lots = Office(folder), ward, {}
 
     def told(self, *words, refusals=""):
         """Returns what an order prints as bytes; or the text of its refusal, if it is of the form that may come."""
@@ -120,20 +120,17 @@ class PlayedWard:
             size = ward.chance.randint(1, 500)
             orders += self.keyed(batches.pop(), papers[:size])
             papers = papers[size:]
-        self.told("init")
-        self.office.replay(orders + [f"seal {number} --id s"] * ward.is_contested)
+        self.office.begin(orders + [f"seal {number} --id s"] * ward.is_contested)
 
     def keyed(self, batch, papers):
         """Returns the orders by which a batch is given out and keyed, and its doubtful papers are judged."""
-        blanks = [""] * (len(self.ward.names) - 1)
-        records = [["paper", *map(str, self.ward.names)]]
         first, second = self.ward.chance.sample(range(1, 1000), 2)
         orders = [f"batch {batch} {self.ward.number} {len(papers)} {first} {second} --id b{batch}"]
         orders += [f"import-keying {clerk} {batch} 1 {batch}.csv --id k{batch}" for clerk in (first, second)]
         for place, (marks, verdict) in enumerate(papers, 1):
-            records.append([str(place), *(marks if verdict is None else ["D", *blanks])])
             if verdict is not None:
                 word = f"reject:{verdict}" if verdict else f"accept:{','.join(marks)}"
                 orders.append(f"judge {batch} {place} {word} --id v{batch}-{place}")
-        self.office.write(f"{batch}.csv", map(",".join, records))
+        texts = [",".join(marks) if verdict is None else "D" for marks, verdict in papers]
+        self.office.write(f"{batch}.csv", keying(texts, self.ward.names))
         return orders

@@ -5,12 +5,13 @@ import shutil
 import sqlite3
 import subprocess
 import time
-from pathlib import Path
 
-from office_tools.office import TOWN, Office, Wrong, program, remove
+from office_tools.election import keying, ward_orders
+from office_tools.office import TOWN, Office, Wrong, program, remove, timed
 from office_tools.web import request, status
 
 CANDIDATES, SEATS, BATCH, RUNS = 10, 4, 500, 5
+COLUMNS = range(1, CANDIDATES + 1)
 WARD, QUAY, ADDED = "`ward` of another ward", "ward 9 2 Quay --id x", range(11, 21)
 SHEETS = 20
 
@@ -19,39 +20,51 @@ def run(words, wanted=0):
     """Runs a program to its end. Returns its seconds, and its peak of memory in MB."""
     began = time.perf_counter()
     process = subprocess.Popen(list(map(str, words)), stdout=subprocess.DEVNULL, stderr=subprocess.PIPE)
-    errors = process.stderr.read()
+    with process.stderr as file:
+        errors = file.read()
     _, code, usage = os.wait4(process.pid, 0)
     seconds = time.perf_counter() - began
     process.returncode = os.waitstatus_to_exitcode(code)
-    process.stderr.close()
     if process.returncode != wanted:
         raise Wrong(f"{' '.join(map(str, words))}: status {process.returncode}, {errors.decode()}")
     return seconds, usage.ru_maxrss / 1024
 
 
+def shortest(prepare, act, runs=RUNS):
+    """Returns the shortest time and the highest peak of what is done several times, each after its preparation."""
+    results = []
+    for _ in range(runs):
+        prepare()
+        results.append(act())
+    return min(seconds for seconds, _ in results), max(peak for _, peak in results)
+
+
+def copying(office, copy):
+    """Returns a function that copies the file anew."""
+    def copied():
+        remove(copy, f"{copy}-wal")
+        shutil.copyfile(office.folder / TOWN, copy)
+    return copied
+
+
 def best(office, words, wanted=0, runs=RUNS):
     """Returns the shortest time of several runs of an order, each on a copy of the file, and the highest peak."""
-    copy, results = office.folder / "timed.db", []
-    for _ in range(runs):
-        shutil.copyfile(office.folder / TOWN, copy)
-        results.append(run([program(), copy, *words], wanted))
-        remove(copy, f"{copy}-wal")
-    return min(seconds for seconds, _ in results), max(peak for _, peak in results)
+    copy = office.folder / "timed.db"
+    return shortest(copying(office, copy), lambda: run([program(), copy, *words], wanted), runs)
 
 
 def best_of(office, act):
     """Returns the shortest time in which the stock SQLite of Python does something with a copy of the file."""
-    copy, times = office.folder / "stock.db", []
-    for _ in range(RUNS):
-        shutil.copyfile(office.folder / TOWN, copy)
+    copy = office.folder / "stock.db"
+
+    def acted():
         began = time.perf_counter()
         base = sqlite3.connect(copy)
         with base:
             act(base)
         base.close()
-        times.append(time.perf_counter() - began)
-        remove(copy)
-    return min(times)
+        return time.perf_counter() - began, 0
+    return shortest(copying(office, copy), acted)[0]
 
 
 def papers(chance, count, doubtful="D"):
@@ -66,50 +79,52 @@ def papers(chance, count, doubtful="D"):
         yield ",".join(marks)
 
 
-def keying_file(path, texts):
-    """Writes the import file of a keying."""
-    lines = [f"{number},{'D' + ',' * (CANDIDATES - 1) if text == 'D' else text}" for number, text in enumerate(texts, 1)]
-    Path(path).write_text("\n".join([",".join(["paper", *map(str, range(1, CANDIDATES + 1))]), *lines, ""]), encoding="ascii")
+def nominated(folder, *batches):
+    """Returns an office with a ward in keying, with these batches."""
+    return Office(folder).begin(ward_orders(*batches, candidates=[f"Candidate {c}" for c in COLUMNS], seats=SEATS))
 
 
-def nominated(folder):
-    """Returns an office with a ward in keying, without batches."""
-    return Office(folder).begin([f"ward 7 {SEATS} Harbour --id w", *(f"candidate 7 {c} 'Candidate {c}' --id c{c}" for c in range(1, CANDIDATES + 1)), "close 7 --id n"])
+def keyed_batches(office, count, chance):
+    """Writes the import files of so many papers. Returns the orders by which two clerks key them, and the verdicts on doubtful ones."""
+    lines, judged = [], []
+    for batch in range(1, count // BATCH + 1):
+        texts, file = list(papers(chance, BATCH)), f"batch-{batch}.csv"
+        office.write(file, keying(texts, COLUMNS))
+        imports = (f"import-keying {clerk} {batch} 1 {office.folder / file} --id k{batch}" for clerk in (4, 9))
+        lines += [f"batch {batch} 7 {BATCH} 4 9 --id b{batch}", *imports]
+        judged += [f"judge {batch} {number} reject:3 --id v{batch}-{number}" for number, text in enumerate(texts, 1) if text == "D"]
+    return lines, judged
 
 
-def keep_batches(office, batches, doubtful="D", receipts=True):
+def keep_batches(office, batches, chance, doubtful="D", receipts=True):
     """Adds the rows that batches keyed alike by both clerks leave, by the stock SQLite; the program judges them at each opening."""
-    base, chance = sqlite3.connect(office.folder / TOWN), random.Random(7)
+    base = sqlite3.connect(office.folder / TOWN)
     with base:
         for batch in range(1, batches + 1):
             base.execute("INSERT INTO batch VALUES (?, 7, ?, 4, 9, 1)", (batch, BATCH))
             texts = list(papers(chance, BATCH, doubtful))
+            told = [(0, f"b{batch}", f"batch {batch}", f"batch {batch} added")]
             for clerk in (4, 9):
-                base.executemany("INSERT INTO keying VALUES (?, 1, ?, ?, ?)", [(batch, clerk, number, text) for number, text in enumerate(texts, 1)])
-            if receipts:
-                told = [(0, f"b{batch}", f"batch {batch}", f"batch {batch} added"), *((clerk, f"k{batch}", f"key {batch} 1", f"batch {batch} round 1 keyed") for clerk in (4, 9))]
-                base.executemany("INSERT INTO receipt VALUES (?, ?, ?, ?)", told)
+                rows = [(batch, clerk, number, text) for number, text in enumerate(texts, 1)]
+                base.executemany("INSERT INTO keying VALUES (?, 1, ?, ?, ?)", rows)
+                told.append((clerk, f"k{batch}", f"key {batch} 1", f"batch {batch} round 1 keyed"))
+            base.executemany("INSERT INTO receipt VALUES (?, ?, ?, ?)", told if receipts else [])
     base.close()
-    return chance
 
 
 def keyed_ward(folder, count):
     """Returns an office with a ward of so many papers, keyed by two clerks, and one more batch that nobody keyed; and the batch's number.
 
-    The file keying.csv is a keying of that batch. Of more than 20,000 papers the stock SQLite adds the rows, since the orders would take long.
+    The file keying.csv is a keying of that batch. The stock SQLite adds more than 20,000 papers, since the orders would take long.
     """
-    office, batches = nominated(folder), count // BATCH
-    file = office.folder / "keying.csv"
+    office, chance, new = nominated(folder), random.Random(7), count // BATCH + 1
     if count > 20000:
-        chance = keep_batches(office, batches)
+        keep_batches(office, new - 1, chance)
     else:
-        chance = random.Random(7)
-        for batch in range(1, batches + 1):
-            keying_file(file, papers(chance, BATCH))
-            office.replay([f"batch {batch} 7 {BATCH} 4 9 --id b{batch}", *(f"import-keying {clerk} {batch} 1 keying.csv --id k{batch}" for clerk in (4, 9))])
-    office.do("batch", batches + 1, 7, BATCH, 4, 9, "--id", f"b{batches + 1}")
-    keying_file(file, papers(chance, BATCH))
-    return office, batches + 1
+        office.replay(keyed_batches(office, count, chance)[0])
+    office.do("batch", new, 7, BATCH, 4, 9, "--id", f"b{new}")
+    office.write("keying.csv", keying(papers(chance, BATCH), COLUMNS))
+    return office, new
 
 
 def orders_in_keying(office, new):
@@ -117,33 +132,35 @@ def orders_in_keying(office, new):
     base = sqlite3.connect(office.folder / TOWN)
     batch, paper = base.execute("SELECT batch, paper FROM keying WHERE marks = 'D' LIMIT 1").fetchone()
     base.close()
-    names, script, keying = (office.folder / name for name in ("names.csv", "script.txt", "keying.csv"))
-    marks = [line.split(",", 1)[1] for line in keying.read_text().splitlines()[1:]]
-    imported = f"import-keying 4 {new} 1 {keying} --id x"
-    for name, line in [
-        ("`status` 7", "status 7"), ("`wards`", "wards"), ("`batches` 7", "batches 7"), ("`doubtful` 7", "doubtful 7"), ("`receipts`", "receipts"),
-        ("`papers` of a batch", "papers 1"), ("`index`", "index"), ("`journal`", "journal"), (WARD, QUAY), ("`batch`", f"batch {new + 1} 7 {BATCH} 4 9 --id x"),
-        (f"`import-keying` of {BATCH} papers", imported), ("`judge`", f"judge {batch} {paper} reject:3 --id x"),
-    ]:
+    names, script, file = (office.folder / name for name in ("names.csv", "script.txt", "keying.csv"))
+    marks = [line.split(",", 1)[1] for line in file.read_text().splitlines()[1:]]
+    for name, line in (
+        ("`status` 7", "status 7"), ("`wards`", "wards"), ("`batches` 7", "batches 7"), ("`doubtful` 7", "doubtful 7"),
+        ("`receipts`", "receipts"), ("`papers` of a batch", "papers 1"), ("`index`", "index"), ("`journal`", "journal"), (WARD, QUAY),
+        ("`batch`", f"batch {new + 1} 7 {BATCH} 4 9 --id x"),
+        (f"`import-keying` of {BATCH} papers", f"import-keying 4 {new} 1 {file} --id x"),
+        ("`judge`", f"judge {batch} {paper} reject:3 --id x"),
+    ):
         yield name, line.split(), 0
     yield f"`key` of {BATCH} papers", ["key", "4", str(new), "1", "--id", "x", *("D" if text[0] == "D" else text for text in marks)], 0
     yield "`again` (refused)", ["again", "1", "--id", "x"], 1
     office.replay(["ward 8 2 Quay --id w8", *(f"candidate 8 {c} 'Candidate {c}' --id q{c}" for c in range(1, 4))])
-    keying_file(office.folder / "other.csv", papers(random.Random(8), BATCH))
-    for clerk, file in ((4, "keying.csv"), (9, "other.csv")):
-        office.do("import-keying", clerk, new, 1, file, "--id", "k")
+    office.write("other.csv", keying(papers(random.Random(8), BATCH), COLUMNS))
+    for clerk, own in ((4, "keying.csv"), (9, "other.csv")):
+        office.do("import-keying", clerk, new, 1, own, "--id", "k")
     office.write(names.name, ["ward,candidate,name", *(f"8,{c},Candidate {c}" for c in ADDED)])
     office.write(script.name, [f"candidate 8 {c} 'Candidate {c}' --id r{c}" for c in ADDED])
-    for name, line in [
-        ("`candidate`", "candidate 8 11 Ann --id x"), (f"`import-candidates` of {len(ADDED)} candidates", f"import-candidates {names} --id x"),
-        ("`withdraw`", "withdraw 8 1 --id x"), ("`close`", "close 8 --id x"), ("`next` 7", "next 7"), ("`differences`", f"differences {new}"),
-        ("`again`", f"again {new} --id x"), ("`third`", f"third {new} 5 --id x"), (f"`replay` of {len(ADDED)} orders", f"replay {script}"),
-    ]:
+    for name, line in (
+        ("`candidate`", "candidate 8 11 Ann --id x"),
+        (f"`import-candidates` of {len(ADDED)} candidates", f"import-candidates {names} --id x"), ("`withdraw`", "withdraw 8 1 --id x"),
+        ("`close`", "close 8 --id x"), ("`next` 7", "next 7"), ("`differences`", f"differences {new}"), ("`again`", f"again {new} --id x"),
+        ("`third`", f"third {new} 5 --id x"), (f"`replay` of {len(ADDED)} orders", f"replay {script}"),
+    ):
         yield name, line.split(), 0
 
 
 def orders_in_count(office):
-    """Yields the same of each order on an office of agreed papers, which is counted and declared on the way; each stage under its number."""
+    """Yields the same of each order on an office of agreed papers, which is counted on the way; each stage under its number."""
     yield "`seal`", "seal 7 --id x".split(), 0
     office.do("seal", 7, "--id", "seal")
     yield WARD + ", sealed", QUAY.split(), 0
@@ -168,38 +185,32 @@ def orders_in_count(office):
 def agreed_ward(folder, count):
     """Returns an office with a ward of so many papers, all agreed, none doubtful, in keying."""
     office = nominated(folder)
-    keep_batches(office, count // BATCH, "1" + "," * (CANDIDATES - 1), receipts=False)
+    keep_batches(office, count // BATCH, random.Random(7), "1" + "," * (CANDIDATES - 1), receipts=False)
     return office
 
 
 def advance(office, stages=None, found=0):
     """Counts so many stages, or all, past those that are done. Returns how many were added."""
     done = 0
-    while (stages is None or done < stages) and office.run("advance", 7, "--id", f"s{found + done}").status == 0:
+    while done != stages and office.run("advance", 7, "--id", f"s{found + done}").status == 0:
         done += 1
     return done
 
 
-def sealed_ward(folder, count, stages):
-    """Returns an office of so many agreed papers with some stages done."""
-    office = agreed_ward(folder, count)
-    office.do("seal", 7, "--id", "seal")
-    advance(office, stages)
-    return office
-
-
 def asked(serving, target, body=""):
     """Returns the seconds that an answer with status 200 takes."""
-    began = time.perf_counter()
-    text = serving.ask(request(target, body=body))
+    text, seconds = timed(serving.ask, request(target, body=body))
     if status(text) != 200:
         raise Wrong(f"{target}: {text}")
-    return time.perf_counter() - began
+    return seconds
 
 
 def sheet_seconds(folder, count):
-    """Returns the seconds for a sheet of so many papers over HTTP, with three stages done, read anew each time, and answered from memory."""
-    with sealed_ward(folder, count, 3).serve().wait() as serving:
+    """Returns the seconds for a sheet of three stages of so many papers over HTTP, read anew each time, and answered from memory."""
+    office = agreed_ward(folder, count)
+    office.do("seal", 7, "--id", "seal")
+    advance(office, 3)
+    with office.serve().wait() as serving:
         anew = []
         for _ in range(SHEETS):
             # What is no read ends the answers from memory.
@@ -207,10 +218,3 @@ def sheet_seconds(folder, count):
             anew.append(asked(serving, "/wards/7/sheet"))
         again = [asked(serving, "/wards/7/sheet") for _ in range(SHEETS)]
     return sum(anew) / SHEETS, sum(again) / SHEETS
-
-
-def put_into(page, name, lines):
-    """Puts lines into a page, in the place of those that `tools/bench NAME --write` put there."""
-    marks = [f"<!-- made by tools/bench {name} -->", f"<!-- made by tools/bench {name}, to here -->"]
-    before, rest = page.read_text(encoding="utf-8").split(marks[0])
-    page.write_text("\n".join([before + marks[0], "", *lines, "", marks[1] + rest.split(marks[1], 1)[1]]), encoding="utf-8")

@@ -77,15 +77,27 @@ fn second(prefs: &Prefs, columns: Columns) -> Option<u8> {
     next_available(prefs.as_slice(), 1, &standing)
 }
 
-/// The second preference of a paper; the number of its mark fault or its rejection; None if it is doubtful.
-fn second_of(text: &[u8], columns: Columns) -> Option<u32> {
+/// The marks of a paper that isn't doubtful.
+fn marked(text: &[u8], columns: Columns) -> Result<Marked, Fail> {
+    match read(text, columns)? {
+        Keyed::Marked(marked) => Ok(marked),
+        Keyed::Doubtful => Err(Fail::from("doubtful")),
+    }
+}
+
+/// The number of a fault, 0 if there is none.
+fn fault_of(text: &[u8], columns: Columns) -> u32 {
     match read(text, columns) {
-        Ok(Keyed::Doubtful) => None,
-        Ok(Keyed::Marked(m)) => match judged(&m) {
-            Ok(prefs) => second(&prefs, columns).map(u32::from),
-            Err(why) => Some(why.number()),
-        },
-        Err(fault) => Some(fault.number()),
+        Ok(_) => 0,
+        Err(fault) => fault.number(),
+    }
+}
+
+/// The code of a rejection, 0 if there is none.
+fn rejection_of(m: &Marked) -> u32 {
+    match judged(m) {
+        Ok(_) => 0,
+        Err(why) => why.number(),
     }
 }
 
@@ -93,11 +105,12 @@ fn second_of(text: &[u8], columns: Columns) -> Option<u32> {
 fn papers_keep_their_calls(rt: HostRuntime) -> Result<(), Fail> {
     let columns = three();
     assert!(&rt; columns.has(2) && columns.len() == 3);
-    assert_eq!(&rt; second_of(b"2,1,3", columns), Some(1));
-    assert_eq!(&rt; second_of(b",,", columns), Some(1));
-    assert_eq!(&rt; second_of(b"100,,", columns), Some(3));
+    assert_eq!(&rt; fault_of(b"100,,", columns), 3);
+    let paper = marked(b",,", columns)?;
+    assert_eq!(&rt; rejection_of(&paper), 1);
+    let prefs = Prefs::from_slice(&[2, 1, 3]).ok_or("no ranking")?;
+    assert_eq!(&rt; second(&prefs, columns), Some(1));
     let text = text_of(rt.alloc(), &Keyed::Doubtful)?;
     assert_eq!(&rt; text.as_str(), "D");
-    assert!(&rt; Prefs::from_slice(&[2, 2]).is_none());
     Ok(())
 }

@@ -12,7 +12,7 @@ from office_tools.wards_timed import run
 
 CRATE = ROOT / "crates/made_up_ward"
 PROGRAM = CRATE / "out/made_up_ward"
-LISTS, RUNS = 2000, 3
+LISTS, RUNS, BOOKS = 2000, 3, ("parcels", "bundles")
 
 
 def best(*words):
@@ -20,23 +20,14 @@ def best(*words):
     return min(run([PROGRAM, *words]) for _ in range(RUNS))
 
 
-def printed(*words):
-    return subprocess.run([PROGRAM, *map(str, words)], capture_output=True, text=True, check=True).stdout
-
-
-def arguments(parser):
-    parser.add_argument("papers", nargs="*", type=int, default=[1000000], help="default 1000000")
-
-
-def main(given):
+def main(*papers: int):
     subprocess.run(["rt", "run", "--", "10"], cwd=CRATE, stdout=subprocess.DEVNULL, stderr=subprocess.DEVNULL, check=True)
     table = Table("papers", "lists", "book", "seconds", "MB", "a stage, ms")
-    for size in given.papers:
-        for lists in (0, LISTS):
-            told = {book: printed(size, book, lists) for book in ("parcels", "bundles")}
-            for book, text in told.items():
-                (whole, peak), (first, _) = best(size, book, lists), best(size, book, lists, 1)
-                each = (whole - first) / max(1, int(text.split()[-2]) - 1) * 1000
-                table.row(size, lists or "scattered", book, f"{whole:.2f}", f"{peak:.0f}", f"{each:.2f}")
-            if len(set(told.values())) != 1:
-                raise Wrong("the books differ")
+    for size, lists in ((size, lists) for size in papers or [1000000] for lists in (0, LISTS)):
+        told = [subprocess.run([PROGRAM, str(size), book, str(lists)], capture_output=True, text=True, check=True).stdout for book in BOOKS]
+        for book, text in zip(BOOKS, told):
+            (whole, peak), (first, _) = best(size, book, lists), best(size, book, lists, 1)
+            each = (whole - first) / max(1, int(text.split()[-2]) - 1) * 1000
+            table.row(size, lists or "scattered", book, f"{whole:.2f}", f"{peak:.0f}", f"{each:.2f}")
+        if told[0] != told[1]:
+            raise Wrong("the books differ")

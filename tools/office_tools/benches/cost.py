@@ -1,9 +1,10 @@
 """Measures every order on wards of several sizes, and prints the table of docs/COST.md.
 
-The ward has 10 candidates and 4 seats, and its papers come from a fixed generator. Each order is given on a copy of the file: the shortest of
-five runs counts, with the highest peak of memory. Next to them are what the stock SQLite of Python takes to read all rows, to add
-those of a keying, and those of the first stage. Keyings over HTTP, and the same by orders, are measured up to 10,000 papers. Take the
-machine for a quarter of an hour.
+The ward has 10 candidates and 4 seats, and its papers come from a fixed generator. Each order is given on a copy of the file: the
+shortest of five runs counts, with the highest peak of memory. Next to them are what the stock SQLite of Python takes to read all rows, to
+add those of a keying, and those of the first stage. Keyings over HTTP, the same by orders, and a whole election as one script are measured
+up to 10,000 papers. PAPERS are multiples of 500, by default 1000 10000 100000; --write puts the table into docs/COST.md. Take the machine
+for a quarter of an hour.
 """
 import json
 import os
@@ -14,14 +15,19 @@ import subprocess
 import time
 from pathlib import Path
 
+from office_tools.election import keying
 from office_tools.office import ROOT, TOWN, Wrong, ended, program, remove, temporary_folder
-from office_tools.tables import Table
+from office_tools.tables import Table, put_into
 from office_tools.tries import older_office
-from office_tools.wards_timed import (BATCH, RUNS, advance, agreed_ward, asked, best, best_of, keyed_ward, keying_file, nominated, orders_in_count, orders_in_keying,
-                                      papers, put_into, run, sheet_seconds)
+from office_tools.wards_timed import (
+    BATCH, COLUMNS, advance, agreed_ward, asked, best, best_of, keyed_batches, keyed_ward, nominated, orders_in_count, orders_in_keying,
+    papers, run, sheet_seconds, shortest)
 from office_tools.web import request
 
-MOST_OVER_HTTP = 10000
+MOST_OVER_HTTP, STOCK = 10000, "its rows added by the stock sqlite"
+ONCE = [f"a keying of {BATCH} papers over HTTP, the office open", "the same by an order, in a ward that is keyed so",
+        "`replay` of a whole election"]
+SHEETS = ["a sheet of 3 stages over HTTP, the office open", "the same asked again, answered from memory"]
 
 
 def read_all(base):
@@ -39,12 +45,15 @@ def in_keying(folder, count):
     for what, words, wanted in orders_in_keying(office, new):
         yield what, *best(office, words, wanted)
         if "import-keying" in what:
-            yield "its rows added by the stock sqlite", best_of(office, lambda base: base.executemany("INSERT INTO keying VALUES (?, 1, 4, ?, ?)", rows)), None
+            yield STOCK, best_of(office, lambda base: base.executemany("INSERT INTO keying VALUES (?, 1, 4, ?, ?)", rows)), None
     town, made, old = (office.folder / name for name in (TOWN, "made.db", "older.db"))
-    yield "`init`", *shortest(lambda: remove(made, f"{made}-wal"), lambda: run([program(), made, "init"]))
-    yield "`copy`", *shortest(lambda: remove(made, f"{made}-wal"), lambda: run([program(), town, "copy", made]))
-    yield "`migrate`", *shortest(lambda: make_older(town, old), lambda: run([program(), old, "migrate"]))
-    yield "`serve`, until its first answer", *shortest(lambda: None, lambda: served_once(office))
+    for what, prepare, act in (
+        ("`init`", lambda: remove(made, f"{made}-wal"), lambda: run([program(), made, "init"])),
+        ("`copy`", lambda: remove(made, f"{made}-wal"), lambda: run([program(), town, "copy", made])),
+        ("`migrate`", lambda: make_older(town, old), lambda: run([program(), old, "migrate"])),
+        ("`serve`, until its first answer", lambda: None, lambda: served_once(office)),
+    ):
+        yield what, *shortest(prepare, act)
 
 
 def in_count(folder, count):
@@ -58,7 +67,7 @@ def in_count(folder, count):
         stages = stage[2]
         if stage[1] == "1":
             yield "`advance`, the first stage", *best(office, words, wanted)
-            yield "its rows added by the stock sqlite", best_of(office, adding_first_stage(office, folder)), None
+            yield STOCK, best_of(office, adding_first_stage(office, folder)), None
         elif stage[1] == "4":
             yield "`advance`", *best(office, words, wanted)
     yield stages
@@ -90,15 +99,6 @@ def make_older(town, path):
     base.close()
 
 
-def shortest(prepare, act):
-    """Returns the shortest time and the highest peak of what is done several times, each after its preparation."""
-    results = []
-    for _ in range(RUNS):
-        prepare()
-        results.append(act())
-    return min(seconds for seconds, _ in results), max(peak for _, peak in results)
-
-
 def served_once(office):
     """Returns the seconds until `serve` has opened the office and answered a request, and its peak of memory."""
     began = time.perf_counter()
@@ -108,21 +108,29 @@ def served_once(office):
         return time.perf_counter() - began, serving.memory()
 
 
-def keying_seconds(folder, count):
+def keyings(folder, count):
     """Returns the seconds of each keying of a ward over HTTP, and by an order."""
-    office, chance = nominated(folder / "keyed"), random.Random(7)
-    batches = dict(enumerate((list(papers(chance, BATCH)) for _ in range(count // BATCH)), 1))
-    office.replay(f"batch {number} 7 {BATCH} 4 9 --id b{number}" for number in batches)
+    chance, numbers = random.Random(7), range(1, count // BATCH + 1)
+    office = nominated(folder, *((number, BATCH, 4, 9) for number in numbers))
+    texts = {number: list(papers(chance, BATCH)) for number in numbers}
     ordered = office.copied(folder / "ordered")
-    for number, texts in batches.items():
-        keying_file(ordered.folder / f"{number}.csv", texts)
+    for number in numbers:
+        ordered.write(f"{number}.csv", keying(texts[number], COLUMNS))
     with office.serve().wait() as serving:
-        bodies = {number: json.dumps({"id": f"k{number}", "round": 1, "papers": texts}) for number, texts in batches.items()}
+        bodies = {number: json.dumps({"id": f"k{number}", "round": 1, "papers": texts[number]}) for number in numbers}
         over_http = sum(asked(serving, f"/clerks/4/batches/{number}/keying", body) for number, body in bodies.items())
     began = time.perf_counter()
-    for number in batches:
+    for number in numbers:
         ordered.do("import-keying", 4, number, 1, f"{number}.csv", "--id", f"k{number}")
-    return over_http / len(batches), (time.perf_counter() - began) / len(batches)
+    return over_http / len(numbers), (time.perf_counter() - began) / len(numbers)
+
+
+def whole_election(folder, count):
+    """Returns the seconds and the memory of a script that has all orders of an election after its nominations."""
+    office = nominated(folder)
+    keyed, judged = keyed_batches(office, count, random.Random(7))
+    office.write("election.txt", [*keyed, *judged, "seal 7 --id s", "count 7 --id a", "declare 7 --id d"])
+    return best(office, ["replay", office.folder / "election.txt"])
 
 
 def measured(count):
@@ -130,23 +138,17 @@ def measured(count):
     with temporary_folder() as folder:
         rows = list(in_keying(folder / "keying", count))
         *counted, stages = in_count(folder / "count", count)
-        over_http, by_order = keying_seconds(folder / "http", count) if count <= MOST_OVER_HTTP else (None, None)
-        anew, again = sheet_seconds(folder / "sheets", count)
-        rows += [*counted, (f"a keying of {BATCH} papers over HTTP, the office open", over_http, None), ("the same by an order, in a ward that is keyed so", by_order, None),
-                 ("a sheet of 3 stages over HTTP, the office open", anew, None), ("the same asked again, answered from memory", again, None)]
-        return rows, stages
+        once = [(None, None)] * 3
+        if count <= MOST_OVER_HTTP:
+            once = [*((seconds, None) for seconds in keyings(folder / "http", count)), whole_election(folder / "whole", count)]
+        once += [(seconds, None) for seconds in sheet_seconds(folder / "sheets", count)]
+        return [*rows, *counted, *((what, *found) for what, found in zip(ONCE + SHEETS, once))], stages
 
 
 def cell(seconds, peak):
     if seconds is None:
         return "–"
     return f"{seconds * 1000:.0f} ms" + (f", {peak:.0f} MB" if peak is not None else "")
-
-
-def processor():
-    """Returns the name of the machine's processor, as Linux gives it."""
-    names = re.findall(r"^model name\s*: (.*)$", Path("/proc/cpuinfo").read_text(encoding="utf-8"), re.M)
-    return f"{names[0] if names else 'a processor without a name'}, {os.cpu_count()} of it"
 
 
 def check_all_are_there(rows):
@@ -157,18 +159,15 @@ def check_all_are_there(rows):
         raise Wrong(f"no line for {', '.join(sorted(missing))}")
 
 
-def arguments(parser):
-    parser.add_argument("--write", action="store_true", help="put the table into docs/COST.md")
-    parser.add_argument("papers", nargs="*", type=int, default=[1000, 10000, 100000], help="multiples of 500; default 1000 10000 100000")
-
-
-def main(given):
-    columns = [measured(count) for count in given.papers]
+def main(*papers: int, write=False):
+    sizes = papers or (1000, 10000, 100000)
+    columns = [measured(count) for count in sizes]
     check_all_are_there(columns[0][0])
-    table = Table("Order", *(f"{count:,} papers, {stages} stages" for count, (_, stages) in zip(given.papers, columns)))
+    table = Table("Order", *(f"{count:,} papers, {stages} stages" for count, (_, stages) in zip(sizes, columns)))
     for rows in zip(*(rows for rows, _ in columns)):
         table.row(rows[0][0], *(cell(seconds, peak) for _, seconds, peak in rows))
+    names = re.findall(r"^model name\s*: (.*)$", Path("/proc/cpuinfo").read_text(encoding="utf-8"), re.M)
     table.show("")
-    table.show(f"Measured on: {processor()}.")
-    if given.write:
+    table.show(f"Measured on: {names[0] if names else 'a processor without a name'}, {os.cpu_count()} of it.")
+    if write:
         put_into(ROOT / "docs/COST.md", "cost", table.lines)

@@ -1,10 +1,11 @@
 """Times clients that are served side by side, and orders that are handed over to `serve`, and prints the tables of docs/COST.md.
 
 Twenty clerks key batches of 500 papers next to 300 silent connections, as fast as they are answered, or with a pause of a second on
-average; before it one at a time. 1, 20 and 200 clients ask again and again for a clerk's work; next to it stands what `ab` counts, if it is
-there. A sheet of a tenth of the papers is read anew, and answered from memory. Each order on a ward of so many papers is given alone,
-and handed over, each on a copy of the file, as the shortest of several runs. Memory is that of `serve` at its start, and with 512 connections
-that have each sent half of a body of 1 MiB. With fewer than 10,000 papers all numbers are small: to see that it works.
+average; before it one at a time. 1, 20 and 200 clients ask again and again for a clerk's work; next to it stands what `ab` counts, if it
+is there. A sheet of a tenth of the papers is read anew, and answered from memory. Each order on a ward of so many papers is given alone,
+and handed over, each on a copy of the file, as the shortest of several runs. Memory is that of `serve` at its start, and with 512
+connections that have each sent half of a body of 1 MiB. PAPERS is a multiple of 500; with fewer than 10,000 all numbers are small, to see
+that it works. With --write the tables go into docs/COST.md.
 """
 import json
 import random
@@ -13,9 +14,10 @@ import subprocess
 import time
 from concurrent.futures import ThreadPoolExecutor
 
-from office_tools.office import ROOT, TOWN, Office, Wrong, temporary_folder
-from office_tools.tables import Table
-from office_tools.wards_timed import BATCH, RUNS, agreed_ward, asked, best, keyed_ward, nominated, orders_in_count, orders_in_keying, papers, program, put_into, run, sheet_seconds
+from office_tools.office import ROOT, TOWN, Office, Wrong, program, temporary_folder
+from office_tools.tables import Table, put_into
+from office_tools.wards_timed import (
+    BATCH, RUNS, agreed_ward, asked, best, keyed_ward, nominated, orders_in_count, orders_in_keying, papers, run, sheet_seconds, shortest)
 from office_tools.web import HERE
 
 CLERKS, SILENT, CROWD, HALF = range(1, 21), 300, 512, 524288
@@ -35,14 +37,11 @@ class Sizes:
 
 def office_to_key(folder, rounds):
     """Returns an office with batches for each of the clerks, and the bodies of their keyings: a list for each clerk."""
-    office, chance, orders = nominated(folder), random.Random(7), []
-    bodies = {clerk: [] for clerk in CLERKS}
-    for number in range(1, 3 * len(CLERKS) * rounds + 1):
-        clerk = number % len(CLERKS) + 1
-        orders.append(f"batch {number} 7 {BATCH} {clerk} 999 --id b{number}")
+    chance, bodies = random.Random(7), {clerk: [] for clerk in CLERKS}
+    clerks = {number: number % len(CLERKS) + 1 for number in range(1, 3 * len(CLERKS) * rounds + 1)}
+    for number, clerk in clerks.items():
         bodies[clerk].append((number, json.dumps({"id": f"k{number}", "round": 1, "papers": list(papers(chance, BATCH))})))
-    office.replay(orders)
-    return office, bodies
+    return nominated(folder, *((number, BATCH, clerk, 999) for number, clerk in clerks.items())), bodies
 
 
 def keyed(serving, works, pause):
@@ -84,7 +83,6 @@ def closed(lines):
 
 
 def print_keyings(folder, sizes):
-    """Prints the table of keyings."""
     office, bodies = office_to_key(folder, sizes.rounds)
     part = [{clerk: works[turn * sizes.rounds:(turn + 1) * sizes.rounds] for clerk, works in bodies.items()} for turn in range(3)]
     with office.serve().wait() as serving:
@@ -93,10 +91,11 @@ def print_keyings(folder, sizes):
         rows = [("one clerk at a time", lone),
                 (f"{len(CLERKS)} clerks beside {SILENT} silent connections", keyed_beside_silent(serving, part[1], 0)),
                 ("the same, each with a pause of a second on average", keyed_beside_silent(serving, part[2], 1))]
-    table = Table(f"Keyings of {BATCH} papers", "keyings", "the middle one, ms", "the slowest, ms", "beside the slowest of one clerk", "a second")
+    heads = ("keyings", "the middle one, ms", "the slowest, ms", "beside the slowest of one clerk", "a second")
+    table = Table(f"Keyings of {BATCH} papers", *heads)
     for what, (times, seconds) in rows:
-        slowest = f"{times[-1] / lone[0][-1]:.1f} times"
-        table.row(what, len(times), f"{1000 * times[len(times) // 2]:.1f}", f"{1000 * times[-1]:.1f}", slowest, f"{len(times) / seconds:.0f}")
+        middle, slowest = (f"{1000 * took:.1f}" for took in (times[len(times) // 2], times[-1]))
+        table.row(what, len(times), middle, slowest, f"{times[-1] / lone[0][-1]:.1f} times", f"{len(times) / seconds:.0f}")
     return table
 
 
@@ -127,7 +126,6 @@ def counted_by_ab(port, clients, seconds):
 
 
 def print_requests(folder, sizes):
-    """Prints the table of requests."""
     office, _ = office_to_key(folder, sizes.rounds)
     table = Table("Clients who ask for a clerk's work", "answers a second", "as `ab` counts")
     with office.serve().wait() as serving:
@@ -138,7 +136,6 @@ def print_requests(folder, sizes):
 
 
 def print_sheets(folder, sizes):
-    """Prints the table of sheets."""
     anew, again = sheet_seconds(folder, sizes.sheet)
     table = Table(f"A sheet of {sizes.sheet:,} papers over HTTP, 3 stages done", "a second", "ms")
     table.row("read anew each time", f"{1 / anew:.0f}", f"{1000 * anew:.1f}")
@@ -146,20 +143,15 @@ def print_sheets(folder, sizes):
     return table
 
 
-def handed_over(office, words, wanted, runs):
-    """Returns the shortest of several runs of an order, each handed over to an office that is served, a copy of the file."""
-    times = []
-    for _ in range(runs):
+def both(folder, words, wanted, runs):
+    """Returns how long an order takes alone, and handed over to an office that is served, each time a copy of the file."""
+    office = Office(folder)
+
+    def handed_over():
         copy = office.copied(office.folder / "served")
         with copy.serve().wait():
-            times.append(run([program(), copy.folder / TOWN, *words], wanted)[0])
-    return min(times)
-
-
-def both(folder, words, wanted, runs):
-    """Returns how long an order takes alone, and handed over."""
-    office = Office(folder)
-    return best(office, words, wanted, max(RUNS, runs))[0], handed_over(office, words, wanted, runs)
+            return run([program(), copy.folder / TOWN, *words], wanted)
+    return best(office, words, wanted, max(RUNS, runs))[0], shortest(lambda: None, handed_over, runs)[0]
 
 
 def row(table, name, alone, served):
@@ -203,7 +195,6 @@ def half_sent(serving):
 
 
 def print_memory(folder, sizes):
-    """Prints the table of memory."""
     with office_to_key(folder, sizes.rounds)[0].serve().wait() as serving:
         asked(serving, WORK)
         alone, (peak, gone) = serving.memory(), half_sent(serving)
@@ -214,15 +205,10 @@ def print_memory(folder, sizes):
     return table
 
 
-def arguments(parser):
-    parser.add_argument("--write", action="store_true", help="put the tables into docs/COST.md")
-    parser.add_argument("papers", nargs="?", type=int, default=100000, help="a multiple of 500; default 100000")
-
-
-def main(given):
-    sizes, lines = Sizes(given.papers), []
+def main(papers=100000, *, write=False):
+    sizes, lines = Sizes(papers), []
     for part in (print_keyings, print_requests, print_sheets, print_orders, print_memory):
         with temporary_folder() as folder:
             lines += [*part(folder / "office", sizes).lines, ""]
-    if given.write:
+    if write:
         put_into(ROOT / "docs/COST.md", "serving", lines[:-1])

@@ -6,7 +6,7 @@ fault and fault that docs/ELECTION.md shows as printed has a link there to its o
 import re
 
 from office_tools.office import ROOT
-from releasing.book import slug
+from office_tools.releasing.book import slug
 
 GUIDE = ROOT / "docs/ELECTION.md"
 FENCED = re.compile(r"^(```|~~~)([^\n]*)\n(.*?)^\1[^\n]*$", re.S | re.M)
@@ -15,12 +15,7 @@ PRINTED = re.compile(r"^(refused \d+|file fault \d+|fault \d+)\b", re.M)
 
 
 def pages():
-    """Returns the pages of the repository."""
     return [ROOT / name for name in ("README.md", "CHANGELOG.md", "CONTRIBUTING.md")] + sorted((ROOT / "docs").glob("*.md"))
-
-
-def without_code(text):
-    return re.sub(r"`[^`\n]*`", "code", FENCED.sub("", text))
 
 
 def headings(page):
@@ -34,30 +29,26 @@ def headings(page):
 
 
 def lost(page):
-    """Yields the links of a page that lead nowhere."""
-    for target in LINK.findall(without_code(page.read_text(encoding="utf-8"))):
+    """Yields the links of a page that lead nowhere; what is in code isn't one."""
+    for target in LINK.findall(re.sub(r"`[^`\n]*`", "code", FENCED.sub("", page.read_text(encoding="utf-8")))):
         file, _, heading = target.partition("#")
+        to = (page.parent / file).resolve() if file else page
         if re.match(r"[a-z]+:", target):
             continue
-        to = (page.parent / file).resolve() if file else page
         if not to.exists():
-            yield f"no file of {target}"
+            yield f"{page.name}: no file of {target}"
         elif heading and (to.suffix != ".md" or heading not in headings(to)):
-            yield f"no heading of {target}"
+            yield f"{page.name}: no heading of {target}"
 
 
 def unlinked():
     """Yields what the guide shows as printed, and has no link for."""
     text = GUIDE.read_text(encoding="utf-8")
-    printed = {found for block in FENCED.findall(text) for found in PRINTED.findall(block[2])}
-    linked = {target.partition("#")[2] for target in LINK.findall(text) if target.startswith("REFUSALS.md#")}
-    for found in sorted(printed):
+    linked = [target.removeprefix("REFUSALS.md#") for target in LINK.findall(text) if target.startswith("REFUSALS.md#")]
+    for found in sorted({found for block in FENCED.findall(text) for found in PRINTED.findall(block[2])}):
         if not any(heading.startswith(found.replace(" ", "-") + "-") for heading in linked):
-            yield f"no link for {found}"
+            yield f"{GUIDE.name}: no link for {found}"
 
 
-def main(_):
-    faults = [f"{page.name}: {fault}" for page in pages() for fault in lost(page)]
-    faults += [f"{GUIDE.name}: {fault}" for fault in unlinked()]
-    print(*faults, sep="\n", end="\n" * bool(faults))
-    return 1 if faults else 0
+def main():
+    return [*(fault for page in pages() for fault in lost(page)), *unlinked()]

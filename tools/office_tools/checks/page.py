@@ -12,14 +12,13 @@ import re
 import subprocess
 import tempfile
 
-from office_tools.evening import CODES, made_up_office
+from office_tools.election import CODES, evening_office
 from office_tools.office import ROOT, needs, temporary_folder
 from office_tools.web import basic, request
 
-SOURCES = ROOT / "crates/keying_page/src"
 CONSTANT = re.compile(r'const (\w+): &str = r#"(.*?)"#;', re.DOTALL)
 FORMAT = re.compile(r'format!\(in alloc;\s*"(.*?)"\s*\)', re.DOTALL)
-CLERK = 4
+PARTS, CLERK = ("script", "style"), 4
 FORBIDDEN = {
     "a text from elsewhere": r"""(?i)\b(src|href)\s*=(?!\s*["']?data:,)|@import|url\(|https?://""",
     "markup made of a text": r"innerHTML|outerHTML|insertAdjacentHTML|document\.write|\beval\b|new Function|DOMParser",
@@ -27,39 +26,23 @@ FORBIDDEN = {
 }
 
 
-def constants():
-    """Returns {name: text} of each text constant."""
-    return {name: text for path in sorted(SOURCES.rglob("*.rt")) for name, text in CONSTANT.findall(path.read_text("utf-8"))}
-
-
-def made_by(function, texts):
-    """Returns the text that a function makes by its `format!`, from the texts that it names."""
-    source = next(text for text in (path.read_text("utf-8") for path in sorted(SOURCES.rglob("*.rt"))) if f"fn {function}(" in text)
-    form = FORMAT.search(source, source.index(f"fn {function}(")).group(1)
-    return re.sub(r"\{(\w+)\}", lambda found: texts[found[1]], re.sub(r"\\\n\s*", "", form))
-
-
-def style():
-    return constants()["STYLE"]
-
-
-def script():
-    return made_by("script_text", constants())
-
-
-def page_of_sources():
-    """Returns the page, byte for byte."""
-    return made_by("page_around", {**constants(), "style": style(), "script": script()})
-
-
 def hash_source(text):
     """Returns how a policy names a text that may be used."""
     return "'sha256-" + base64.b64encode(hashlib.sha256(text.encode()).digest()).decode() + "'"
 
 
-def policy():
-    """Returns the policy of the page."""
-    return made_by("policy_text", {"script": hash_source(script()), "style": hash_source(style())})
+def page_of_sources():
+    """Returns the page, byte for byte, and its policy."""
+    source = "\n".join(path.read_text("utf-8") for path in sorted((ROOT / "crates/keying_page/src").rglob("*.rt")))
+    texts = dict(CONSTANT.findall(source))
+
+    def made_by(function, texts):
+        """Returns the text that a function makes by its `format!`, from the texts that it names."""
+        form = FORMAT.search(source, source.index(f"fn {function}("))[1]
+        return re.sub(r"\{(\w+)\}", lambda found: texts[found[1]], re.sub(r"\\\n\s*", "", form))
+
+    parts = {"style": texts["STYLE"], "script": made_by("script_text", texts)}
+    return made_by("page_around", {**texts, **parts}), made_by("policy_text", {name: hash_source(text) for name, text in parts.items()})
 
 
 def inner(page, name):
@@ -71,27 +54,8 @@ def inner(page, name):
 def wrong_in(page):
     """Returns what is wrong in a page."""
     wrong = [] if page.isascii() else ["the page isn't ASCII"]
-    wrong += [f"the page has not one {name}" for name in ("script", "style") if inner(page, name) is None]
-    return wrong + [f"{what}: {found.group(0)!r}" for what, pattern in FORBIDDEN.items() for found in re.finditer(pattern, page)]
-
-
-def served():
-    """Returns the page and the policy that a program serves to a clerk."""
-    with temporary_folder() as folder, made_up_office(folder).serve(0, "--codes", "codes.txt") as serving:
-        answer = serving.ask(request(f"/clerks/{CLERK}/", f"Authorization: {basic(CLERK, CODES[CLERK])}")).decode()
-    head, _, page = answer.partition("\r\n\r\n")
-    return page, re.search(r"(?i)^content-security-policy: (.*?)\r?$", head, re.M)[1]
-
-
-def wrong_served():
-    """Returns what of a served page and its policy is otherwise than in the sources."""
-    page, told = served()
-    if page != page_of_sources():
-        return ["the page that is served isn't that of the sources"]
-    directives = dict(directive.split(" ", 1) for directive in told.split("; "))
-    wanted = {f"{name}-src": hash_source(inner(page, name) or "") for name in ("script", "style")}
-    wrong = [f"the policy that is served has {name} {directives.get(name)}, and not {source}" for name, source in wanted.items() if directives.get(name) != source]
-    return wrong or ([] if told == policy() else [f"the policy that is served isn't that of the sources: {told}"])
+    wrong += [f"the page has not one {name}" for name in PARTS if inner(page, name) is None]
+    return wrong + [f"{what}: {found[0]!r}" for what, pattern in FORBIDDEN.items() for found in re.finditer(pattern, page)]
 
 
 def wrong_script(page):
@@ -104,10 +68,20 @@ def wrong_script(page):
     return [f"the script can't be parsed: {checked.stderr}"] if checked.returncode else []
 
 
-def main(_):
-    page = page_of_sources()
-    wrong = wrong_in(page) or wrong_script(page)
-    if not wrong and os.environ.get("COUNT_OFFICE"):
-        wrong = wrong_served()
-    print(*wrong, sep="\n", end="\n" * bool(wrong))
-    return 1 if wrong else 0
+def wrong_served(page, policy):
+    """Returns what of the page that a program serves to a clerk, and of its policy, is otherwise than in the sources."""
+    with temporary_folder() as folder, evening_office(folder).serve(0, "--codes", "codes.txt") as serving:
+        answer = serving.ask(request(f"/clerks/{CLERK}/", f"Authorization: {basic(CLERK, CODES[CLERK])}")).decode()
+    head, _, served = answer.partition("\r\n\r\n")
+    told = re.search(r"(?i)^content-security-policy: (.*?)\r?$", head, re.M)[1]
+    if served != page:
+        return ["the page that is served isn't that of the sources"]
+    directives = dict(directive.split(" ", 1) for directive in told.split("; "))
+    wrong = [f"the policy that is served has another {name}: {directives.get(f'{name}-src')}" for name in PARTS
+             if directives.get(f"{name}-src") != hash_source(inner(served, name))]
+    return wrong or ([] if told == policy else [f"the policy that is served isn't that of the sources: {told}"])
+
+
+def main():
+    page, policy = page_of_sources()
+    return wrong_in(page) or wrong_script(page) or (wrong_served(page, policy) if os.environ.get("COUNT_OFFICE") else [])

@@ -1,9 +1,10 @@
 """Counts the long sentences of each page; with --comments those in the comments of each crate.
 
-Without pages it reads README.md, CHANGELOG.md, CONTRIBUTING.md and each page of docs/, but the table that a script makes. A sentence ends at
-a full stop, a question mark or an exclamation mark before a blank; so does the cell of a table, an item of a list, and a heading.
+It reads the pages ONLY, or README.md, CHANGELOG.md, CONTRIBUTING.md and each page of docs/, but the table that a script makes. A sentence
+ends at a full stop, a question mark or an exclamation mark before a blank; so does the cell of a table, an item of a list, and a heading.
 Sentences of fewer than 4 words aren't counted, as most cells and headings. Code in fences isn't read, and what is in backticks counts as
 one word. Each page has a share that it may have, in a hundred. No sentence of a comment in src/ and specs/ may have more than 40 words.
+--show N prints the N longest sentences of each.
 """
 import itertools
 import re
@@ -12,14 +13,12 @@ from pathlib import Path
 from office_tools.checks.links import pages
 from office_tools.office import ROOT
 
-MOST = 30
-LEAST = 4
-FOR_OFFICERS = {"README.md"} | {f"docs/{name}.md" for name in ("ELECTION", "TELLERS", "AGENTS", "RULES", "REFUSALS", "GLOSSARY", "INSTALLING")}
-FOR_ENGINEERS = {f"docs/{name}.md" for name in ("FORMATS", "ORDERS", "IMPORTS", "SHEETS", "BALLOTS", "HTTP")}
-ALLOWED = {**{name: 5 for name in FOR_OFFICERS}, **{name: 10 for name in FOR_ENGINEERS}, "docs/PROOFS.md": 20}
-OTHERS = 15
-MADE = "PROOFS-TABLE.md"
-MOST_IN_COMMENTS = 40
+MOST, LEAST, MOST_IN_COMMENTS = 30, 4, 40
+FOR_OFFICERS = ("ELECTION", "TELLERS", "AGENTS", "RULES", "REFUSALS", "GLOSSARY", "INSTALLING")
+FOR_ENGINEERS = ("FORMATS", "ORDERS", "IMPORTS", "SHEETS", "BALLOTS", "HTTP")
+ALLOWED = {f"docs/{name}.md": share for names, share in ((FOR_OFFICERS, 5), (FOR_ENGINEERS, 10), (["PROOFS"], 20)) for name in names}
+ALLOWED["README.md"] = 5
+OTHERS, MADE = 15, "PROOFS-TABLE.md"
 COMMENT = re.compile(r"\s*(?:///|//!|//|--)(?: (.*)|)$")
 
 
@@ -70,23 +69,16 @@ def shown(what, all_of_them, most, allowed, number):
 
 
 def sentences_in_comments(crate):
-    """Returns the sentences in the comments of a crate."""
     sources = sorted(crate.glob("src/**/*.rt")) + sorted(crate.glob("specs/**/*.antt"))
     return [it for path in sources for page in comments(path.read_text(encoding="utf-8")) for it in sentences(page)]
 
 
-def arguments(parser):
-    parser.add_argument("--show", type=int, default=0, metavar="N", help="prints the N longest sentences of each")
-    parser.add_argument("--comments", action="store_true")
-    parser.add_argument("pages", nargs="*", metavar="PAGE", type=Path)
-
-
-def main(given):
-    if given.comments:
+def main(*only: Path, show=0, comments=False):
+    if comments:
         crates = sorted((ROOT / "crates").iterdir())
-        return max(shown(crate.name, sentences_in_comments(crate), MOST_IN_COMMENTS, 0, given.show) for crate in crates)
+        return max(shown(crate.name, sentences_in_comments(crate), MOST_IN_COMMENTS, 0, show) for crate in crates)
     status = 0
-    for page in [path.resolve() for path in given.pages] or [page for page in pages() if page.name != MADE]:
+    for page in [path.resolve() for path in only] or [page for page in pages() if page.name != MADE]:
         name = str(page.relative_to(ROOT)) if page.is_relative_to(ROOT) else str(page)
-        status |= shown(name, list(sentences(page.read_text(encoding="utf-8"))), MOST, ALLOWED.get(name, OTHERS), given.show)
+        status |= shown(name, list(sentences(page.read_text(encoding="utf-8"))), MOST, ALLOWED.get(name, OTHERS), show)
     return status

@@ -1,21 +1,20 @@
 """Compares what the pages of docs/ name of the sources with them.
 
-docs/PROOFS-TABLE.md is made from the sources: --write writes it anew. docs/PROOFS.md is written by hand. Each row of its table | crate | promise
-| where | names in its last column functions of the crate and, after a colon, clauses of each of them, in parts like `Office::run`:
+docs/PROOFS-TABLE.md is made from the sources: --write writes it anew. docs/PROOFS.md is written by hand. Each row of its table | crate |
+promise | where | names in its last column functions of the crate and, after a colon, clauses of each of them, in parts like `Office::run`:
 `headline`, `answers`; `order`: `ok`. In its text `opened`, `told` of `Store::open_from` names clauses of a function, and each word in
-backticks is one of the sources, or a wrong body; so in lines of docs/RULES.md, ORDERS.md, SHEETS.md or BALLOTS.md that begin with `- Definition`
-or `The definition`, and in rows of docs/GLOSSARY.md. Each path like `Rattle.votes.specs.Units.IsQuota` has its definition there. Each
-refusal and fault of the sources has its heading in docs/REFUSALS.md. Each edit's old text is just once in its file.
+backticks is one of the sources, or a wrong body; so in lines of docs/RULES.md, ORDERS.md, SHEETS.md or BALLOTS.md that begin with
+`- Definition` or `The definition`, and in rows of docs/GLOSSARY.md. Each path like `Rattle.votes.specs.Units.IsQuota` has its definition
+there. Each refusal and fault of the sources has its heading in docs/REFUSALS.md. Each edit's old text is just once in its file.
 """
 import difflib
 import re
 
 from office_tools import proofs_table, sources
+from office_tools.office import ROOT
 
-HAND = sources.ROOT / "docs/PROOFS.md"
-DEFINED = [sources.ROOT / f"docs/{name}.md" for name in ("RULES", "ORDERS", "SHEETS", "BALLOTS", "GLOSSARY")]
-MESSAGES = sources.ROOT / "docs/REFUSALS.md"
-MADE = sources.ROOT / "docs/PROOFS-TABLE.md"
+HAND, MESSAGES, MADE = (ROOT / f"docs/{name}.md" for name in ("PROOFS", "REFUSALS", "PROOFS-TABLE"))
+DEFINED = [ROOT / f"docs/{name}.md" for name in ("RULES", "ORDERS", "SHEETS", "BALLOTS", "GLOSSARY")]
 # What the program prints before a number, the file of definitions, and the definitions of the number and of the text after it.
 NUMBERED = [
     ("refused {}: ", "register/specs/Reasons.antt", "reason_number", "reason_words"),
@@ -41,11 +40,11 @@ def clauses_by_function(crate):
     return found
 
 
-def rows_of(text):
-    for number, line in enumerate(text.splitlines(), 1):
-        cells = [cell.strip() for cell in re.split(r"(?<!\\)\|", line)[1:-1]]
-        if len(cells) == 3 and cells[0] != "crate" and not set(cells[0]) <= set("-: "):
-            yield number, [cells[0].strip("`")] + cells[1:]
+def row_of(line):
+    """Returns the cells of a row of the table, if the line is one: its crate, the promise, and where."""
+    cells = [cell.strip() for cell in re.split(r"(?<!\\)\|", line)[1:-1]]
+    is_row = len(cells) == 3 and cells[0] != "crate" and not set(cells[0]) <= set("-: ")
+    return [cells[0].strip("`"), *cells[1:]] if is_row else None
 
 
 def missing_of_row(crate, where):
@@ -63,7 +62,7 @@ def missing_of_row(crate, where):
 
 def is_defined(crate, path):
     """Returns whether a path below a crate's specs/ is that of a file, or of a definition in one."""
-    below = sources.ROOT / "crates" / crate / "specs" / path.replace(".", "/")
+    below = ROOT / "crates" / crate / "specs" / path.replace(".", "/")
     if below.with_suffix(".antt").is_file():
         return True
     file = below.parent.with_suffix(".antt")
@@ -72,32 +71,27 @@ def is_defined(crate, path):
 
 def missing_messages():
     """Yields the refusals, file faults and faults whose headings are missing, and the headings that none has."""
-    headings = re.findall(r"^### `(.*)`$", MESSAGES.read_text(), re.M)
-    wanted = []
+    headings, wanted = re.findall(r"^### `(.*)`$", MESSAGES.read_text(), re.M), []
     for front, file, number, text in NUMBERED:
-        of = (sources.ROOT / "crates" / file).read_text()
+        of = (ROOT / "crates" / file).read_text()
         texts = dict(re.findall(rf'^{text} \(?(\w+)[^=\n]*= codes "([^"]*)"$', of, re.M))
-        numbers = re.findall(rf"^{number} \(?(\w+)[^=\n]*= (\d+)$", of, re.M)
-        wanted += [front.format(own) + texts[name] for name, own in numbers]
-    for message in wanted:
-        if sum(heading == message or message[-1] == " " and heading.startswith(message) for heading in headings) != 1:
-            yield f"no heading {message}"
-    for heading in headings:
-        if not any(heading == message or message[-1] == " " and heading.startswith(message) for message in wanted):
-            yield f"no message of the sources is {heading}"
+        wanted += [front.format(own) + texts[name] for name, own in re.findall(rf"^{number} \(?(\w+)[^=\n]*= (\d+)$", of, re.M)]
+
+    def is_of(heading, message):
+        return heading == message or message[-1] == " " and heading.startswith(message)
+
+    yield from (f"no heading {message}" for message in wanted if sum(is_of(heading, message) for heading in headings) != 1)
+    yield from (f"no message of the sources is {heading}" for heading in headings if not any(is_of(heading, message) for message in wanted))
 
 
 def missing_of_text(line, clauses, words):
     """Yields what a line that is no row names and no crate has."""
     for names, functions in OF.findall(line):
         for function in quoted(functions):
-            for clause in quoted(names):
-                if function in clauses and clause not in clauses[function]:
-                    yield f"no clause {clause} of {function}"
+            yield from (f"no clause {clause} of {function}" for clause in quoted(names) if clause not in clauses.get(function, [clause]))
     for name in quoted(line):
-        path = re.fullmatch(r"Rattle\.(\w+)\.specs\.([\w.]+)", name)
-        if path:
-            if not is_defined(path.group(1), path.group(2)):
+        if path := re.fullmatch(r"Rattle\.(\w+)\.specs\.([\w.]+)", name):
+            if not is_defined(*path.groups()):
                 yield f"no file or definition of {name}"
         elif re.fullmatch(r"[\w:.]+", name) and not set(re.findall(r"\w+", name)) <= words:
             yield f"no {name} in the sources"
@@ -105,7 +99,7 @@ def missing_of_text(line, clauses, words):
 
 def named_in(crates):
     """Returns all functions of the crates with their clauses, and all words of their sources."""
-    clauses, words = {}, set(re.findall(r"\w+", (sources.ROOT / "crates.txt").read_text()))
+    clauses, words = {}, set(re.findall(r"\w+", (ROOT / "crates.txt").read_text()))
     for crate in crates:
         for title, names in clauses_by_function(crate).items():
             clauses.setdefault(title, set()).update(names)
@@ -116,36 +110,25 @@ def named_in(crates):
 
 def faults_of(crates):
     """Yields what the pages that are written by hand name and the sources don't have."""
-    known = {crate.name: crate for crate in crates}
-    clauses, words = named_in(crates)
-    rows = {number: cells for number, cells in rows_of(HAND.read_text())}
+    known, (clauses, words) = {crate.name: crate for crate in crates}, named_in(crates)
     for page in [HAND, *DEFINED]:
         for number, line in enumerate(page.read_text().splitlines(), 1):
-            faults = []
-            if page is HAND and number in rows:
-                name, _, where = rows[number]
-                faults = missing_of_row(known[name], where) if name in known else [f"no crate {name}"]
+            faults, row = [], row_of(line)
+            if page is HAND and row:
+                faults = missing_of_row(known[row[0]], row[2]) if row[0] in known else [f"no crate {row[0]}"]
             elif page is HAND or line.startswith(("- Definition", "The definition")) or page.stem == "GLOSSARY" and line.startswith("|"):
                 faults = missing_of_text(line, clauses, words)
             yield from (f"{page.name}:{number}: {fault}" for fault in faults)
 
 
-def arguments(parser):
-    parser.add_argument("--write", action="store_true", help="write docs/PROOFS-TABLE.md anew")
-
-
-def main(given):
+def main(*, write=False):
     crates = sources.crates()
     page = proofs_table.page(crates)
-    if given.write:
+    if write:
         MADE.write_text(page)
     there = MADE.read_text() if MADE.is_file() else ""
-    for line in list(difflib.unified_diff(there.splitlines(), page.splitlines(), lineterm="", n=0))[2:]:
-        if line[0] in "+-":
-            print(f"{MADE.name}: {'wanted' if line[0] == '+' else 'is'}: {line[1:]}")
-    faults = [line for crate in crates for line in proofs_table.misplaced(crate)] + list(faults_of(crates))
+    signs, differing = {"+": "wanted", "-": "is"}, list(difflib.unified_diff(there.splitlines(), page.splitlines(), lineterm="", n=0))[2:]
+    faults = [f"{MADE.name}: {signs[line[0]]}: {line[1:]}" for line in differing if line[0] in signs]
+    faults += [line for crate in crates for line in proofs_table.misplaced(crate)] + list(faults_of(crates))
     faults += [f"{MESSAGES.name}: {fault}" for fault in missing_messages()]
-    if there != page:
-        faults.append("run tools/check proofs --write")
-    print(*faults, sep="\n", end="\n" * bool(faults))
-    return 1 if faults else 0
+    return faults + ["run tools/check proofs --write"] * (there != page)

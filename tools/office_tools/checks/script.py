@@ -1,8 +1,8 @@
 """Runs the script of the page on which clerks key, without a browser, and checks what it shows, sends and stores.
 
 A clerk is denied, lists batches, keys papers and sends them, and the office accepts the keying, refuses it, fails or doesn't answer. Then
-faults are planted in the page, one at a time: the test has to notice each. It needs `node`. FILE is a page as a program serves it; without one
-it is the page of crates/keying_page.
+faults are planted in the page, one at a time: the test has to notice each. It needs `node`. FILE is a page as a program serves it; without
+one it is the page of crates/keying_page.
 """
 import subprocess
 import tempfile
@@ -12,13 +12,9 @@ from office_tools.checks.page import page_of_sources
 from office_tools.office import ROOT, needs
 
 
-def arguments(parser):
-    parser.add_argument("file", nargs="?", type=Path, metavar="FILE")
-
-
-def main(given):
+def main(file: Path = None):
     needs("node")
     with tempfile.NamedTemporaryFile("w", suffix=".html") as page:
-        page.write(given.file.read_text(encoding="utf-8") if given.file else page_of_sources())
+        page.write(file.read_text(encoding="utf-8") if file else page_of_sources()[0])
         page.flush()
         return subprocess.run(["node", ROOT / "tools/office_tools/page_script.js", page.name], check=False).returncode

@@ -23,29 +23,17 @@ def uses_of(text):
     found = {}
 
     def add(prefix, tree):
-        for part in re.split(r",(?![^{]*\})", tree):
-            part = part.strip()
-            group = re.fullmatch(r"([\w:]*?)(?:::)?\{(.*)\}", part, re.S)
-            if group:
-                add(prefix + [p for p in group.group(1).split("::") if p], group.group(2))
+        for part in map(str.strip, re.split(r",(?![^{]*\})", tree)):
+            if group := re.fullmatch(r"([\w:]*?)(?:::)?\{(.*)\}", part, re.S):
+                add(prefix + group[1].split("::"), group[2])
             elif part:
                 path, _, other = part.partition(" as ")
-                words = prefix + [p for p in path.strip().split("::") if p]
+                words = [word for word in prefix + path.strip().split("::") if word]
                 found[other.strip() or words[-1]] = words
 
-    for match in re.finditer(r"^\s*(?:pub(?:\([^)]*\))? )?use ([^;]*);", text, re.M):
-        add([], match.group(1))
+    for tree in re.findall(r"^\s*(?:pub(?:\([^)]*\))? )?use ([^;]*);", text, re.M):
+        add([], tree)
     return found
-
-
-def matched_with(body, name):
-    """Returns the match of a chain out of whose Some, Ok or Err a variable comes."""
-    pattern = r"\b(?:Some|Ok|Err)\((?:ref |mut )?" + name + r"\)"
-    told = re.search(r"\blet " + pattern + r" = " + CHAIN, body)
-    for found in re.finditer(r"\bmatch " + CHAIN + r" \{", body):
-        if re.search(pattern, body[found.end():sources.after_bracket(body, found.end() - 1)]):
-            told = found
-    return told
 
 
 class Calls:
@@ -64,9 +52,6 @@ class Calls:
                 inside = re.sub(r"pub\([^)]*\)", "", text[match.end():sources.after_bracket(text, match.end() - 1) - 1])
                 for name, kind in re.findall(r"\b(\w+)(?::|\()\s*([^,\n]+)", inside):
                     self.parts[(match.group(1), name)] = kind
-            for name, kinds in re.findall(r"\bstruct (\w+)(?:<[^()]*>)?\(([^;]*)\)[^;()]*;", text):
-                for place, kind in enumerate(re.split(r",(?![^<]*>)", kinds)):
-                    self.parts[(name, str(place))] = kind
 
     def methods(self, name, owner=None):
         return [f for f in self.crate.functions if f.name == name and f.owners and (owner is None or owner in f.owners)]
@@ -100,14 +85,13 @@ class Calls:
         given = self.given_in_a_tuple(function, name)
         if given:
             return self.type_in(given.head.rpartition("->")[2], given)
-        first = re.search(r"\blet (?:mut )?" + name + r" = " + CHAIN + r"\??;", function.body) or matched_with(function.body, name)
+        first = re.search(r"\blet (?:mut )?" + name + r" = " + CHAIN + r"\??;", function.body)
         return self.type_of(function, first.group(1)) if first and not first.group(1).startswith(name) else UNKNOWN
 
     def given_in_a_tuple(self, function, name):
         """Returns the function that gives `name` in a `let (name, other) = (first(..), second(..))`, where it is of the same file."""
         for names, values in re.findall(r"\blet \(([\w, ]+)\) = \(((?:[^()]|\([^()]*\))*)\);", function.body):
-            values = re.findall(r"(\w+)\([^()]*\)", values)
-            names = [word.strip() for word in names.split(",")]
+            names, values = re.findall(r"\w+", names), re.findall(r"(\w+)\([^()]*\)", values)
             if name in names and len(values) == len(names):
                 value = values[names.index(name)]
                 return next((f for f in self.crate.functions if f.name == value and f.path == function.path and not f.owners), None)
@@ -142,7 +126,8 @@ class Calls:
         last = words[-1] if words else "crate"
         if self.methods(name, last):
             return self.methods(name, last)
-        places = {"crate": ["lib", "main"], "self": function.module[-1:], "super": function.module[-2:-1] or ["lib", "main"]}.get(last, [last])
+        tops = ["lib", "main"]
+        places = {"crate": tops, "self": function.module[-1:], "super": function.module[-2:-1] or tops}.get(last, [last])
         outside = words and words[0] not in ("crate", "self", "super") and not any(words[0] in f.module for f in self.crate.functions)
         return [] if outside else [f for f in self.crate.functions if f.name == name and not f.owners and f.module[-1] in places]
 
@@ -184,16 +169,12 @@ def self_calls(crate):
             yield function, through, bound.group() if bound else None
 
 
-def arguments(parser):
-    parser.add_argument("crates", nargs="*", metavar="CRATE", help="all, if none is named")
-
-
-def main(given):
+def main(*only):
     crates = {crate.name: crate for crate in sources.crates()}
-    if unknown := set(given.crates) - set(crates):
+    if unknown := set(only) - set(crates):
         raise Wrong(f"no such crate: {', '.join(sorted(unknown))}")
     status = 0
-    for name in given.crates or crates:
+    for name in only or crates:
         for function, through, bound in self_calls(crates[name]):
             how = f" through {', '.join(through)}" if through else ""
             print(f"crates/{name}/{function.path}:{function.line}: {function.title} calls itself{how}: {bound or 'no bound is stated'}")

@@ -13,11 +13,11 @@ import struct
 import subprocess
 import time
 
-from office_tools.office import TOWN, Office, Wrong, free_port, has_ipv6, open_many_files, program, temporary_folder
+from office_tools.office import TOWN, Office, Wrong, free_port, is_free, open_many_files, program, temporary_folder
 from office_tools.tables import Table
 from office_tools.web import ask, request
 
-HERE = {"127.0.0.1": socket.AF_INET, "::1": socket.AF_INET6}
+V4, V6, BOTH = socket.AF_INET, socket.AF_INET6, ["127.0.0.1", "::1"]
 TAKEN = (3, "", "fault 107: socket or output\n")
 ASKS, WORK = request("/clerks/4/work", "Host: localhost"), b'{"clerk":4,"work":[]}'
 SECONDS, PATIENCE = 20, 10
@@ -39,7 +39,8 @@ def keep_from_ipv6():
     """Has each `socket(AF_INET6, ..)` of this process fail with EAFNOSUPPORT, as systemd's RestrictAddressFamilies does."""
     call = {"x86_64": 41, "aarch64": 198}[platform.machine()]
     # Instructions of a seccomp filter: load the call's number; if it is `socket`, load its first argument; if that is AF_INET6, fail.
-    code = [(0x20, 0, 0, 0), (0x15, 0, 3, call), (0x20, 0, 0, 16), (0x15, 0, 1, socket.AF_INET6), (0x06, 0, 0, 0x00050000 | 97), (0x06, 0, 0, 0x7FFF0000)]
+    fail, allow = 0x00050000 | 97, 0x7FFF0000
+    code = [(0x20, 0, 0, 0), (0x15, 0, 3, call), (0x20, 0, 0, 16), (0x15, 0, 1, V6), (0x06, 0, 0, fail), (0x06, 0, 0, allow)]
     text = ctypes.create_string_buffer(b"".join(struct.pack("HBBI", *line) for line in code))
     filter_ = ctypes.create_string_buffer(struct.pack("H6xQ", len(code), ctypes.addressof(text)))
     libc = ctypes.CDLL(None, use_errno=True)
@@ -51,51 +52,46 @@ def few_files():
     resource.setrlimit(resource.RLIMIT_NOFILE, (DESCRIPTORS, DESCRIPTORS))
 
 
-def bound(family, port, host=None, alone=True):
-    """Returns a listener of another process at an address, or at all addresses."""
-    listener = socket.socket(family)
-    listener.setsockopt(socket.SOL_SOCKET, socket.SO_REUSEADDR, 1)
-    if family == socket.AF_INET6:
-        listener.setsockopt(socket.IPPROTO_IPV6, socket.IPV6_V6ONLY, alone)
-    try:
-        listener.bind((host or ("" if family == socket.AF_INET else "::"), port))
-        listener.listen()
-    except OSError:
-        listener.close()
-        raise
-    return listener
+def bound(family, host, port, alone=True):
+    """Returns a listener of another process at an address; "" stands for all, of both families if the family isn't alone."""
+    return socket.create_server((host, port), family=family, dualstack_ipv6=not alone)
 
 
-def is_good(text):
-    return text.startswith(b"HTTP/1.1 200 OK\r\n") and text.endswith(WORK)
+def is_good(port, host="127.0.0.1", seconds=60):
+    """Returns whether a client gets its answer there soon."""
+    began = time.monotonic()
+    with contextlib.suppress(OSError):
+        text = ask(port, ASKS, host, seconds)
+        return text.startswith(b"HTTP/1.1 200 OK\r\n") and text.endswith(WORK) and time.monotonic() - began < seconds
+    return False
 
 
 def answers_alike(office):
     """Asks at each address, and by name."""
     with office.serve().wait() as serving:
-        texts = {ask(serving.port, ASKS, host) for host in ("127.0.0.1", "::1", "localhost")}
-    return len(texts) == 1 and is_good(texts.pop())
+        hosts = ("127.0.0.1", "::1", "localhost")
+        return len({ask(serving.port, ASKS, host) for host in hosts}) == 1 and all(is_good(serving.port, host) for host in hosts)
 
 
 def holds(office):
     """Tries to take an address of the port."""
     with office.serve().wait() as serving:
-        for family, host in [(socket.AF_INET, "127.0.0.1"), (socket.AF_INET6, "::1"), (socket.AF_INET, None), (socket.AF_INET6, None)]:
+        for family, host in ((V4, "127.0.0.1"), (V6, "::1"), (V4, ""), (V6, "")):
             with contextlib.suppress(OSError):
-                bound(family, serving.port, host).close()
+                bound(family, host, serving.port).close()
                 return False
-        return is_good(ask(serving.port, ASKS, "localhost"))
+        return is_good(serving.port, "localhost")
 
 
 def taken(family, host, alone=True):
     """Has another process take the port first: `serve` ends, and a client reaches the other process alone."""
     def tried(office):
         port = free_port()
-        with bound(family, port, host, alone) as other:
+        with bound(family, host, port, alone) as other:
             if office.serve(port=port).ended(SECONDS) != TAKEN:
                 return False
-            for here, its_family in HERE.items():
-                if host not in (None, here) or (host is None and alone and its_family != family):
+            for here, its_family in (("127.0.0.1", V4), ("::1", V6)):
+                if host not in ("", here) or (host == "" and alone and its_family != family):
                     with contextlib.suppress(ConnectionRefusedError):
                         socket.create_connection((here, port), timeout=1).close()
                         return False
@@ -107,83 +103,59 @@ def taken(family, host, alone=True):
     return tried
 
 
-@contextlib.contextmanager
-def silent(host, port, count):
-    """Opens connections that send nothing."""
-    with contextlib.ExitStack() as lines:
-        for _ in range(count):
-            line = lines.enter_context(socket.socket(HERE[host]))
-            line.setblocking(False)
-            line.connect_ex((host, port))
-        yield
-
-
-def is_answered_soon(host, port):
-    began = time.monotonic()
-    with contextlib.suppress(OSError):
-        return is_good(ask(port, ASKS, host, PATIENCE)) and time.monotonic() - began < PATIENCE
-    return False
-
-
-def crowded(crowd, other):
-    """Has a crowd at one address, and a client at the other."""
+def crowded(host, others, count, **how):
+    """Has a crowd of silent connections at one address, and clients at others."""
     def tried(office):
-        with office.serve().wait() as serving, silent(crowd, serving.port, CROWD):
-            return all(is_answered_soon(other, serving.port) for _ in range(3))
-    return tried
-
-
-def few_descriptors(host):
-    """Has more silent connections than the program may open."""
-    def tried(office):
-        with office.serve(preexec_fn=few_files).wait() as serving, silent(host, serving.port, SILENT):
-            time.sleep(0.5)
-            return is_answered_soon("127.0.0.1", serving.port) and is_answered_soon("::1", serving.port)
+        with office.serve(**how).wait() as serving, contextlib.ExitStack() as lines:
+            for _ in range(count):
+                line = lines.enter_context(socket.socket(V6 if ":" in host else V4))
+                line.setblocking(False)
+                line.connect_ex((host, serving.port))
+            time.sleep(0.5 if how else 0)
+            return all(is_good(serving.port, other, PATIENCE) for other in others)
     return tried
 
 
 def kept_from_ipv6(office):
     with office.serve(preexec_fn=keep_from_ipv6).wait() as serving:
-        return is_good(ask(serving.port, ASKS))
+        return is_good(serving.port)
 
 
 def without_ipv6(office):
     """Serves where there is no [::1]. Returns None if such a network can't be made here."""
     if not all(map(shutil.which, ("unshare", "ip", "curl"))):
         return None
-    run = subprocess.run(["unshare", "--net", "sh", "-c", WITHOUT_IPV6, "sh", program(), TOWN], cwd=office.folder, capture_output=True, timeout=SECONDS)
+    words = ["unshare", "--net", "sh", "-c", WITHOUT_IPV6, "sh", program(), TOWN]
+    run = subprocess.run(words, cwd=office.folder, capture_output=True, timeout=SECONDS)
     if b"unshare" in run.stderr or run.returncode == 77:
         return None
     return run.returncode == 0 and run.stdout == WORK and run.stderr == b""
 
 
-def cases():
-    """Returns (what is tried, a function of the office)."""
-    if has_ipv6():
-        yield from [
-            ("127.0.0.1, [::1] and localhost answer alike", answers_alike),
-            ("nobody else takes the port meanwhile", holds),
-            ("another process has [::1]", taken(socket.AF_INET6, "::1")),
-            ("another process has 127.0.0.1", taken(socket.AF_INET, "127.0.0.1")),
-            ("another process has all addresses of IPv6", taken(socket.AF_INET6, None)),
-            ("another process has all addresses of IPv4", taken(socket.AF_INET, None)),
-            ("another process has all addresses", taken(socket.AF_INET6, None, False)),
-            (f"{CROWD} silent connections at 127.0.0.1, and a client at [::1]", crowded("127.0.0.1", "::1")),
-            (f"{CROWD} silent connections at [::1], and a client at 127.0.0.1", crowded("::1", "127.0.0.1")),
-            (f"{DESCRIPTORS} descriptors, {SILENT} silent connections at 127.0.0.1", few_descriptors("127.0.0.1")),
-            (f"{DESCRIPTORS} descriptors, {SILENT} silent connections at [::1]", few_descriptors("::1")),
-        ]
-    yield "a machine without [::1]", without_ipv6
-    yield "a program that is kept from IPv6", kept_from_ipv6
+# What is tried, and a function of the office; all but the last two need [::1].
+CASES = [
+    ("127.0.0.1, [::1] and localhost answer alike", answers_alike),
+    ("nobody else takes the port meanwhile", holds),
+    ("another process has [::1]", taken(V6, "::1")),
+    ("another process has 127.0.0.1", taken(V4, "127.0.0.1")),
+    ("another process has all addresses of IPv6", taken(V6, "")),
+    ("another process has all addresses of IPv4", taken(V4, "")),
+    ("another process has all addresses", taken(V6, "", False)),
+    (f"{CROWD} silent connections at 127.0.0.1, and a client at [::1]", crowded("127.0.0.1", ["::1"] * 3, CROWD)),
+    (f"{CROWD} silent connections at [::1], and a client at 127.0.0.1", crowded("::1", ["127.0.0.1"] * 3, CROWD)),
+    (f"{DESCRIPTORS} descriptors, {SILENT} silent connections at 127.0.0.1", crowded("127.0.0.1", BOTH, SILENT, preexec_fn=few_files)),
+    (f"{DESCRIPTORS} descriptors, {SILENT} silent connections at [::1]", crowded("::1", BOTH, SILENT, preexec_fn=few_files)),
+    ("a machine without [::1]", without_ipv6),
+    ("a program that is kept from IPv6", kept_from_ipv6),
+]
 
 
-def main(_):
+def main():
     open_many_files()
     table, wrong = Table("What is tried", "As it must be", "Seconds"), 0
-    for what, tried in cases():
+    for what, tried in CASES if is_free(0, "::1") else CASES[-2:]:
         with temporary_folder() as folder:
-            office = Office(folder).begin()
-            began = time.monotonic()
+            office, began = Office(folder).begin(), time.monotonic()
             try:
                 found = tried(office)
             except (OSError, Wrong, subprocess.TimeoutExpired):

@@ -1,6 +1,6 @@
 """Gives the checker ballots and sheets from anyone, and compares what it prints with the count of `tools/try recount`.
 
-docs/HOSTILE.md says what the checker must print. The program is the one that CHECK_COUNT names, or that of `./count-office - check`.
+docs/HOSTILE.md says what the checker must print. It is the one that CHECK_COUNT names, or that of `./count-office - check`.
 """
 import collections
 import os
@@ -10,11 +10,9 @@ import shutil
 import subprocess
 import sys
 import tempfile
-import time
-from pathlib import Path
 
-from office_tools.command import numbers
-from office_tools.office import ROOT, Wrong, temporary_folder
+from office_tools.damage import damaged
+from office_tools.office import Wrong, program, temporary_folder, timed
 from office_tools.tables import Table
 from office_tools.tries.recount import Ballots, Count, Unreadable
 
@@ -27,6 +25,7 @@ OURS = ["Ward N", "Rejected 1: N, 2: N, 3: N, 4: N, 5: N", "Lot at stage N: N"]
 NEAR = ["Ward", "Ward N N", "WardN", "Ward-N", "Wards N", "Warden", "the Ward N", "2017 Ward N", "Rejected N", "Rejections N",
         "Rejected 1: N, 2: N, 3: N, 4: N", "Rejected papers", "Lot N", "Lot at Stage N: N", "Lots at stage N: N", "Lottery", "a lot of N"]
 SIGNS = ["# ", "#", "## ", "#\t", "#: ", "#-", '# "', "#\u00a0", "#\u200b"]
+DAMAGE = [b"\n", b"\r", b"0", b"-", b"#", b'"', b"\\", b"=", b"\0", b"\xff", b"99999999999999999999"]
 NO_RANKS = ["x", "=", "2=", "=1", "99", "-1", "1==2"]
 
 
@@ -40,9 +39,7 @@ def made_up(chance):
     gone = {c for c in range(1, highest - 1) if chance.random() < 0.1}
     standing = [c for c in range(1, highest + 1) if c not in gone]
     seats = chance.randint(1, max(1, len(standing) - 1))
-    lists = set()
-    for _ in range(chance.randint(0, 40)):
-        lists.add(tuple(chance.sample(standing, chance.randint(1, len(standing)))))
+    lists = {tuple(chance.sample(standing, chance.randint(1, len(standing)))) for _ in range(chance.randint(0, 40))}
     lines = [f"{highest} {seats}"] + ([" ".join(f"-{c}" for c in sorted(gone))] if gone else [])
     lines += [f"{chance.choice((1, 1, 2, 3, 50))} {' '.join(map(str, named))} 0" for named in sorted(lists)] + ["0"]
     lines += [quoted("withdrawn" if c in gone else chance.choice(NAMES)) for c in range(1, highest + 1)]
@@ -63,9 +60,7 @@ def counted(lines, chance):
 
 def as_others_write(lines, chance):
     """Returns the same ballots in other words: lines of papers in another order and parted, remarks, blanks and line ends."""
-    end = lines.index("0")
-    start = 2 if lines[1].startswith("-") else 1
-    papers = []
+    end, start, papers = lines.index("0"), 2 if lines[1].startswith("-") else 1, []
     for line in lines[start:end]:
         number, named = line.split(" ", 1)
         share = chance.randint(0, int(number))
@@ -111,38 +106,17 @@ def shared(lines, chance):
 
 def changed(sheet, chance):
     """Returns a sheet with a byte, a figure or a line that is another, missing or moved."""
-    way = chance.randrange(4)
-    lines = sheet.splitlines(keepends=True)
+    way, lines = chance.randrange(4), sheet.splitlines(keepends=True)
     if way == 0:
         at = chance.randrange(len(sheet))
         return sheet[:at] + bytes([sheet[at] ^ (1 << chance.randrange(8))]) + sheet[at + 1:]
     if way == 1:
         at = chance.choice([m.start() for m in re.finditer(rb"[0-9]", sheet)])
         return sheet[:at] + b"%d" % ((sheet[at] - 48 + 1) % 10) + sheet[at + 1:]
-    at = chance.randrange(len(lines))
-    line = lines.pop(at)
+    line = lines.pop(chance.randrange(len(lines)))
     if way == 2:
         lines.insert(chance.randrange(len(lines) + 1), line)
     return b"".join(lines)
-
-
-def damaged(content, chance):
-    """Returns bytes that were ballots."""
-    content = bytearray(content)
-    for _ in range(chance.choice((1, 1, 2, 8))):
-        at, to = sorted(chance.randrange(len(content) + 1) for _ in range(2))
-        to = min(to, at + chance.choice((1, 3, 30)))
-        way = chance.randrange(4)
-        if way == 0:
-            content[at:to] = bytes(chance.randrange(256) for _ in range(to - at))
-        elif way == 1:
-            del content[at:to]
-        elif way == 2:
-            content[at:at] = content[at:to]
-        else:
-            content[at:at] = chance.choice((b"\n", b"\r", b"0", b"-", b"#", b'"', b"\\", b"=", b"\0", b"\xff", b"99999999999999999999"))
-        content = content or bytearray(b"0")
-    return bytes(content)
 
 
 EXTREME = {
@@ -166,15 +140,13 @@ class Checker:
     """The checker, and how many of its answers were wrong."""
 
     def __init__(self, folder):
-        named = os.environ.get("CHECK_COUNT")
-        self.words = [named] if named else [ROOT / "count-office", "-", "check"]
-        self.files, self.wrong = [Path(folder) / name for name in ("ballots", "text")], 0
+        self.files, self.wrong = [folder / name for name in ("ballots", "text")], 0
 
     def __call__(self, ballots, text):
         for path, content in zip(self.files, (ballots, text)):
             path.write_bytes(content)
         try:
-            ended = subprocess.run([*self.words, *self.files], capture_output=True, stdin=subprocess.DEVNULL, timeout=SECONDS)
+            ended = subprocess.run([program("CHECK_COUNT"), *self.files], capture_output=True, stdin=subprocess.DEVNULL, timeout=SECONDS)
         except subprocess.TimeoutExpired:
             return None, b""
         return ended.returncode, ended.stdout + ended.stderr
@@ -209,8 +181,11 @@ def agrees(check, what, lines, chance):
     return is_taken
 
 
-ALIKE, OTHER, CHANGED, DAMAGED = "sheets and declarations", "as another program writes them", "changed sheets", "damaged ballots"
-OURS_AND_NEAR, SHARED = "comments of ours and near them", "shared ranks"
+KINDS = ALIKE, OTHER, OURS_AND_NEAR, SHARED, CHANGED, DAMAGED = (
+    "sheets and declarations", "the same, with ballots as another program writes them",
+    "ballots with a comment of ours or near it, in any form and place, or without one",
+    "ballots with shared ranks, of the withdrawn too, and with words that are no ranks",
+    "sheets with a byte, a figure or a line that is another, missing or moved", "damaged ballots")
 
 
 def check_ward(check, ward, chance, runs):
@@ -218,47 +193,40 @@ def check_ward(check, ward, chance, runs):
     lines, count = counted(made_up(chance), chance)
     ballots = "\n".join(lines).encode() + b"\n"
     sheet, declaration = count.sheet(), count.declaration()
+
+    def given(what, content, text, wanted, begins=b""):
+        status, told = check(content, text)
+        check.expect(f"ward {ward}, {what}", status, told, status in wanted and told.startswith(begins))
+        runs[what, status] += 1
+
     for text, name in ((sheet, b"stage sheet"), (declaration, b"declaration")):
-        status, told = check(ballots, text)
-        check.expect(f"ward {ward}", status, told, status == 0 and told.startswith(b"the text is the %s that" % name))
-        runs[ALIKE, 0] += 1
-    status, told = check(as_others_write(lines, chance), chance.choice((sheet, declaration)))
-    check.expect(f"ward {ward} of another program", status, told, status == 0)
-    runs[OTHER, 0] += 1
+        given(ALIKE, ballots, text, [0], b"the text is the %s that" % name)
+    given(OTHER, as_others_write(lines, chance), chance.choice((sheet, declaration)), [0])
     for what, other in ((OURS_AND_NEAR, commented), (SHARED, shared)):
         for _ in range(10):
             runs[what, 0 if agrees(check, f"ward {ward}, {what}", other(lines, chance), chance) else 2] += 1
     for _ in range(5):
         while (text := changed(sheet, chance)) in (sheet, declaration):
             pass
-        status, told = check(ballots, text)
-        line = first_line_that_differs(text, sheet, declaration)
-        check.expect(f"ward {ward} changed", status, told, status == 1 and told.startswith(b"line %d differs" % line))
-        runs[CHANGED, 1] += 1
+        given(CHANGED, ballots, text, [1], b"line %d differs" % first_line_that_differs(text, sheet, declaration))
     for _ in range(10):
-        status, told = check(damaged(ballots, chance), sheet)
-        check.expect(f"ward {ward} damaged", status, told, status in (0, 1, 2))
-        runs[DAMAGED, status] += 1
+        most, longest = chance.choice((1, 2, 8)), chance.choice((1, 3, 30))
+        given(DAMAGED, damaged(chance, ballots, most, longest, DAMAGE), sheet, [0, 1, 2])
 
 
-def arguments(parser):
-    numbers(parser, wards=100, seed=1)
-
-
-def main(given):
+def main(wards=100, seed=1):
     runs = collections.Counter()
     with temporary_folder() as folder:
         check = Checker(folder)
-        for ward in range(given.wards):
-            check_ward(check, ward, random.Random(f"{given.seed} {ward}"), runs)
-        table = Table(f"What the checker is given ({given.wards} wards, seed {given.seed})", "runs", "yes", "no", "not understood")
-        for what in (ALIKE, OTHER, OURS_AND_NEAR, SHARED, CHANGED, DAMAGED):
+        for ward in range(wards):
+            check_ward(check, ward, random.Random(f"{seed} {ward}"), runs)
+        table = Table(f"What the checker is given ({wards} wards, seed {seed})", "runs", "yes", "no", "not understood")
+        for what in KINDS:
             counts = [runs[what, status] for status in (0, 1, 2)]
             table.row(what, sum(counts), *counts)
         for what, content in EXTREME.items():
-            began = time.monotonic()
-            status, told = check(content, b"")
+            (status, told), seconds = timed(check, content, b"")
             check.expect(what, status, told, status == 2)
-            table.row(f"{what}: {time.monotonic() - began:.1f} s", 1, 0, 0, 1)
+            table.row(f"{what}: {seconds:.1f} s", 1, 0, 0, 1)
     if check.wrong:
         raise Wrong(f"{check.wrong} wrong")

@@ -1,6 +1,7 @@
 """Asks an office with codes for what is a clerk's, mostly without the code, and prints its answers.
 
-docs/HOSTILE.md says what must be denied, and what must be answered. It takes seven minutes, or four with --short.
+docs/HOSTILE.md says what must be denied, and what must be answered. It takes seven minutes, or four with --short, by which codes are
+guessed for 20 seconds, not for three minutes; --seconds N guesses for so many seconds.
 """
 import random
 import re
@@ -10,8 +11,8 @@ import time
 from collections import Counter
 from concurrent.futures import ThreadPoolExecutor
 
-from office_tools.command import numbers
-from office_tools.evening import CODES, made_up_office
+from office_tools.damage import damaged
+from office_tools.election import CODES, evening_office
 from office_tools.office import SECONDS, Wrong, temporary_folder
 from office_tools.tables import Table
 from office_tools.web import HERE, ask, basic, received, request, status
@@ -19,18 +20,14 @@ from office_tools.web import HERE, ask, basic, received, request, status
 MOST, MINUTE = 6000, 60
 # The letters of codes, but for the x of wrong ones.
 LETTERS = "abcdefghjkmnprstuwy2347"
-# The tellers, and a number that no line of the file has. How many wrong codes are guessed a second, and how many tellers ask at once.
-TELLERS, NOBODY, RATE, ASKING = range(1, 41), 999, 10, 4
-TIMED, CHANGED = range(100, 350), range(400, 999)
+# The tellers, and a number that no line of the file has. How many wrong codes are guessed a second, and how long a teller waits before the
+# next request: a page that is keyed on asks far less.
+TELLERS, NOBODY, RATE, PAUSE = range(1, 41), 999, 10, 0.5
+TIMED, CHANGED, SENDERS = range(100, 350), range(400, 999), 4
 # How many requests without a code have a body that is longer than what a socket holds, and how long it is.
 DENIED, BODY = 1000, 200_000
+SIGNS = [b"%c" % sign for sign in b"0123456789/ =\r\n"]
 KEYING = '{"id":"h1","round":1,"papers":["1,,,,"]}'
-
-
-def arguments(parser):
-    parser.add_argument("--short", action="store_true", help="guess for 20 seconds, not for three minutes")
-    parser.add_argument("--seconds", type=int, help="guess for so many seconds")
-    numbers(parser, seed=7)
 
 
 def drawn(chance):
@@ -43,7 +40,6 @@ def work(clerk, *headers):
 
 
 def with_code(clerk, code):
-    """Returns a request for a clerk's work under a code."""
     return work(clerk, f"Authorization: {basic(clerk, code)}")
 
 
@@ -51,20 +47,12 @@ def told(port, sends):
     return ask(port, sends, shut=True)
 
 
-def seconds_of(port, sends):
-    """Returns the answer, and how many seconds it took from the moment when the request was sent."""
-    line = socket.create_connection((HERE, port), timeout=SECONDS)
-    line.setsockopt(socket.IPPROTO_TCP, socket.TCP_NODELAY, 1)
-    began = time.perf_counter()
-    line.sendall(sends)
-    line.shutdown(socket.SHUT_WR)
-    text = line.recv(65536)
-    took = time.perf_counter() - began
-    return text + received(line), took
+def shown(said):
+    """Returns statuses that were counted, as text."""
+    return ", ".join(f"{count} got {one}" for one, count in sorted(said.items()))
 
 
 def print_denied(port):
-    """Tries each way to ask, and prints the status of the answer."""
     four, nine, header = basic(4, CODES[4]), basic(9, CODES[9]), "Authorization: "
     right = header + four
     table = Table("A request for `/clerks/4/`", "The answer")
@@ -104,44 +92,53 @@ def check_changed(port, codes, chance):
     for turn in range(2000):
         clerk = CHANGED[turn % len(CHANGED)]
         target = f"/clerks/{clerk}/{chance.choice(['', 'work', 'leave', 'batches/12/candidates'])}"
-        sends = bytearray(request(target, f"Authorization: {basic(clerk, codes[clerk])}"))
-        for _ in range(chance.choice([1, 1, 2, 3])):
-            sends[chance.randrange(len(sends))] = chance.choice([chance.randrange(256), chance.choice(b"0123456789/ =\r\n")])
-        text = told(port, bytes(sends))
+        sends = damaged(chance, request(target, f"Authorization: {basic(clerk, codes[clerk])}"), 3, signs=SIGNS)
+        text = told(port, sends)
         said[status(text)] += 1
         found = re.match(rb"\s*[A-Z]+ /clerks/(\d+)/", sends)
         has_code = found and basic(int(found[1]), codes.get(int(found[1]), "")).encode() in sends
         if status(text) in (200, 409) and b"sheet" not in sends and not has_code:
-            raise Wrong(f"{bytes(sends)} gets {text[:200]}")
-    print(f"\nOf 2000 requests with bytes changed: {', '.join(f'{count} got {one}' for one, count in sorted(said.items()))}.", flush=True)
+            raise Wrong(f"{sends} gets {text[:200]}")
+    print(f"\nOf 2000 requests with bytes changed: {shown(said)}.", flush=True)
 
 
-def sent_whole(port, sends, number):
-    """Returns the answer to a request that must be taken whole."""
-    try:
-        with socket.create_connection((HERE, port), timeout=SECONDS) as line:
-            line.sendall(sends)
-            text = b""
-            while piece := line.recv(65536):
-                text += piece
-            return text
-    except OSError as error:
-        raise Wrong(f"request {number} without a code, with a body of {BODY} bytes: {error}") from error
-
-
-def check_bodies(port):
-    """Sends requests that are denied with long bodies: each is read to its end, so that its client reads the answer."""
-    sends = request("/clerks/4/batches/14/keying", body="x" * BODY)
+def check_bodies(send):
+    """Sends denied requests with long bodies by a function of the request and its number: each has to be taken whole, and to get 401."""
+    sends, said = request("/clerks/4/batches/14/keying", body="x" * BODY), Counter()
     for number in range(DENIED):
-        if status(text := sent_whole(port, sends, number)) != 401:
-            raise Wrong(f"request {number} without a code, with a body of {BODY} bytes: {text[:200]}")
-    print(f"\n{DENIED} requests without a code, with bodies of {BODY} bytes each, were sent whole, and got 401.", flush=True)
+        try:
+            said[status(send(sends, number))] += 1
+        except OSError as error:
+            raise Wrong(f"request {number} without a code, with a body of {BODY} bytes: {error}") from error
+    print(f"\nOf {DENIED} requests without a code, with bodies of {BODY} bytes each: {shown(said)}.", flush=True)
+    if said != {401: DENIED}:
+        raise Wrong("a denied request with a body doesn't get 401")
+
+
+def sent_whole(port, sends):
+    """Returns the answer to a request that must be taken whole."""
+    line = socket.create_connection((HERE, port), timeout=SECONDS)
+    line.sendall(sends)
+    return received(line)
+
+
+def seconds_of(port, sends):
+    """Returns the answer, and how many seconds it took from the moment when the request was sent."""
+    line = socket.create_connection((HERE, port), timeout=SECONDS)
+    line.setsockopt(socket.IPPROTO_TCP, socket.TCP_NODELAY, 1)
+    began = time.perf_counter()
+    line.sendall(sends)
+    line.shutdown(socket.SHUT_WR)
+    text = line.recv(65536)
+    took = time.perf_counter() - began
+    return text + received(line), took
 
 
 def print_times(port, codes, chance):
     """Times a thousand wrong codes, by how much of them is right."""
     kinds = {
-        "nothing of it": lambda code: "x" * len(code), "its first third": lambda code: code[:4] + "-xxxx-xxxx", "all but its last letter": lambda code: code[:-1] + "x",
+        "nothing of it": lambda code: "x" * len(code), "its first third": lambda code: code[:4] + "-xxxx-xxxx",
+        "all but its last letter": lambda code: code[:-1] + "x",
         "all, of another clerk": lambda code: chance.choice([other for other in codes.values() if other != code]),
     }
     took = {what: [] for what in kinds}
@@ -157,38 +154,33 @@ def print_times(port, codes, chance):
         table.row(what, len(times), f"{middle:.0f}", f"{low:.0f} to {high:.0f}")
 
 
-def guesses(port, chance, ends):
-    """Sends wrong codes, ten a second, under each number in turn. Returns the statuses."""
-    said, began = Counter(), time.monotonic()
-    while time.monotonic() < ends:
-        clerk = TELLERS[said.total() % len(TELLERS)]
-        said[status(told(port, with_code(clerk, drawn(chance))))] += 1
-        time.sleep(max(0, began + said.total() / RATE - time.monotonic()))
-    return said
+def check_beside_guesses(title, send, codes, chance, seconds):
+    """Checks what tellers get while somebody guesses codes. `send` sends a request from the place of a teller, or from another (0)."""
+    ends = time.monotonic() + seconds
 
+    def guesses():
+        said, began = Counter(), time.monotonic()
+        while time.monotonic() < ends:
+            clerk = TELLERS[said.total() % len(TELLERS)]
+            said[status(send(with_code(clerk, drawn(chance)), 0))] += 1
+            time.sleep(max(0, began + said.total() / RATE - time.monotonic()))
+        return said
 
-def asks(port, codes, chance, ends):
-    """Asks for the work of one teller after the other, with the code. Returns the statuses."""
-    said = Counter()
-    while time.monotonic() < ends:
-        clerk = chance.choice(TELLERS)
-        said[status(told(port, with_code(clerk, codes[clerk])))] += 1
-        time.sleep(0.1)
-    return said
+    def asks(clerk):
+        said = Counter()
+        while time.monotonic() < ends:
+            said[status(send(with_code(clerk, codes[clerk]), clerk))] += 1
+            time.sleep(PAUSE)
+        return said
 
-
-def check_beside_guesses(port, codes, chance, seconds):
-    """Checks what tellers get while somebody guesses codes under their numbers."""
-    ends, draws = time.monotonic() + seconds, [random.Random(chance.random()) for _ in range(ASKING + 1)]
-    with ThreadPoolExecutor(ASKING + 1) as pool:
-        wrong = pool.submit(guesses, port, draws[0], ends)
-        counts = [pool.submit(asks, port, codes, draw, ends) for draw in draws[1:]]
-    good = sum((count.result() for count in counts), Counter())
-    table = Table(f"{seconds} seconds", "requests", "their answers")
-    for what, said in (("wrong codes under forty numbers", wrong.result()), ("tellers with their codes", good)):
-        table.row(what, said.total(), ", ".join(f"{count} got {one}" for one, count in sorted(said.items())))
+    with ThreadPoolExecutor(len(TELLERS) + 1) as pool:
+        wrong = pool.submit(guesses)
+        good = sum(pool.map(asks, TELLERS), Counter())
+    table = Table(title, "requests", "their answers")
+    table.row("wrong codes under forty numbers", wrong.result().total(), shown(wrong.result()))
+    table.row("tellers with their codes", good.total(), shown(good))
     if good[200] < 0.99 * good.total() or not good.total():
-        raise Wrong("tellers aren't let in beside wrong codes")
+        raise Wrong("tellers aren't let in while an outsider guesses codes")
 
 
 def check_limit(port, codes, chance):
@@ -198,7 +190,7 @@ def check_limit(port, codes, chance):
 
     time.sleep(MINUTE + 1)
     began = time.monotonic()
-    with ThreadPoolExecutor(ASKING) as senders:
+    with ThreadPoolExecutor(SENDERS) as senders:
         said = Counter(senders.map(lambda turn: status(guessed(TELLERS[turn % len(TELLERS)])), range(MOST)))
     took = time.monotonic() - began
     if took > MINUTE - 5:
@@ -215,20 +207,19 @@ def check_limit(port, codes, chance):
     while status(guessed(chance.choice(TELLERS))) == 429 and time.monotonic() < began + 2 * MINUTE:
         time.sleep(0.25)
     waited = time.monotonic() - began
-    print(f"\n{MOST} wrong codes came within {took:.0f} seconds. From then on one got 429, until {waited:.0f} seconds after the first. All tellers were let in.")
+    print(f"\n{MOST} wrong codes came within {took:.0f} seconds. From then on one got 429, until {waited:.0f} seconds after the first.")
     if not MINUTE - 2 < waited < MINUTE + 2:
         raise Wrong("the limit should have lasted for a minute from the first wrong code on")
 
 
-def main(given):
-    chance = random.Random(given.seed)
+def main(seed=7, *, short=False, seconds=0):
+    chance, seconds = random.Random(seed), seconds or (20 if short else 180)
     codes = {**{clerk: drawn(chance) for clerk in [*TELLERS, *TIMED, *CHANGED]}, **CODES}
-    with temporary_folder() as folder:
-        office = made_up_office(folder, codes)
-        with office.serve(0, "--codes", "codes.txt").wait() as serving:
-            print_denied(serving.port)
-            check_changed(serving.port, codes, chance)
-            check_bodies(serving.port)
-            print_times(serving.port, codes, chance)
-            check_beside_guesses(serving.port, codes, chance, given.seconds or (20 if given.short else 180))
-            check_limit(serving.port, codes, chance)
+    with temporary_folder() as folder, evening_office(folder, codes).serve(0, "--codes", "codes.txt").wait() as serving:
+        port = serving.port
+        print_denied(port)
+        check_changed(port, codes, chance)
+        check_bodies(lambda sends, _: sent_whole(port, sends))
+        print_times(port, codes, chance)
+        check_beside_guesses(f"{seconds} seconds", lambda sends, _: told(port, sends), codes, chance, seconds)
+        check_limit(port, codes, chance)

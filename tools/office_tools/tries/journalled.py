@@ -9,7 +9,6 @@ import os
 import random
 import re
 
-from office_tools.command import numbers
 from office_tools.office import SCRIPT, Office, Wrong, temporary_folder
 from office_tools.sessions import Session, typed
 from office_tools.tables import Table
@@ -17,18 +16,6 @@ from office_tools.tables import Table
 SECONDS = 120
 PHASES = ("nominations", "keying", "sealed", "declared")
 REFUSED = re.compile(r"line (\d+): refused (\d+): (.*)\n")
-
-
-def arguments(parser):
-    numbers(parser, sessions=200, seed=7)
-
-
-def new_office(folder):
-    """Returns an empty office."""
-    office = Office(folder)
-    if office.run("init", seconds=SECONDS) != (0, "office ready\n", ""):
-        raise Wrong("init makes no office")
-    return office
 
 
 def replayed(office, text):
@@ -54,8 +41,8 @@ def sent(office, orders):
 
 def played(chance, office):
     """Plays a session. Returns how many of its orders were refused."""
-    session = Session(chance, office.folder)
-    answers, refused = {life: None for life in session.lives()}, 0
+    session = Session(chance, office)
+    answers, refused = {session.ward(number): None for number in session.wards}, 0
     while answers:
         life = chance.choice(list(answers))
         try:
@@ -71,7 +58,6 @@ def played(chance, office):
 
 
 def journal(office):
-    """Returns the journal of an office."""
     printed = office.run("journal", seconds=SECONDS)
     if printed.status or printed.err:
         raise Wrong(f"journal: {printed}")
@@ -84,14 +70,13 @@ def compared(office, chance, in_other_forms):
     lines = [line for line in text.split("\n") if line and not line.startswith("#")]
     if len(lines) != len(found["receipt"]):
         raise Wrong(f"{len(lines)} lines for {len(found['receipt'])} receipts")
-    new = new_office(office.folder / "new")
+    new = Office(office.folder / "new").begin()
     printed = replayed(new, text)
     if printed.status or printed.err or printed.out.count("\n") != len(lines):
         raise Wrong(f"the journal sent: {printed}")
     again = new.rows()
-    for table in found:
-        if found[table] != again[table]:
-            raise Wrong(f"table {table}: {found[table]} and {again[table]}")
+    if other := [f"table {table}: {rows} and {again[table]}" for table, rows in found.items() if again[table] != rows]:
+        raise Wrong(other[0])
     if journal(new) != text:
         raise Wrong("the new office has another journal")
     if in_other_forms:
@@ -104,9 +89,9 @@ def check_other_forms(office, chance, text, found):
     lines = text.split("\n")
     mixed = list(lines)
     chance.shuffle(mixed)
-    forms = {"twice": text + text, "cut": text[:chance.randint(0, len(text))], "lines-cut": "\n".join(lines[:chance.randint(0, len(lines))]), "shuffled": "\n".join(mixed)}
-    for name, form in forms.items():
-        new = new_office(office.folder / name)
+    cut, lines_cut = text[:chance.randint(0, len(text))], lines[:chance.randint(0, len(lines))]
+    for name, form in (("twice", text + text), ("cut", cut), ("lines-cut", "\n".join(lines_cut)), ("shuffled", "\n".join(mixed))):
+        new = Office(office.folder / name).begin()
         printed = replayed(new, form)
         if printed.status not in (0, 1, 2) or (name == "twice" and printed.status):
             raise Wrong(f"the journal {name}: {printed}")
@@ -120,13 +105,10 @@ def counted(found, refused):
     had = collections.Counter({"sessions": 1, "orders accepted": len(found["receipt"]), "orders refused": refused})
     had["candidates withdrawn"] = sum(receipt[2].startswith("withdraw ") for receipt in found["receipt"])
     had.update(f"wards in {PHASES[ward[2] - 1]}" for ward in found["ward"])
-    had["batches"] = len(found["batch"])
-    had["rounds past the first"] = sum(batch[5] - 1 for batch in found["batch"])
-    had["third clerks"] = len(found["third"])
-    had["keyings"] = sum(keyed[3] == 1 for keyed in found["keying"])
-    had["verdicts"] = len(found["verdict"])
-    had["stages"] = sum(ward[3] for ward in found["ward"])
-    had["lots"] = len(found["lot"])
+    had.update({
+        "batches": len(found["batch"]), "rounds past the first": sum(batch[5] - 1 for batch in found["batch"]),
+        "third clerks": len(found["third"]), "keyings": sum(keyed[3] == 1 for keyed in found["keying"]), "verdicts": len(found["verdict"]),
+        "stages": sum(ward[3] for ward in found["ward"]), "lots": len(found["lot"])})
     return had
 
 
@@ -135,22 +117,22 @@ def session_of(seed, number):
     chance = random.Random(f"{seed} {number}")
     with temporary_folder() as folder:
         try:
-            office = new_office(folder / "town")
+            office = Office(folder / "town").begin()
             refused = played(chance, office)
             return counted(compared(office, chance, number % 10 == 0), refused)
         except Wrong as wrong:
             raise Wrong(f"session {number} of seed {seed}: {wrong}") from wrong
 
 
-def main(given):
+def main(sessions=200, seed=7):
     had = collections.Counter()
     with concurrent.futures.ThreadPoolExecutor(len(os.sched_getaffinity(0))) as pool:
         try:
-            for result in pool.map(lambda number: session_of(given.seed, number), range(given.sessions)):
+            for result in pool.map(lambda number: session_of(seed, number), range(sessions)):
                 had.update(result)
         except Wrong:
             pool.shutdown(wait=False, cancel_futures=True)
             raise
-    table = Table(f"What the sessions had (seed {given.seed})", "number")
+    table = Table(f"What the sessions had (seed {seed})", "number")
     for name, number in had.items():
         table.row(name, number)

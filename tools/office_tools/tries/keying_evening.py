@@ -1,10 +1,10 @@
 """Plays an evening of two tellers at the page on which clerks key, in Chromium, by keys alone, and counts the keys.
 
-Two browsers log in as clerks 4 and 9, and each keys the same batch of 50 papers. One leaves a paper out and puts it in, and mends another. A
-page is loaded again in mid-batch, the server is killed and started again, and a line breaks after a keying was kept. At the end
-the rows are those that were typed, each keyed once. Then a clerk keys in the browser of another, a new round comes, wrong codes come
-under a clerk's number, names that would be markup are shown, and pages from elsewhere try what they can in the browser of a
-clerk who is logged in. Pictures at 1024 and 400 pixels go into the folder PICTURES. It needs the program `chromium`.
+Two browsers log in as clerks 4 and 9, and each keys the same batch of 50 papers. One leaves a paper out and puts it in, and mends another.
+A page is loaded again in mid-batch, the server is killed and started again, and a line breaks after a keying was kept. At the end the rows
+are those that were typed, each keyed once. Then a clerk keys in the browser of another, a new round comes, wrong codes come under a clerk's
+number, names that would be markup are shown, and pages from elsewhere try what they can in the browser of a clerk who is logged in.
+Pictures at 1024 and 400 pixels go into the folder PICTURES. It needs the program `chromium`.
 """
 import json
 import random
@@ -14,32 +14,29 @@ import statistics
 import time
 from pathlib import Path
 
-from office_tools.browser import Browser
-from office_tools.elsewhere import LOOSE, NAME, Proxy, is_of_office, tries
-from office_tools.evening import CODES, SMALL, made_up_office
-from office_tools.office import SECONDS, Wrong, free_port, needs, remove, temporary_folder
+from office_tools.browser import LOOSE, PLACES, Browser, is_of_office, tries
+from office_tools.election import CODES, SMALL, evening_office
+from office_tools.office import Wrong, free_port, needs, remove, temporary_folder
 from office_tools.tables import Table
-from office_tools.web import HERE, ask, basic, request, status
+from office_tools.web import HERE, Proxy, ask, basic, request, status
 
 SHIFT = 8
 ASKED = re.compile(r"(GET /clerks/\d+/(work|leave|batches/\d+/candidates)?|POST /clerks/\d+/batches/\d+/keying) HTTP/1.1")
+FIELDS = "[...document.querySelectorAll('#rows input')].map((it) => it.value)"
+LISTED = "!document.getElementById('batches').hidden && document.activeElement.tagName === 'BUTTON'"
 
 
 def made_up(size, columns, chance):
     """Returns marks as voters write them: most have a few numbers in order, some are doubtful, empty, or odd."""
     papers = []
     for _ in range(size):
-        kind = chance.random()
-        fields = [""] * columns
-        if kind < 0.04:
-            papers.append("D")
-            continue
-        if kind > 0.06:
+        kind, fields = chance.random(), [""] * columns
+        if 0.06 < kind:
             for mark, column in enumerate(chance.sample(range(columns), min(columns, chance.choice([1, 2, 3, 3, 4, columns]))), 1):
                 fields[column] = str(mark)
         if kind > 0.95:
             fields[chance.randrange(columns)] = chance.choice(["1", "2", "12", "99"])
-        papers.append(",".join(fields))
+        papers.append("D" if kind < 0.04 else ",".join(fields))
     return papers
 
 
@@ -47,19 +44,13 @@ def keys_of(text):
     """Returns the keys of a paper on the page."""
     if text == "D":
         return ["d", "Enter"]
-    fields = text.split(",")
-    while fields and not fields[-1]:
-        fields.pop()
-    keys = [key for field in fields for key in ("0" if not field else field if len(field) == 1 else "." + field)]
-    return (keys or ["0"]) + ["Enter"]
+    fields = text.rstrip(",").split(",")
+    return [key for field in fields for key in ("0" if not field else field if len(field) == 1 else "." + field)] + ["Enter"]
 
 
-def sheet_keys(number, text):
-    """Returns how many keys the same paper takes in a spreadsheet, with its number typed: Tab moves on, Enter ends the row."""
-    fields = text.split(",")
-    while len(fields) > 1 and not fields[-1]:
-        fields.pop()
-    return len(str(number)) + 1 + sum(map(len, fields)) + len(fields) - 1 + 1
+def sheet_keys(text):
+    """Returns how many keys the same paper takes in a spreadsheet: Tab moves on, Enter ends the row."""
+    return len(text.rstrip(",")) + 1
 
 
 class Teller:
@@ -72,10 +63,12 @@ class Teller:
 
     def open(self):
         self.browser.open(self.evening.address(self.clerk))
-        self.listed()
+        self.browser.until(LISTED)
 
-    def listed(self):
-        self.browser.until("!document.getElementById('batches').hidden && document.activeElement.tagName === 'BUTTON'")
+    def list(self):
+        """Goes back to the list of batches."""
+        self.press("Enter")
+        self.browser.until(LISTED)
 
     def press(self, *keys, at=0, refused="", fields=None):
         """Presses keys. Then the cursor must be at this paper, the last key must be refused so, or the fields must hold this."""
@@ -86,56 +79,54 @@ class Teller:
             self.keys += 1
         if at:
             self.at(at)
-        if refused not in self.notice():
-            raise Wrong(f"not refused by {refused!r}, but {self.notice()!r}")
-        found = self.browser.value("[...document.querySelectorAll('#rows input')].map((it) => it.value)") if fields else None
-        if found != fields:
+        if refused not in self.shown("notice"):
+            raise Wrong(f"not refused by {refused!r}, but {self.shown('notice')!r}")
+        if fields and (found := self.browser.value(FIELDS)) != fields:
             raise Wrong(f"after {keys} there is {found}")
 
     def key(self, papers, at=0):
-        """Keys papers from where the cursor is."""
         self.press(*(key for text in papers for key in keys_of(text)), at=at)
 
     def choose(self, batch):
-        """Opens a batch of the list."""
         button = f"[...document.querySelectorAll('#list button')].find((it) => it.textContent === 'Batch {batch}')"
         self.browser.until(f"Boolean({button})")
         self.browser.value(f"{button}.focus()")
         self.press("Enter")
 
     def begin(self, batch):
-        """Begins to key a batch."""
         self.choose(batch)
         self.shows("start")
         self.evening.picture(self, f"start-{batch}")
-        self.press("Enter")
-        self.at(1)
+        self.press("Enter", at=1)
 
     def shows(self, part):
-        """Waits until the page shows a part."""
         self.browser.until(f"!document.getElementById('{part}').hidden")
+
+    def shown(self, part):
+        return self.browser.value(f"document.getElementById('{part}').textContent")
 
     def at(self, paper):
         """Sees that the cursor is at a paper."""
-        shown = self.browser.value("document.getElementById('paper').textContent")
-        if not shown.startswith(f"Paper {paper} of "):
-            raise Wrong(f"clerk {self.clerk} is at {shown!r}, and not at paper {paper}: {self.notice()!r}")
+        if not self.shown("paper").startswith(f"Paper {paper} of "):
+            raise Wrong(f"clerk {self.clerk} is at {self.shown('paper')!r}, and not at paper {paper}: {self.shown('notice')!r}")
 
-    def notice(self):
-        return self.browser.value("document.getElementById('notice').textContent")
+    def said(self, words, part="said"):
+        """Waits until a part of the page has these words."""
+        self.browser.until(f"document.getElementById('{part}').textContent.includes({json.dumps(words)})")
 
-    def said(self, words, seconds=SECONDS):
-        self.browser.until(f"document.getElementById('said').textContent.includes({json.dumps(words)})", seconds)
+    def send(self, batch):
+        self.press("s")
+        self.said(f"batch {batch} round 1 keyed")
 
 
 class Evening:
     """The office, what stands between it and the browsers, and the papers."""
 
     def __init__(self, folder, pictures):
-        self.folder, self.pictures, self.office = Path(folder), pictures, made_up_office(f"{folder}/office")
-        self.port, self.serving = free_port(), None
-        self.line = Proxy(self.port)
-        self.papers = made_up(50, len(SMALL), random.Random(11))
+        self.folder, self.pictures, self.office = folder, pictures, evening_office(folder / "office")
+        self.port = free_port()
+        self.line, self.papers = Proxy(self.port), made_up(50, len(SMALL), random.Random(11))
+        self.start()
 
     def start(self):
         self.serving = self.office.serve(100000, "--codes", "codes.txt", port=self.port).wait()
@@ -160,23 +151,20 @@ class Evening:
 
     def picture(self, teller, name):
         """Writes pictures of a window, if they are asked for."""
-        if self.pictures:
-            for width, height in ((1024, 768), (400, 800)):
-                teller.browser.resize(width, height)
-                teller.browser.wait(0.1)
-                Path(self.pictures, f"{name}-{width}.png").write_bytes(teller.browser.picture())
-            teller.browser.resize(1024, 768)
+        for width, height in ((400, 800), (1024, 768)) if self.pictures else ():
+            teller.browser.resize(width, height)
+            teller.browser.wait(0.1)
+            (self.pictures / f"{name}-{width}.png").write_bytes(teller.browser.picture())
 
     def play(self):
-        self.start()
         four, nine = Teller(self, 4), Teller(self, 9)
-        with four.browser, nine.browser:
+        with self.line, four.browser, nine.browser:
             try:
                 self.keyed(four, nine)
                 self.kept(four, nine)
                 print_keys(self.papers, four.keys, four.seconds + nine.seconds)
                 self.in_one_browser(four)
-                self.new_round(nine)
+                self.wrong_codes(nine)
                 self.quiet(four, nine)
                 self.elsewhere(four)
                 self.left(four)
@@ -239,7 +227,7 @@ class Evening:
         four.key(papers[32:34])
 
     def kept(self, four, nine):
-        """Both send: a line breaks once the keying was kept, and the server is gone when the other sends. The rows are those that were typed."""
+        """Both send: a line breaks once the keying was kept, and the server is gone when the other sends. Each is kept as it was typed."""
         self.line.cuts = 1
         four.press("s")
         four.said("doesn\u2019t answer")
@@ -258,7 +246,7 @@ class Evening:
         for teller in (four, nine):
             rows = self.rows(12, teller.clerk)
             if rows != self.papers:
-                raise Wrong(f"clerk {teller.clerk}: {[(number, *both) for number, both in enumerate(zip(self.papers, rows), 1) if both[0] != both[1]]}")
+                raise Wrong(f"clerk {teller.clerk}: {[both for both in enumerate(zip(self.papers, rows), 1) if both[1][0] != both[1][1]]}")
             if (receipts := self.asked("SELECT subject FROM receipt WHERE actor = ?", teller.clerk)) != ["key 12 1"]:
                 raise Wrong(f"clerk {teller.clerk} has {receipts}")
             if teller.browser.value("Object.keys(localStorage).length"):
@@ -267,82 +255,75 @@ class Evening:
     def in_one_browser(self, four):
         """Clerk 9 comes to the browser of clerk 4, in which a batch isn't sent yet."""
         browser = four.browser
-        four.press("Enter")
-        four.listed()
+        four.list()
         four.begin(13)
         four.press("1", "0", ".", "1", "2", "/", "1", "Enter", "/", "2", "9", "9")
         self.picture(four, "thirty")
-        labels = browser.labels("textbox")
-        if labels[1:3] != ["Paper 1, candidate 1 \u2068Candidate 1\u2069", "Paper 1, candidate 2 \u2068Candidate 2\u2069"] or not all(labels):
+        labels, wanted = browser.labels("textbox"), [f"Paper 1, candidate {c} \u2068Candidate {c}\u2069" for c in (1, 2)]
+        if labels[1:3] != wanted or not all(labels):
             raise Wrong(f"a screen reader gets {labels}")
         four.press("Enter", "d", "Enter", "0")
-        other = browser.another()
-        other.open(self.address(4) + "#13")
-        other.until("!document.getElementById('papers').hidden")
-        browser.until("document.getElementById('asked').textContent.includes('another window')")
-        four.choose(13)
-        four.shows("papers")
-        other.until("document.getElementById('asked').textContent.includes('another window')")
-        other.close()
-        four.at(3)
-        if browser.value("document.querySelectorAll('#papers img, #papers b b').length") or browser.value("document.title") != "Clerk 4: keying":
+        self.two_windows(four)
+        made = browser.value("document.querySelectorAll('#papers img, #papers b b').length")
+        if made or browser.value("document.title") != "Clerk 4: keying":
             raise Wrong("a name is markup")
         browser.name, browser.code = "9", CODES[9]
         browser.open(self.address(9))
-        four.listed()
+        browser.until(LISTED)
         text = browser.text()
-        if "here" in text or "clerk 4" in text or "clerk 9" not in text:
-            raise Wrong(f"clerk 9 sees {text!r}")
         four.begin(13)
-        if browser.value("[...document.querySelectorAll('#rows input')].some((it) => it.value)"):
-            raise Wrong("clerk 9 sees what clerk 4 keyed")
+        if "here" in text or "clerk 4" in text or "clerk 9" not in text or any(browser.value(FIELDS)):
+            raise Wrong(f"clerk 9 sees {text!r}, or what clerk 4 keyed")
         browser.name, browser.code = "4", CODES[4]
         browser.open(self.address(4) + "#13")
         four.shows("papers")
         four.at(3)
         four.press("Enter")
         four.shows("end")
-        four.press("s")
-        four.said("batch 13 round 1 keyed")
-        wanted = ["1,," + "12" + "," * 26 + "9,", "D", "," * 29]
-        if self.rows(13, 4) != wanted:
-            raise Wrong(f"batch 13: {self.rows(13, 4)}")
+        four.send(13)
+        if (rows := self.rows(13, 4)) != ["1,," + "12" + "," * 26 + "9,", "D", "," * 29]:
+            raise Wrong(f"batch 13: {rows}")
 
-    def new_round(self, nine):
+    def two_windows(self, four):
+        """A second window opens the batch, and each tells that the other has it."""
+        other, told = four.browser.another(), "document.getElementById('asked').textContent.includes('another window')"
+        other.open(self.address(4) + "#13")
+        other.until("!document.getElementById('papers').hidden")
+        four.said("another window", "asked")
+        four.choose(13)
+        four.shows("papers")
+        other.until(told)
+        other.close()
+        four.at(3)
+
+    def wrong_codes(self, nine):
         """Wrong codes come under a clerk's number while a batch is keyed: its keying is accepted all the same. Two key otherwise."""
-        nine.press("Enter")
-        nine.listed()
+        nine.list()
         before = nine.browser.text()
         nine.begin(14)
         nine.key(["1,,,,"])
         sends = request("/clerks/9/work", f"Authorization: {basic(9, 'wrong-code')}")
         if any(status(ask(self.line.port, sends)) != 401 for _ in range(40)):
             raise Wrong("a wrong code isn't denied")
-        nine.press("s")
-        nine.said("batch 14 round 1 keyed")
-        nine.press("Enter")
-        nine.listed()
+        nine.send(14)
+        nine.list()
         alone = nine.browser.text()
         if "Batch 14" not in before or "differ" in alone.lower():
             raise Wrong(f"clerk 9 sees {alone!r}")
 
     def quiet(self, four, nine):
-        """Checks that the page asked nothing but what is its clerk's, and no policy was broken."""
-        browser = four.browser
-        browser.open(self.address(4))
-        four.listed()
+        """Checks that the page asked nothing but what is its clerk's, and no policy was broken. A new round comes."""
+        four.open()
         four.begin(14)
         four.key(["2,,,,"])
-        four.press("s")
-        four.said("batch 14 round 1 keyed")
+        four.send(14)
         nine.browser.value("document.getElementById('look').click()")
         nine.browser.until("!document.getElementById('asked').textContent.includes('asked')")
         seen = nine.browser.text()
         self.kill()
         self.office.do("again", 14, "--id", "g14")
         self.start()
-        four.press("Enter")
-        four.listed()
+        four.list()
         four.begin(14)
         self.picture(four, "round-2")
         strange = [line for line in self.line.asked if not ASKED.fullmatch(line)]
@@ -350,6 +331,23 @@ class Evening:
         if strange or said or "differ" in seen.lower():
             raise Wrong(f"the page asked {strange}, its console has {said}, clerk 9 sees {seen!r}")
 
+    def elsewhere(self, four):
+        """Pages from elsewhere try what they can in the browser of clerk 4, who is logged in: nothing is read, and nothing kept."""
+        table = Table("A page of", "tries", "reads")
+        places = ("another port", "another name, at this machine", "another name, at that name")
+        with Proxy() as pages:
+            for where, (page, office) in zip(places, PLACES):
+                window = four.browser.another()
+                window.open(f"http://{page}:{pages.port}/page")
+                for what, _, text in tries(window, f"http://{office}:{self.line.port}", 15, step=0, turns=1):
+                    table.row(where, what, "read" if is_of_office(text) else "-")
+                    if is_of_office(text):
+                        raise Wrong(f"{what}, a page of {page} at {office}: it reads {text!r}")
+                window.close()
+        four.browser.reload()
+        four.browser.until("document.activeElement.tagName === 'BUTTON'")
+        if self.rows(15, 4):
+            raise Wrong("a page from elsewhere keyed")
 
     def left(self, four):
         """Whoever leaves his place is asked for his code again."""
@@ -362,45 +360,21 @@ class Evening:
         if browser.logins == asked or "unauthorized" not in browser.text():
             raise Wrong(f"clerk 4 has left, and the page shows {browser.text()!r}")
 
-    def elsewhere(self, four):
-        """Pages from elsewhere try what they can in the browser of clerk 4, who is logged in: nothing is read, and nothing kept."""
-        pages = Proxy()
-        table = Table("A page of", "tries", "reads")
-        for page, office in ((HERE, HERE), (NAME, HERE), (NAME, NAME)):
-            window = four.browser.another()
-            window.open(f"http://{page}:{pages.port}/page")
-            where = "another port" if page == HERE else f"another name, at {'this machine' if office == HERE else 'that name'}"
-            for one in tries(window, f"http://{office}:{self.line.port}", 15, step=0, turns=1):
-                table.row(where, one["what"], "read" if is_of_office(one["text"]) else "-")
-                if is_of_office(one["text"]):
-                    raise Wrong(f"{one['what']}, a page of {page} at {office}: it reads {one['text']!r}")
-            window.close()
-        pages.close()
-        four.browser.reload()
-        four.browser.until("document.activeElement.tagName === 'BUTTON'")
-        if self.rows(15, 4):
-            raise Wrong("a page from elsewhere keyed")
-
 
 def print_keys(papers, keys, seconds):
-    """Prints how many keys the papers take, on the page and in a spreadsheet."""
-    page = [len(keys_of(text)) for text in papers]
-    sheet = [sheet_keys(number, text) for number, text in enumerate(papers, 1)]
-    plain = [count - len(str(number)) - 1 for number, count in enumerate(sheet, 1)]
+    page, plain = sum(len(keys_of(text)) for text in papers), sum(map(sheet_keys, papers))
+    numbers = sum(len(str(number)) + 1 for number in range(1, len(papers) + 1))
     table = Table("50 papers of 5 candidates", "keys", "a paper", "at three keys a second")
-    for what, count in (("the page", sum(page)), ("a spreadsheet, the papers' numbers typed", sum(sheet)), ("a spreadsheet, the numbers filled in before", sum(plain)),
-                        ("clerk 4, with his mistakes", keys)):
+    for what, count in (("the page", page), ("a spreadsheet, the papers' numbers typed", plain + numbers),
+                        ("a spreadsheet, the numbers filled in before", plain), ("a teller on the page, with his mistakes", keys)):
         table.row(what, count, f"{count / len(papers):.1f}", f"{count / 3:.0f} s")
-    print(f"A key takes {1000 * statistics.median(seconds):.0f} ms on the page, {1000 * max(seconds):.0f} at most, the protocol's way included.")
+    middle, most = (f"{1000 * took:.0f}" for took in (statistics.median(seconds), max(seconds)))
+    print(f"A key takes {middle} ms on the page, {most} at most, the protocol's way included.")
 
 
-def arguments(parser):
-    parser.add_argument("pictures", nargs="?", metavar="PICTURES", help="a folder for pictures of the page")
-
-
-def main(given):
+def main(pictures: Path = None):
     needs("chromium")
-    if given.pictures:
-        Path(given.pictures).mkdir(parents=True, exist_ok=True)
+    if pictures:
+        pictures.mkdir(parents=True, exist_ok=True)
     with temporary_folder() as folder:
-        Evening(folder, given.pictures).play()
+        Evening(folder, pictures).play()

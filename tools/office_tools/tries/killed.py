@@ -7,28 +7,13 @@ import random
 import statistics
 import time
 
-from office_tools.command import numbers
 from office_tools.election import election
-from office_tools.office import Wrong, ended, temporary_folder
+from office_tools.office import Wrong, ended, temporary_folder, timed
 from office_tools.tables import Table, added
-from office_tools.trials import left, trials
+from office_tools.trials import RESULTS, left, trials
 
 # The election has 99 valid papers and a doubtful one.
 COPIES = 11
-
-
-def arguments(parser):
-    numbers(parser, runs=100, seed=7)
-
-
-def seconds_of(trial):
-    """Returns how long an order takes: the middle one of three times."""
-    times = []
-    for _ in range(3):
-        began = time.perf_counter()
-        trial.order.done(trial.office.copied(trial.folder / "timed"))
-        times.append(time.perf_counter() - began)
-    return statistics.median(times)
 
 
 def killed(trial, wait):
@@ -46,13 +31,13 @@ def killed(trial, wait):
     return printed.status < 0, place
 
 
-def main(given):
-    chance, totals = random.Random(given.seed), [0] * 4
-    table = Table(f"Order ({given.runs} runs each, seed {given.seed})", "killed", "rows before it found", "rows after it", "some records")
+def main(runs=100, seed=7):
+    chance, totals = random.Random(seed), [0] * 4
+    table = Table(f"Order ({runs} runs each, seed {seed})", "killed", *RESULTS)
     with temporary_folder() as folder:
         for trial in trials(folder, orders=election(COPIES)):
-            longest = 1.2 * seconds_of(trial)
-            found = [killed(trial, chance.uniform(0, longest)) for _ in range(given.runs)]
+            longest = 1.2 * statistics.median(timed(trial.order.done, trial.office.copied(trial.folder / "timed"))[1] for _ in range(3))
+            found = [killed(trial, chance.uniform(0, longest)) for _ in range(runs)]
             counts = [sum(is_killed for is_killed, _ in found), *trial.places([place for _, place in found])]
             words = trial.order.words
             table.row(f"`{' '.join(words if len(words) < 12 else [*words[:5], '..', *words[-2:]])}`", *counts)

@@ -4,16 +4,13 @@ One client sends a request, at once or in pieces. Then twenty clerks key at once
 over. docs/HOSTILE.md says what must hold after each kill.
 """
 import collections
-import json
 import random
 import socket
 import statistics
-import threading
 import time
 from concurrent.futures import ThreadPoolExecutor
 
-from office_tools.command import numbers
-from office_tools.election import REQUESTS, offices
+from office_tools.election import REQUESTS, offices, ward_orders
 from office_tools.office import SECONDS, STORE, Office, Wrong, temporary_folder
 from office_tools.tables import Table
 from office_tools.trials import Trial
@@ -22,26 +19,23 @@ from office_tools.web import BROKEN, HERE, is_whole, request
 PIECES = 8
 CLERKS, SILENT, PAPERS, WARDS = range(1, 21), 10, 2, range(11, 21)
 AT_ONCE, IN_PIECES, AFTER = "at once", "in pieces", "killed after the answer"
+KEYING = '{"id":"k","round":1,"papers":["1,2,","D"]}'
 
 
-def arguments(parser):
-    numbers(parser, runs=200, seed=7)
-
-
-def pieces(sends, chance):
-    """Returns a request cut at random places."""
+def cut(sends, chance):
+    """Returns a request in pieces."""
     places = sorted(chance.sample(range(1, len(sends)), PIECES))
     return [sends[begin:end] for begin, end in zip([0, *places], [*places, len(sends)])]
 
 
-def exchanged(line, parts, pause):
-    """Sends a request in parts, and returns what comes back until the answer is whole, or the connection ends."""
+def exchanged(line, parts, pauses):
+    """Sends a request in parts, each before a pause, and returns what comes back until the answer is whole, or the connection ends."""
     text = b""
     line.setsockopt(socket.IPPROTO_TCP, socket.TCP_NODELAY, 1)
     try:
-        for number, part in enumerate(parts):
-            time.sleep(pause if number else 0)
+        for part, pause in zip(parts, [*pauses, 0]):
             line.sendall(part)
+            time.sleep(pause)
         while not is_whole(text) and (piece := line.recv(65536)):
             text += piece
     except BROKEN:
@@ -53,27 +47,23 @@ class OneClient:
     """A request on the office before it, and how long its answer takes."""
 
     def __init__(self, folder, office, order):
-        self.trial, self.sends = Trial(folder, office, order), order.sends
-        self.seconds = 0
+        self.trial, self.sends, self.seconds = Trial(folder, office, order), order.sends, 0
         self.seconds = statistics.median(self.served([self.sends])[0] for _ in range(5))
 
     def served(self, parts, wait=None):
         """Returns (seconds, the office, what the client had) of a `serve` that is killed after so many seconds, or after the answer."""
         here = self.trial.office.copied(self.trial.folder / "run")
         with here.serve(2) as serving, serving.connect() as line:
-            killer = threading.Timer(wait or 0, serving.process.kill)
             began = time.perf_counter()
-            if wait is not None:
-                killer.start()
-            text = exchanged(line, parts, self.seconds / PIECES)
+            killer = serving.killed_after(wait)
+            text = exchanged(line, parts, [self.seconds / PIECES] * (len(parts) - 1))
             seconds = time.perf_counter() - began
-            if wait is not None:
-                killer.join()
+            killer.join()
         return seconds, here, text
 
     def killed(self, how, chance):
         """Returns (whether the client had the whole answer, whether the rows are those after the request)."""
-        parts = pieces(self.sends, chance) if how == IN_PIECES else [self.sends]
+        parts = cut(self.sends, chance) if how == IN_PIECES else [self.sends]
         longest = self.seconds * (2.4 if how == IN_PIECES else 1.2)
         _, here, text = self.served(parts, None if how == AFTER else chance.uniform(0, longest))
         states, found = self.trial.states, (here.rows(), None)
@@ -85,17 +75,11 @@ class OneClient:
         return is_whole(text), found == states[-1] != states[0]
 
 
-def crowded_office(folder):
-    """Returns an office with a batch for each of twenty clerks."""
-    return Office(folder).begin(["ward 7 2 Harbour --id w", *(f"candidate 7 {n} 'Candidate {n}' --id c{n}" for n in (1, 2, 3)), "close 7 --id n",
-                                 *(f"batch {n} 7 {PAPERS} {n} 999 --id b{n}" for n in CLERKS)])
-
-
 class Crowd:
     """Twenty clerks who key at once, and orders that are handed over meanwhile."""
 
     def __init__(self, folder):
-        self.office, self.here = crowded_office(folder / "office"), folder / "here"
+        self.office, self.here = Office(folder / "office").begin(ward_orders(*((n, PAPERS, n, 999) for n in CLERKS))), folder / "here"
         self.before = self.office.rows()
         here = self.office.copied(self.here)
         self.seconds, self.answers, printed = self.served(here, random.Random(0))
@@ -105,18 +89,13 @@ class Crowd:
 
     def key(self, port, number, pauses):
         """Keys a batch, and returns what the clerk had of the answer."""
-        body = json.dumps({"id": "k", "round": 1, "papers": ["1,2,", "D"]}, separators=(",", ":"))
-        sends = request(f"/clerks/{number}/batches/{number}/keying", body=body)
-        text = b""
+        sends = request(f"/clerks/{number}/batches/{number}/keying", body=KEYING)
+        parts = [sends[9 * place:9 * place + 9] for place in range(len(pauses))] + [sends[9 * len(pauses):]]
         try:
             with socket.create_connection((HERE, port), timeout=SECONDS) as line:
-                for place, pause in enumerate(pauses):
-                    line.sendall(sends[9 * place:9 * place + 9])
-                    time.sleep(pause)
-                text = exchanged(line, [sends[9 * len(pauses):]], 0)
+                return exchanged(line, parts, pauses)
         except (*BROKEN, ConnectionRefusedError):
-            pass
-        return text
+            return b""
 
     def order(self, here):
         """Adds ten wards, one after the other, and returns those that were answered. The others must print a fault of the store."""
@@ -130,18 +109,16 @@ class Crowd:
         return added
 
     def served(self, here, chance, wait=None):
-        """Returns (seconds, the clerks' answers, the wards) of a `serve` that is killed after so many seconds, or once all were answered."""
+        """Returns (seconds, the clerks' answers, the wards) of a `serve` that is killed after so many seconds, or at the end."""
+        pauses = {n: [chance.uniform(0, 0.002) for _ in range(PIECES)] if n % 2 else [] for n in CLERKS}
         with here.serve() as serving, ThreadPoolExecutor(len(CLERKS) + 1) as pool:
             silent = [serving.connect() for _ in range(SILENT)]
             began = time.perf_counter()
-            killer = threading.Timer(wait or 0, serving.process.kill)
-            if wait is not None:
-                killer.start()
+            killer = serving.killed_after(wait)
             wards = pool.submit(self.order, here)
-            keyed = {n: pool.submit(self.key, serving.port, n, [chance.uniform(0, 0.002) for _ in range(PIECES)] if n % 2 else []) for n in CLERKS}
-            answers, added = {number: answer.result() for number, answer in keyed.items()}, wards.result()
-            seconds = time.perf_counter() - began
-            killer.cancel() if wait is None else killer.join()
+            answers = dict(zip(CLERKS, pool.map(lambda n: self.key(serving.port, n, pauses[n]), CLERKS)))
+            added, seconds = wards.result(), time.perf_counter() - began
+            killer.join()
             for line in silent:
                 line.close()
         return seconds, answers, added
@@ -167,25 +144,26 @@ class Crowd:
         had = {number for number, text in answers.items() if is_whole(text)}
         if not had <= kept or not set(added) <= wards:
             raise Wrong(f"the keyings of {sorted(had - kept)}, or the wards {sorted(set(added) - wards)}, were answered, and are lost")
-        _, answers, added_again = self.served(here, chance)
-        if answers != self.answers or set(added_again) != set(WARDS) or here.rows() != self.after:
+        _, answers, again = self.served(here, chance)
+        if answers != self.answers or set(again) != set(WARDS) or here.rows() != self.after:
             raise Wrong("twenty clerks who key again, and the officer, get something else, or leave other rows")
         return len(had), len(kept), len(added), len(wards)
 
 
-def main(given):
-    chance = random.Random(given.seed)
-    table = Table(f"The request ({given.runs} runs each, seed {given.seed})", "sent", "the whole answer had", "rows before it found", "rows after it")
+def main(runs=200, seed=7):
+    chance = random.Random(seed)
+    table = Table(f"The request ({runs} runs each, seed {seed})", "sent", "the whole answer had", "rows before it found", "rows after it")
     with temporary_folder() as folder:
         before = offices(folder)
         for number, order in (REQUESTS[place] for place in (1, 0, 2)):
             for how in (AT_ONCE, IN_PIECES, AFTER):
                 client = OneClient(folder / "client", before[number], order)
-                found = [client.killed(how, chance) for _ in range(given.runs)]
+                found = [client.killed(how, chance) for _ in range(runs)]
                 new = sum(is_new for _, is_new in found)
-                table.row(f"`{order.name}`", how, sum(had for had, _ in found), given.runs - new, new)
+                table.row(f"`{order.name}`", how, sum(had for had, _ in found), runs - new, new)
         crowd = Crowd(folder)
-        found = [crowd.killed(chance) for _ in range(given.runs)]
+        found = list(zip(*(crowd.killed(chance) for _ in range(runs))))
     table = Table("Twenty clerks at once, and ten orders", "runs", "answered", "found", "runs with some of them, and not all")
-    table.row("each clerk keys a batch", given.runs, sum(run[0] for run in found), sum(run[1] for run in found), sum(0 < run[1] < len(CLERKS) for run in found))
-    table.row("the office adds ten wards", given.runs, sum(run[2] for run in found), sum(run[3] for run in found), sum(run[2] < len(WARDS) for run in found))
+    kinds = (("each clerk keys a batch", found[:2], len(CLERKS)), ("the office adds ten wards", found[2:], len(WARDS)))
+    for what, (answered, kept), most in kinds:
+        table.row(what, runs, sum(answered), sum(kept), sum(0 < count < most for count in kept))

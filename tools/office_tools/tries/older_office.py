@@ -1,4 +1,4 @@
-"""Makes the file of an office as an earlier program left it, to bring over: the one that crates/store_tests/src/older/rows.rt holds as text."""
+"""Makes the file of an office as an earlier program left it, to bring over: crates/store_tests/src/older/rows.rt holds it as text."""
 import os
 import re
 import sqlite3
@@ -16,21 +16,13 @@ def statements():
     return [line.removeprefix("# ") for line in "".join(parts).replace('\\"', '"').splitlines()]
 
 
-def make(path):
+def main(path: Path):
     """Makes the file, with all rows in the file itself: the log goes as the connection is closed."""
+    if any(os.path.lexists(f"{path}{ending}") for ending in ("", "-wal")):
+        raise Wrong(f"{path}, or a log beside it, is there already")
     database = sqlite3.connect(path)
     try:
         database.execute("PRAGMA journal_mode = wal")
         database.executescript("BEGIN;\n" + ";\n".join(statements()) + ";\nCOMMIT;\n")
     finally:
         database.close()
-
-
-def arguments(parser):
-    parser.add_argument("path", type=Path, metavar="PATH", help="a file that isn't there yet")
-
-
-def main(given):
-    if any(os.path.lexists(f"{given.path}{ending}") for ending in ("", "-wal")):
-        raise Wrong(f"{given.path}, or a log beside it, is there already")
-    make(given.path)

@@ -1,7 +1,7 @@
 """Makes docs/page-7.png, the picture in README of the page of a ward, from a real office.
 
 It plays the ward of README, and compares its stage sheet with the one that README shows. Chromium draws the page of that ward, 1120
-pixels wide. The picture ends below the stages, and has 16 greys. It needs the program `chromium`.
+pixels wide. The picture ends below the stages, and has 16 greys. FILE is another file in its place. It needs the program `chromium`.
 """
 import base64
 import re
@@ -10,18 +10,16 @@ import zlib
 from pathlib import Path
 
 from office_tools.browser import Browser
+from office_tools.election import ward_orders
 from office_tools.office import ROOT, Office, Wrong, temporary_folder
 
 WIDTH, HEIGHT, MARGIN = 1120, 3000, 17
 TITLE = "Election of 6 May 2027, Harbour Council"
 PAPERS = ["1,2,"] * 4 + ["1,,2"] * 2 + [",1,"] + [",,1"] * 2
-ORDERS = ["ward 7 2 Harbour --id w1", "candidate 7 1 Ann --id c1", "candidate 7 2 Bob --id c2", "candidate 7 3 Cy --id c3", "close 7 --id n1",
-          f"batch 12 7 {len(PAPERS)} 4 9 --id b1", *(f"key {clerk} 12 1 {' '.join(PAPERS)} --id k1" for clerk in (4, 9)),
+ORDERS = [*ward_orders((12, len(PAPERS), 4, 9)), *(f"key {clerk} 12 1 {' '.join(PAPERS)} --id k1" for clerk in (4, 9)),
           "seal 7 --id s1", *(f"advance 7 --id a{stage}" for stage in (1, 2, 3)), "declare 7 --id d1"]
 # Where the stages end, in pixels from the top.
-END = "(() => { const tables = document.querySelectorAll('table'); return Math.ceil(tables[tables.length - 1].getBoundingClientRect().bottom); })()"
-
-
+END = "Math.ceil([...document.querySelectorAll('table')].at(-1).getBoundingClientRect().bottom)"
 # The greys of a picture's upper part, a hexadecimal digit a pixel.
 GREYS = """(async () => {
   const image = new Image();
@@ -31,25 +29,23 @@ GREYS = """(async () => {
   pen.drawImage(image, 0, 0);
   const {data} = pen.getImageData(0, 0, WIDTH, HEIGHT);
   let greys = '';
-  for (let at = 0; at < data.length; at += 4) greys += Math.floor((299 * data[at] + 587 * data[at + 1] + 114 * data[at + 2] + 8500) / 17000).toString(16);
+  for (let at = 0; at < data.length; at += 4) {
+    greys += Math.floor((299 * data[at] + 587 * data[at + 1] + 114 * data[at + 2] + 8500) / 17000).toString(16);
+  }
   return greys;
 })()"""
 
 
 def png_of(greys, height):
     """Returns a PNG in 16 greys."""
-    def piece(name, content):
-        return struct.pack(">I", len(content)) + name + content + struct.pack(">I", zlib.crc32(name + content))
     rows = b"".join(b"\0" + bytes.fromhex(greys[WIDTH * row:WIDTH * (row + 1)]) for row in range(height))
-    head = struct.pack(">IIBBBBB", WIDTH, height, 4, 0, 0, 0, 0)
-    return b"\x89PNG\r\n\x1a\n" + piece(b"IHDR", head) + piece(b"IDAT", zlib.compress(rows, 9)) + piece(b"IEND", b"")
+    found, head = b"\x89PNG\r\n\x1a\n", struct.pack(">IIBBBBB", WIDTH, height, 4, 0, 0, 0, 0)
+    for name, content in ((b"IHDR", head), (b"IDAT", zlib.compress(rows, 9)), (b"IEND", b"")):
+        found += struct.pack(">I", len(content)) + name + content + struct.pack(">I", zlib.crc32(name + content))
+    return found
 
 
-def arguments(parser):
-    parser.add_argument("file", nargs="?", type=Path, default=ROOT / "docs/page-7.png", help="another file in its place")
-
-
-def main(given):
+def main(file=ROOT / "docs/page-7.png"):
     with temporary_folder() as folder:
         office = Office(folder).begin(ORDERS)
         shown = re.search(r"^```text\n(Ward 7 Harbour\n.*?)^```", (ROOT / "README.md").read_text(encoding="utf-8"), re.S | re.M)
@@ -63,5 +59,5 @@ def main(given):
             end, picture = browser.value(END) + MARGIN, base64.b64encode(browser.picture()).decode()
             browser.open("about:blank")
             greys = browser.value(GREYS.replace("PICTURE", picture).replace("WIDTH", str(WIDTH)).replace("HEIGHT", str(end)))
-    given.file.write_bytes(png_of(greys, end))
-    print(f"{given.file}: {WIDTH} by {end} pixels")
+    Path(file).write_bytes(png_of(greys, end))
+    print(f"{file}: {WIDTH} by {end} pixels")

@@ -15,6 +15,7 @@ import re
 import shutil
 import sys
 import tempfile
+from dataclasses import dataclass, field
 from pathlib import Path
 
 from office_tools.office import Wrong
@@ -85,7 +86,7 @@ def taken(words, kind):
 
 
 def read_up_to_shared(ranks, withdrawn):
-    """Returns the preferences of a paper with these ranks: each is one candidate's, once the withdrawn are passed over, up to one that isn't."""
+    """Returns the preferences of a paper with these ranks, up to the first that several share who stand."""
     shared = (place for place, rank in enumerate(ranks) if sum(number not in withdrawn for number in rank) > 1)
     return [number for rank in ranks[:next(shared, len(ranks))] for number in rank]
 
@@ -115,15 +116,13 @@ class Ballots:
         self.ward_name = taken(words, str)
         if self.seats < 1 or next(words, None) is not None:
             raise Unreadable("no seats, or words after the ward's name")
-        self.take([told for what, told in ours if what == "ward"], [told for what, told in ours if what == "rejected"])
-        self.lots = dict(told for what, told in ours if what == "lot")
-        if len(self.lots) < sum(what == "lot" for what, _ in ours):
-            raise Unreadable("two lots at one stage")
+        self.take(*([told for what, told in ours if what == kind] for kind in OURS))
 
-    def take(self, wards, rejected):
-        """Takes the ward's number and the rejected papers, each of which a file may give once at most."""
-        if len(wards) > 1 or len(rejected) > 1:
-            raise Unreadable("a ward's number or rejected papers told twice")
+    def take(self, wards, rejected, lots):
+        """Takes the ward's number and the rejected papers, each of which a file may give once at most, and a lot for each stage."""
+        self.lots = dict(lots)
+        if len(wards) > 1 or len(rejected) > 1 or len(self.lots) < len(lots):
+            raise Unreadable("a ward's number or rejected papers told twice, or two lots at one stage")
         if (self.bundles or rejected) and len(self.names) <= self.seats:
             raise Unreadable("no more candidates than seats, but papers")
         self.ward = wards[0][0] if wards else 1
@@ -143,15 +142,17 @@ def written(lines):
     return "".join(f"{line}\n" for line in lines).encode("utf-8", "surrogateescape")
 
 
+@dataclass(eq=False)
 class Candidate:
-    """A candidate, and the parcels that lie before him."""
+    """A candidate, the parcels that lie before him, and his votes, now and at the end of each stage."""
 
-    def __init__(self, number, name):
-        self.number, self.name, self.parcels, self.votes = number, name, [], 0
-        # His votes at the end of each stage.
-        self.figures = []
-        # As on the sheet: - while he continues, E at the stage at which he is elected and e after it, x once he is excluded.
-        self.letter = "-"
+    number: int
+    name: str
+    parcels: list = field(default_factory=list)
+    votes: int = 0
+    figures: list = field(default_factory=list)
+    # As on the sheet: - while he continues, E at the stage at which he is elected and e after it, x once he is excluded.
+    letter: str = "-"
 
     def receives(self, parcel):
         """Lays a parcel before him: he is credited with the values of its papers."""
@@ -252,7 +253,7 @@ class Count:
         return handed_on
 
     def next_available(self, bundle, giver):
-        """Returns the continuing candidate whom a bundle's papers prefer next after the one that has them; None if there is none."""
+        """Returns the continuing candidate whom a bundle's papers prefer next after the one that has them, if there is one."""
         behind = bundle.preferences[bundle.preferences.index(giver.number) + 1:]
         return next((self.candidates[number] for number in behind if self.candidates[number].letter == "-"), None)
 
@@ -331,7 +332,6 @@ def play(played, totals):
 
 
 def play_wards(wards, seed):
-    """Plays made-up wards, and prints the table."""
     totals, home = collections.Counter(), Path(tempfile.mkdtemp(prefix="recount-"))
     for place in range(1, wards + 1):
         played = PlayedWard(home / str(place), Ward(random.Random(f"{seed} {place}")))
@@ -351,21 +351,15 @@ def play_wards(wards, seed):
     home.rmdir()
 
 
-def arguments(parser):
-    parser.add_argument("ballots", nargs="?", metavar="BALLOTS", help="the file to count")
-    parser.add_argument("--wards", type=int, metavar="N", help="play so many made-up wards instead")
-    parser.add_argument("--seed", type=int, default=1, help="default 1")
-
-
-def main(given):
-    if given.wards:
-        return play_wards(given.wards, given.seed)
-    if not given.ballots:
+def main(ballots: Path = None, *, wards=0, seed=1):
+    if wards:
+        return play_wards(wards, seed)
+    if not ballots:
         raise Wrong("a file of ballots is needed, or --wards N")
     try:
-        count = Count(Ballots(Path(given.ballots).read_bytes()))
+        count = Count(Ballots(ballots.read_bytes()))
     except (OSError, Unreadable) as error:
-        raise Wrong(f"{given.ballots}: {error}") from error
+        raise Wrong(f"{ballots}: {error}") from error
     sys.stdout.buffer.write(count.sheet())
     sys.stdout.flush()
     if count.waits:

@@ -5,7 +5,6 @@ call reports that.
 """
 import ast
 import itertools
-import os
 import re
 import subprocess
 
@@ -24,7 +23,7 @@ TESTS = [
 WANTING = re.compile(r'error: (AllocError|AllocFailed \{ \.\. \}|Broken|"memory was wanting"|"no office is made")\n|\[.*\]: \[\]\n')
 FAULTS = ["fault 101: memory\n", "fault 102: store\n", "fault 107: socket or output\n"]
 STOPPED = "stopped\n"
-RIGHT, ENDED, FAULT = "made again, or not needed", "ended by want of memory", "a fault reported, or stopped after a beginning"
+RESULTS = RIGHT, ENDED, FAULT = "made again, or not needed", "ended by want of memory", "a fault reported, or stopped after a beginning"
 
 
 def result_of(status, text):
@@ -43,23 +42,21 @@ def result_of(status, text):
 
 
 def runs(program, test, made, told):
-    """Runs the test without each growth in turn, until it meets no refusal, and returns how it ended."""
+    """Runs the test without each growth in turn, until it meets no refusal, and yields how it ended."""
     for growth in itertools.count(1):
+        remove(told)
         env = {"LD_PRELOAD": made, "REFUSING_GROWTH": str(growth), "REFUSING_TOLD": str(told)}
         done = subprocess.run([program, test], env=env, stdout=subprocess.PIPE, stderr=subprocess.STDOUT, timeout=120, text=True)
-        if not os.path.exists(told):
-            if done.returncode:
-                raise Wrong(f"{test} fails though nothing is refused")
+        if not told.exists() and done.returncode == 0:
             return
-        remove(told)
-        result = result_of(done.returncode, done.stdout)
+        result = result_of(done.returncode, done.stdout) if told.exists() else None
         if result is None:
             raise Wrong(f"{test}: growth {growth}: status {done.returncode}: {done.stdout}")
         yield result
 
 
-def main(_):
-    table = Table("Calls", "growths refused", RIGHT, ENDED, FAULT)
+def main():
+    table = Table("Calls", "growths refused", *RESULTS)
     with temporary_folder() as folder:
         made = library(folder)
         for crate, test, calls in TESTS:
@@ -67,4 +64,4 @@ def main(_):
             if not program.exists():
                 raise Wrong(f"{program} isn't built: run rt test in {crate}")
             found = list(runs(program, test, made, folder / "told"))
-            table.row(calls, len(found), *map(found.count, (RIGHT, ENDED, FAULT)))
+            table.row(calls, len(found), *map(found.count, RESULTS))

@@ -4,6 +4,7 @@ docs/HOSTILE.md says what the orders may print, and what the files hold afterwar
 call on the file that they make, and of `serve`: all that is there must be its owner's alone.
 """
 import ctypes
+import functools
 import itertools
 import os
 import random
@@ -14,15 +15,15 @@ import tempfile
 import time
 from pathlib import Path
 
-from office_tools.command import numbers
 from office_tools.election import COPY, COPYING, ELECTION, FILE, REPLAY, REQUESTS, SCRIPTED, Order, offices
-from office_tools.office import LOG, NO_OFFICE, SECONDS, STORE, TOWN, Office, Wrong, ended, remove, temporary_folder
+from office_tools.office import LOG, NO_OFFICE, SECONDS, STORE, TOWN, Office, Wrong, ended, remove, temporary_folder, timed, waited
 from office_tools.tables import Table
 from office_tools.trials import NOT_WRITTEN, left, library
 
 KEYINGS = 7
 GONE = "fault 113: file gone or replaced\n"
-GONE_SENT = "HTTP/1.1 503 Service Unavailable\r\nContent-Type: application/json\r\nContent-Length: 13\r\nConnection: close\r\n\r\n{\"fault\":113}"
+GONE_SENT = ("HTTP/1.1 503 Service Unavailable\r\nContent-Type: application/json\r\nContent-Length: 13\r\nConnection: close\r\n"
+             '\r\n{"fault":113}')
 QUAY, HILL, STATUS, INIT = (Order(line.split()) for line in ("ward 8 1 Quay --id q", "ward 9 2 Hill --id h", "status 7", "init"))
 
 
@@ -51,10 +52,6 @@ PAIRS = [
 ]
 
 
-def arguments(parser):
-    numbers(parser, runs=100, seed=7)
-
-
 def kind(printed):
     """Returns the number of the fault that was printed, or that the order was answered."""
     return printed[2][6:9] if printed[0] == 3 else "answered"
@@ -66,9 +63,7 @@ class Pair:
     def __init__(self, folder, office, first, second):
         self.folder, self.office, self.orders = folder, office, (first, second)
         self.in_turn = [self.sequence(0, 1), self.sequence(1, 0)]
-        began = time.perf_counter()
-        self.sequence(0, 1)
-        self.seconds = (time.perf_counter() - began) / 2
+        self.seconds = timed(first.done, office.copied(folder / "sequence"))[1]
 
     def sequence(self, *places):
         """Returns ([what each order prints], [the rows after each]), in a sequence."""
@@ -81,9 +76,7 @@ class Pair:
     def turned_away(self, last):
         """Returns what an order may print while the other makes its file."""
         other = self.orders[1 - last]
-        if other.words != ["init"]:
-            return None
-        return (3, "", NO_OFFICE if other.town == TOWN else NOT_WRITTEN + "\n")
+        return (3, "", NO_OFFICE if other.town == TOWN else NOT_WRITTEN + "\n") if other.words == ["init"] else None
 
     def tried(self, chance):
         """Returns 'both', or the fault that one printed."""
@@ -106,7 +99,6 @@ class Pair:
 
 
 def print_pairs(folder, before, runs, chance):
-    """Prints the table of orders at once."""
     kinds = ("102", "105", "109", "110")
     table = Table(f"Two orders at once ({runs} runs each)", "both answered", *(f"one: fault {word}" for word in kinds))
     for what, number, first, second in PAIRS:
@@ -129,9 +121,11 @@ def held(office):
 class Meddling:
     """What is done to an office's files while orders run, and what must come of it."""
 
-    def __init__(self, folder, office, keyed, other, chance):
-        self.folder, self.office, self.keyed, self.other, self.chance = folder, office, keyed, other, chance
-        self.before, self.keying = office.rows(), ELECTION[KEYINGS]
+    def __init__(self, folder, before, chance):
+        self.folder, self.office, self.keyed, self.chance = folder, before[KEYINGS], before[KEYINGS + 1], chance
+        self.other = before[2].copied(folder / "other")
+        QUAY.done(self.other)
+        self.before, self.keying = self.office.rows(), ELECTION[KEYINGS]
 
     def after(self, office, order):
         """Returns what an order prints if nothing is done to its file, and the rows and the copy that it leaves."""
@@ -162,11 +156,7 @@ class Meddling:
 
     def begun(self, order):
         """Begins an order, and waits a random part of the time that it takes. Returns the office, its files, and the process."""
-        here = self.office.copied(self.folder / "timed")
-        began = time.perf_counter()
-        order.done(here)
-        seconds = time.perf_counter() - began
-        here = self.office.copied(self.folder / "run")
+        seconds, here = timed(order.done, self.office.copied(self.folder / "timed"))[1], self.office.copied(self.folder / "run")
         files, process = held(here), order.started(here)
         time.sleep(self.chance.uniform(0, 1.2 * seconds))
         return here, files, process
@@ -177,14 +167,11 @@ class Meddling:
         remove(*(here.folder / name for name in names))
         printed, found = ended(process), self.held_rows(files)
         wanted, (after, copy) = self.after(self.office, order)
-        if found not in (self.before, after) or printed == wanted and found != after:
-            raise Wrong(f"{names} removed: {printed}, and other rows")
-        if printed != wanted and printed not in [(3, "", fault) for fault in (STORE, NO_OFFICE, *([NOT_WRITTEN + "\n"] if order is COPYING else []))]:
-            raise Wrong(f"{names} removed: {printed}")
-        if left(here)[1] != (copy if printed == wanted else None):
-            raise Wrong(f"{names} removed: {printed}, and another copy")
-        if TOWN in names and STATUS.done(here) != (3, "", NO_OFFICE):
-            raise Wrong(f"{names} removed: an office is there")
+        faults = [(3, "", fault) for fault in (STORE, NO_OFFICE, *([NOT_WRITTEN + "\n"] if order is COPYING else []))]
+        if printed not in [wanted, *faults] or found not in (self.before, after) or printed == wanted and found != after:
+            raise Wrong(f"{names} removed: {printed}, or other rows")
+        if left(here)[1] != (copy if printed == wanted else None) or TOWN in names and STATUS.done(here) != (3, "", NO_OFFICE):
+            raise Wrong(f"{names} removed: {printed}, and another copy, or an office is there")
         return printed
 
     def replaced(self, names, order):
@@ -202,7 +189,7 @@ class Meddling:
         return printed
 
     def served(self, names, is_replaced, order, result):
-        """Takes files away while `serve` has them open. Where nothing is taken, the order that is handed over and a client's keying are done."""
+        """Takes files away while `serve` has them open. If none is, the order that is handed over and a client's keying are done."""
         here = self.keyed.copied(self.folder / "run")
         files = held(here)
         with here.serve(2) as serving:
@@ -213,7 +200,8 @@ class Meddling:
                     shutil.copyfile(self.other.folder / name, here.folder / name)
             printed, client = order.done(here), serving.ask(REQUESTS[1][1].sends).decode()
             said = serving.ended()
-        after, there, bare = (office.copied(self.folder / name) for office, name in ((self.keyed, "after"), (self.other, "there"), (self.keyed, "bare")))
+        after, bare = (self.keyed.copied(self.folder / name) for name in ("after", "bare"))
+        there = self.other.copied(self.folder / "there")
         if not names:
             order.done(after)
         answered = GONE_SENT if names else REQUESTS[1][1].done(after).out
@@ -221,30 +209,38 @@ class Meddling:
             order.done(there)
         remove(*(bare.folder / name for name in names))
         at = left(after) if not names else left(there) if is_replaced else left(bare)
-        if said != (0, "", GONE if names else "") or client != answered or self.held_rows(files) != after.rows() or kind(printed) != result or left(here) != at:
+        is_right = said == (0, "", GONE if names else "") and client == answered and self.held_rows(files) == after.rows()
+        if not is_right or kind(printed) != result or left(here) != at:
             raise Wrong(f"{names} taken from serve, which prints {said}; the order {printed}, the client {client}")
         return printed
 
     def cases(self, runs):
         """Returns (what is done to the files, how often, a function that does it once and returns what was printed)."""
-        one, log, both = ("the file", [TOWN]), ("its log", [LOG]), ("both", [TOWN, LOG])
-        for what, names in (one, log, ("the folder", ["."])):
-            yield f"{what} can't be written to", 1, lambda names=names: self.read_only(names, QUAY)
-        yield "the folder can't be written to, where a copy is made", 1, lambda: self.read_only(["."], COPYING)
-        for what, names in (one, log, both):
-            yield f"{what} removed while an order runs", runs, lambda names=names: self.removed(names, self.keying)
-        yield "the file removed while it is copied", runs, lambda: self.removed([TOWN], COPYING)
-        for what, names in (one, both):
-            yield f"{what} replaced while an order runs", runs, lambda names=names: self.replaced(names, self.keying)
-        for what, *case in (
-            ("nothing, and `serve` has them open", [], False, HILL, "answered"),
-            ("nothing, and `serve` has them open while a copy is made", [], False, COPYING, "answered"),
-            ("both removed, and `serve` has them open", [TOWN, LOG], False, HILL, "105"),
-            ("the file replaced, and `serve` has them open", [TOWN], True, HILL, "102"),
-            ("both replaced, and `serve` has them open", [TOWN, LOG], True, HILL, "answered"),
-            ("its log removed, and `serve` has them open", [LOG], False, HILL, "113"),
-        ):
-            yield what, 1, lambda case=case: self.served(*case)
+        file, log, both = [TOWN], [LOG], [TOWN, LOG]
+        return [(what, times, functools.partial(*act)) for what, times, *act in (
+            ("the file can't be written to", 1, self.read_only, file, QUAY),
+            ("its log can't be written to", 1, self.read_only, log, QUAY),
+            ("the folder can't be written to", 1, self.read_only, ["."], QUAY),
+            ("the folder can't be written to, where a copy is made", 1, self.read_only, ["."], COPYING),
+            ("the file removed while an order runs", runs, self.removed, file, self.keying),
+            ("its log removed while an order runs", runs, self.removed, log, self.keying),
+            ("both removed while an order runs", runs, self.removed, both, self.keying),
+            ("the file removed while it is copied", runs, self.removed, file, COPYING),
+            ("the file replaced while an order runs", runs, self.replaced, file, self.keying),
+            ("both replaced while an order runs", runs, self.replaced, both, self.keying),
+            ("nothing, and `serve` has them open", 1, self.served, [], False, HILL, "answered"),
+            ("nothing, and `serve` has them open while a copy is made", 1, self.served, [], False, COPYING, "answered"),
+            ("both removed, and `serve` has them open", 1, self.served, both, False, HILL, "105"),
+            ("the file replaced, and `serve` has them open", 1, self.served, file, True, HILL, "102"),
+            ("both replaced, and `serve` has them open", 1, self.served, both, True, HILL, "answered"),
+            ("its log removed, and `serve` has them open", 1, self.served, log, False, HILL, "113"))]
+
+    def show(self, runs, seed):
+        kinds = ("102", "105", "110", "113")
+        table = Table(f"What is done to the file and its log (seed {seed})", "runs", "answered", *(f"fault {word}" for word in kinds))
+        for what, times, meddle in self.cases(runs):
+            found = [kind(meddle()) for _ in range(times)]
+            table.row(what, times, *map(found.count, ("answered", *kinds)))
 
 
 # Orders that make a file, the office before them, the file's name, and those that are given at that file meanwhile.
@@ -267,23 +263,18 @@ class Waiting:
 
     def __init__(self, made, here, order, name, call, has_room=True, limit=SECONDS):
         place = Path(tempfile.mkdtemp(dir=here.folder.parent))
-        self.note, self.awaited = place / "waits", place / "goes"
+        note, self.awaited = place / "waits", place / "goes"
         env = {**os.environ, "LD_PRELOAD": made, "REFUSING_WAY": "waits", "REFUSING_NAMES": name, "REFUSING_CALL": str(call),
-               "REFUSING_TOLD": str(self.note), "REFUSING_AWAITED": str(self.awaited)}
+               "REFUSING_TOLD": str(note), "REFUSING_AWAITED": str(self.awaited)}
         self.process = order.started(here, env=env, restore_signals=False, preexec_fn=None if has_room else without_room)
-        until = time.monotonic() + limit
-        while not self.note.exists() and self.process.poll() is None and time.monotonic() < until:
-            time.sleep(0.0005)
-        self.waits = self.note.exists()
+        waited(lambda: note.exists() or self.process.poll() is not None, limit)
+        self.waits = note.exists()
 
     def ended(self, seconds=None):
         """Lets it go on, and returns what it prints; None if it doesn't end within these seconds."""
         self.awaited.touch()
-        until = time.monotonic() + (seconds or 0)
-        while seconds and self.process.poll() is None:
-            if time.monotonic() > until:
-                return None
-            time.sleep(0.0005)
+        if seconds and not waited(lambda: self.process.poll() is not None, seconds):
+            return None
         return ended(self.process)
 
 
@@ -300,7 +291,7 @@ def check_made(here, name, printed, before):
 
 
 def gaps(folder, made, office, first, name, words):
-    """Returns what each second order prints, for all pairs of calls before which the two wait."""
+    """Yields what each second order prints, for all pairs of calls before which the two wait."""
     for one in itertools.count(1):
         for other in range(1, FIRST_CALLS + 1):
             here = office.copied(folder / "gap")
@@ -321,20 +312,13 @@ def gaps(folder, made, office, first, name, words):
 
 
 def print_gaps(folder, made, before):
-    """Prints the table of orders that find no room."""
-    table = Table("An order that finds no room for its file", "another at that file", "pairs of calls", "answered", "fault 102", "fault 105")
-    for what, number, first, name in MAKING:
-        for coming, words in COMING:
-            found = [kind(printed) for printed in gaps(folder, made, before[number], first, name, words)]
-            if not found:
-                raise Wrong("no order waits before its calls: the program has to be linked dynamically")
-            table.row(what, coming, len(found), *map(found.count, ("answered", "102", "105")))
-
-
-def open_to_others(office):
-    """Returns the files of an office, of its copy and its socket, that others than their owner have rights to."""
-    paths = [office.folder / (name + ending) for name in (TOWN, COPY) for ending in ("", "-wal", "-journal", "-serve")]
-    return [path.name for path in paths if path.exists() and path.stat().st_mode & 0o077]
+    heads = ("another at that file", "pairs of calls", "answered", "fault 102", "fault 105")
+    table = Table("An order that finds no room for its file", *heads)
+    for (what, number, first, name), (coming, words) in itertools.product(MAKING, COMING):
+        found = [kind(printed) for printed in gaps(folder, made, before[number], first, name, words)]
+        if not found:
+            raise Wrong("no order waits before its calls: the program has to be linked dynamically")
+        table.row(what, coming, len(found), *map(found.count, ("answered", "102", "105")))
 
 
 def private(office, folder):
@@ -343,6 +327,12 @@ def private(office, folder):
     for path in here.folder.iterdir():
         path.chmod(0o600)
     return here
+
+
+def open_to_others(office):
+    """Returns the files of an office, of its copy and its socket, that others than their owner have rights to."""
+    paths = [office.folder / (name + ending) for name in (TOWN, COPY) for ending in ("", "-wal", "-journal", "-serve")]
+    return [path.name for path in paths if path.exists() and path.stat().st_mode & 0o077]
 
 
 def rights(folder, made, office, first, name):
@@ -370,10 +360,10 @@ def rights_served(folder, office):
 
 
 def print_rights(folder, made, before):
-    """Prints the table of rights."""
     table = Table("What is made, under masks 0, 022 and 077", "its rights looked at, of their owner alone")
-    kinds = [(what, lambda number=number, first=first, name=name: rights(folder, made, before[number], first, name)) for what, number, first, name in MAKING]
-    for what, look in [*kinds, ("a socket, and a copy of an office that is served", lambda: rights_served(folder, before[KEYINGS + 1]))]:
+    kinds = [(what, functools.partial(rights, folder, made, before[number], first, name)) for what, number, first, name in MAKING]
+    kinds.append(("a socket, and a copy of an office that is served", functools.partial(rights_served, folder, before[KEYINGS + 1])))
+    for what, look in kinds:
         looks = 0
         for mask in (0o000, 0o022, 0o077):
             own = os.umask(mask)
@@ -382,19 +372,12 @@ def print_rights(folder, made, before):
         table.row(what, looks)
 
 
-def main(given):
-    chance = random.Random(given.seed)
+def main(runs=100, seed=7):
+    chance = random.Random(seed)
     with temporary_folder() as folder:
         before = offices(folder)
-        other = before[2].copied(folder / "other")
-        QUAY.done(other)
-        print_pairs(folder, before, given.runs, chance)
-        kinds = ("102", "105", "110", "113")
-        table = Table(f"What is done to the file and its log (seed {given.seed})", "runs", "answered", *(f"fault {word}" for word in kinds))
-        meddling = Meddling(folder, before[KEYINGS], before[KEYINGS + 1], other, chance)
-        for what, times, meddle in meddling.cases(given.runs):
-            found = [kind(meddle()) for _ in range(times)]
-            table.row(what, times, *map(found.count, ("answered", *kinds)))
+        print_pairs(folder, before, runs, chance)
+        Meddling(folder, before, chance).show(runs, seed)
         made = library(folder)
         print_gaps(folder, made, before)
         print_rights(folder, made, before)

@@ -3,12 +3,12 @@
 docs/HOSTILE.md has a line for each case. An order that finds its file held tries again for ten seconds. It reads its own files before it
 connects to `serve`, which waits less for a silent connection than the pipe of the table takes.
 """
+import contextlib
 import fcntl
 import itertools
 import os
 import pty
 import re
-import select
 import socket
 import sqlite3
 import struct
@@ -17,8 +17,7 @@ import threading
 import time
 from concurrent.futures import ThreadPoolExecutor
 
-from office_tools.command import numbers
-from office_tools.office import LOG, SCRIPT, STORE, TOWN, Office, Wrong, program, temporary_folder
+from office_tools.office import LOG, SCRIPT, STORE, TOWN, Office, Wrong, listens, program, temporary_folder, timed, waited
 from office_tools.tables import Table
 
 SERVING = 12
@@ -30,10 +29,6 @@ SCRIPT_LIMIT = 32 << 20
 STEERING, SHOWN = "A\u009b31m\u202eB\u061c\u2066C", b"A\xc2?31m\xe2\x80?B\xd8?\xe2\x81?C"
 STEERS_TERMINAL = re.compile(rb"\xc2[\x80-\x9f]|\xe2\x80[\xaa-\xae]|\xd8\x9c|\xe2\x81[\xa6-\xa9]")
 OPEN_LINE = b"town.db is open to other accounts on this machine; 'chmod 600 town.db town.db-wal' closes it\n"
-
-
-def arguments(parser):
-    numbers(parser, orders=8)
 
 
 def expect(what, found, wanted):
@@ -58,54 +53,50 @@ def lock_of_sqlite(path):
 LOCKS = [(lock_of_an_order, "an order", "another order holds it"), (lock_of_sqlite, "another program", "another program has it open")]
 
 
-def wards(first, count):
-    """Returns the lines of a script that adds wards, and what they print."""
-    added = range(first, first + count)
-    return [f"ward {n} 1 Ward --id p{n}\n" for n in added], "".join(f"ward {n} added\n" for n in added)
+def added(ward):
+    """Returns what an order prints that adds a ward."""
+    return 0, f"ward {ward} added\n", ""
+
+
+def script_of(first, count):
+    """Returns the lines of a script that adds wards, and what it prints."""
+    wards = range(first, first + count)
+    return [f"ward {n} 1 Ward --id p{n}\n" for n in wards], (0, "".join(added(n)[1] for n in wards), "")
 
 
 class Waits:
     """The office, and the table of how long its orders took."""
 
     def __init__(self, folder):
-        self.office = Office(folder)
-        expect("init", self.office.run("init"), (0, "office ready\n", ""))
+        self.office = Office(folder).begin()
         expect("its log", (self.office.folder / LOG).exists(), True)
-        self.path, self.pipe = self.office.folder / TOWN, self.office.folder / "pipe"
-        self.table = Table("What", "seconds")
+        self.path, self.table = self.office.folder / TOWN, Table("What", "seconds")
 
     def run(self, *words):
         return self.office.run(*words, seconds=180)
 
-    def timed(self, *words):
-        """Returns what an order printed, and its seconds."""
-        began = time.perf_counter()
-        return self.run(*words), time.perf_counter() - began
-
     def done(self, what, seconds):
         self.table.row(what, f"{seconds:.1f}")
 
-    def add(self, number, front):
-        return self.run("ward", number, 1, f"Ward {number}", "--id", f"{front}{number}")
+    def add(self, number):
+        return self.run("ward", number, 1, f"Ward {number}", "--id", f"w{number}")
 
     def many_at_once(self, orders):
-        """Gives several orders at once."""
-        began, added = time.perf_counter(), range(AT_ONCE, AT_ONCE + orders)
+        began, wards = time.perf_counter(), range(AT_ONCE, AT_ONCE + orders)
         with ThreadPoolExecutor(orders) as pool:
-            found = list(pool.map(lambda n: self.add(n, "m"), added))
-        expect("orders at once", found, [(0, f"ward {n} added\n", "") for n in added])
+            expect("orders at once", list(pool.map(self.add, wards)), list(map(added, wards)))
         self.done(f"{orders} orders at once: all are done", time.perf_counter() - began)
 
     def held(self):
         """Gives orders while the file is held, for a second and longer than they wait."""
         for hold, what, _ in LOCKS:
             threading.Timer(1, hold(self.path)).start()
-            found, seconds = self.timed("receipts")
+            found, seconds = timed(self.run, "receipts")
             expect(what, (found.status, found.err, seconds >= 1), (0, "", True))
             self.done(f"the file held by {what} for a second: the order is done", seconds)
         for hold, what, who in LOCKS:
             free = hold(self.path)
-            found, seconds = self.timed("receipts")
+            found, seconds = timed(self.run, "receipts")
             free()
             expect(what, found, (3, "", f"{STORE}waited ten seconds for town.db: {who}\n"))
             expect(f"{what}: gave up in time", 9.9 < seconds < 20, True)
@@ -114,14 +105,10 @@ class Waits:
     def serve(self):
         """Serves the office, and waits for the socket of orders."""
         serving = self.office.serve()
-        while serving.process.poll() is None:
-            with socket.socket(socket.AF_UNIX) as line:
-                try:
-                    line.connect(f"{self.path}-serve")
-                    return serving
-                except OSError:
-                    time.sleep(0.01)
-        raise Wrong(f"serve ended: {serving.ended()}")
+        waited(lambda: listens(f"{self.path}-serve", socket.AF_UNIX) or serving.process.poll() is not None)
+        if serving.process.poll() is not None:
+            raise Wrong(f"serve ended: {serving.ended()}")
+        return serving
 
     def while_serve_comes_and_goes(self):
         """Gives orders one after the other, while `serve` begins and is ended again and again."""
@@ -129,10 +116,9 @@ class Waits:
 
         def orders():
             for number in itertools.cycle(COMING):
-                if ends.is_set():
+                if ends.wait(0.05):
                     return
-                time.sleep(0.05)
-                found.append((number, self.add(number, "s")))
+                found.append((number, self.add(number)))
         giver = threading.Thread(target=orders, daemon=True)
         began = time.perf_counter()
         giver.start()
@@ -143,46 +129,45 @@ class Waits:
             serving.ended(30)
         ends.set()
         giver.join()
-        cut = [(number, printed) for number, printed in found if printed != (0, f"ward {number} added\n", "")]
+        cut = [(number, printed) for number, printed in found if printed != added(number)]
         # One whose server was ended after it had read the order may have been done: it says so, and is given again.
         for number, printed in cut:
             expect(f"ward {number}, cut off", printed, (3, "", STORE))
-            expect(f"ward {number}, again", self.add(number, "s").status, 0)
-        self.done(f"{len(found)} orders while `serve` begins and is ended {SERVING} times: {len(found) - len(cut)} done at once, {len(cut)} when given again", time.perf_counter() - began)
+            expect(f"ward {number}, again", self.add(number).status, 0)
+        what = f"{len(found)} orders while `serve` begins and is ended {SERVING} times: "
+        self.done(f"{what}{len(found) - len(cut)} done at once, {len(cut)} when given again", time.perf_counter() - began)
 
-    def piped(self, lines, pause, then=lambda number: None):
-        """Returns what a script prints that comes through a pipe, with a pause after each line, and its seconds."""
+    def piped(self, first, count, pause, then=lambda number: None):
+        """Sends a script through a pipe, with a pause after each line, and returns its seconds."""
+        lines, wanted = script_of(first, count)
+
         def feed():
-            with open(self.pipe, "w", encoding="ascii") as file:
+            with open(self.office.folder / "pipe", "w", encoding="ascii", buffering=1) as file:
                 for number, line in enumerate(lines):
                     file.write(line)
-                    file.flush()
                     time.sleep(pause)
                     then(number)
         feeder = threading.Thread(target=feed, daemon=True)
         feeder.start()
-        found = self.timed("replay", "pipe")
+        found, seconds = timed(self.run, "replay", "pipe")
         feeder.join()
-        return found
+        expect("a script through a pipe", found, wanted)
+        return seconds
 
     def slow_and_long(self):
         """Sends scripts that are slow, or long, while the office is served."""
-        os.mkfifo(self.pipe)
+        os.mkfifo(self.office.folder / "pipe")
         with self.serve() as serving:
-            lines, wanted = wards(PIPED, 8)
-            found, seconds = self.piped(lines, 5)
-            expect("a script through a pipe", found, (0, wanted, ""))
-            self.done("a script that comes through a pipe for 40 seconds, while served: it is done", seconds)
-            lines, wanted = wards(LONG, 4)
+            self.done("a script that comes through a pipe for 40 seconds, while served: it is done", self.piped(PIPED, 8, 5))
+            lines, wanted = script_of(LONG, 4)
             text = "".join(lines)
-            for size, fits in ((SCRIPT_LIMIT - 4096, True), (SCRIPT_LIMIT + 4096, False)):
-                (self.office.folder / SCRIPT).write_text("# " + "x" * (size - len(text) - 3) + "\n" + text)
-                found, seconds = self.timed("replay", SCRIPT)
-                expect(f"a script of {size} bytes", found, (0, wanted, "") if fits else (3, "", STORE))
-                self.done(f"a script of 32 MiB {'less' if fits else 'and'} 4 KiB, while served: {'it is done' if fits else 'fault 102'}", seconds)
-            lines, wanted = wards(KILLED, 4)
-            found, seconds = self.piped(lines, 1, lambda number: serving.process.kill() if number == 1 else None)
-            expect("a script through a pipe, and `serve` is killed", found, (0, wanted, ""))
+            for size, what, wanted in ((SCRIPT_LIMIT - 4096, "less 4 KiB, while served: it is done", wanted),
+                                       (SCRIPT_LIMIT + 4096, "and 4 KiB, while served: fault 102", (3, "", STORE))):
+                self.office.write(SCRIPT, ["# " + "x" * (size - len(text) - 3), text.rstrip()])
+                found, seconds = timed(self.run, "replay", SCRIPT)
+                expect(f"a script of {size} bytes", found, wanted)
+                self.done(f"a script of 32 MiB {what}", seconds)
+            seconds = self.piped(KILLED, 4, 1, lambda number: serving.process.kill() if number == 1 else None)
             self.done("`serve` is killed while a script comes through a pipe: the order is done", seconds)
 
     def at_terminal(self, *words):
@@ -190,20 +175,16 @@ class Waits:
         ours, theirs = pty.openpty()
         process = subprocess.Popen([program(), TOWN, *words], cwd=self.office.folder, stdin=theirs, stdout=theirs, stderr=theirs)
         os.close(theirs)
-        shown, piece = b"", b"x"
-        while piece:
-            ready, _, _ = select.select([ours], [], [], 60)
-            try:
-                piece = os.read(ours, 65536) if ready else b""
-            except OSError:
-                piece = b""
-            shown += piece
-        os.close(ours)
+        shown, killer = b"", threading.Timer(60, process.kill)
+        killer.start()
+        with open(ours, "rb", buffering=0) as file, contextlib.suppress(OSError):
+            while piece := file.read(65536):
+                shown += piece
+        killer.cancel()
         process.wait()
         return shown.replace(b"\r\n", b"\n")
 
     def terminals(self):
-        """Looks at what orders show at a terminal."""
         expect("a file of its owner's alone is open", OPEN_LINE in self.at_terminal("receipts"), False)
         for mode in (0o640, 0o620, 0o604, 0o602):
             self.path.chmod(mode)
@@ -218,10 +199,10 @@ class Waits:
         self.done("on a terminal: what it waits for, rights of DB, and no character that steers", 0)
 
 
-def main(given):
+def main(orders=8):
     with temporary_folder() as folder:
         waits = Waits(folder)
-        waits.many_at_once(given.orders)
+        waits.many_at_once(orders)
         waits.held()
         waits.while_serve_comes_and_goes()
         waits.slow_and_long()

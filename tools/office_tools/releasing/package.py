@@ -2,9 +2,9 @@
 import io
 import lzma
 
-from releasing import archive
+from office_tools.releasing import archive
 
-ARCHITECTURE = 'amd64'
+ARCHITECTURE = "amd64"
 
 CONTROL = """Package: count-office
 Version: {version}
@@ -52,44 +52,41 @@ if [ "$1" = purge ]; then rm -rf /etc/count-office; fi
 
 
 def with_folders(files):
-    """The files of a tar archive by the names that dpkg expects, with each folder that they are in."""
-    found = {'./': (0o755, b'')}
+    """Returns the files of a tar archive by the names that dpkg expects, with each folder that they are in."""
+    found = {"./": (0o755, b"")}
     for path, value in files.items():
-        parts = path.split('/')
-        for end in range(1, len(parts)):
-            found['./%s/' % '/'.join(parts[:end])] = (0o755, b'')
+        parts = path.split("/")
+        found.update({f"./{'/'.join(parts[:end])}/": (0o755, b"") for end in range(1, len(parts))})
         if parts[-1]:
-            found['./' + path] = value
+            found["./" + path] = value
     return found
 
 
 def plain_parts(files, version, time):
-    """{name: bytes} of the package's two archives, as yet unpacked: the files below /usr, and the folder of the offices' settings."""
+    """Returns {name: bytes} of the package's two archives, as yet unpacked. The files go below /usr."""
     size = sum(len(text) for _, text in files.values()) // 1024 + 1
     control = CONTROL.format(version=version, architecture=ARCHITECTURE, size=size)
-    scripts = {'postinst': AFTER_INSTALL, 'prerm': BEFORE_REMOVAL, 'postrm': AFTER_REMOVAL}
-    about = {'control': (0o644, control.encode()), **{name: (0o755, text.encode()) for name, text in scripts.items()}}
-    data = {'etc/count-office/': (0o755, b''), **{'usr/' + path: value for path, value in files.items()}}
-    return {'control.tar': archive.tar_bytes(with_folders(about), time), 'data.tar': archive.tar_bytes(with_folders(data), time)}
+    scripts = {"postinst": AFTER_INSTALL, "prerm": BEFORE_REMOVAL, "postrm": AFTER_REMOVAL}
+    about = {"control": (0o644, control.encode()), **{name: (0o755, text.encode()) for name, text in scripts.items()}}
+    data = {"etc/count-office/": (0o755, b""), **{"usr/" + path: value for path, value in files.items()}}
+    return {"control.tar": archive.tar_bytes(with_folders(about), time), "data.tar": archive.tar_bytes(with_folders(data), time)}
 
 
 def package(files, version, time):
-    """The package's bytes, of {path: (mode, bytes)} below /usr."""
-    members = {'debian-binary': b'2.0\n'}
-    for name, plain in plain_parts(files, version, time).items():
-        members[name + '.xz'] = archive.xzed(plain)
-    made = b'!<arch>\n'
-    for name, text in members.items():
-        made += b'%-16s%-12d%-6d%-6d%-8s%-10d`\n' % (name.encode(), time, 0, 0, b'100644', len(text)) + text + b'\n' * (len(text) % 2)
+    """Returns the package's bytes, of {path: (mode, bytes)} below /usr."""
+    made = b"!<arch>\n"
+    packed = {name + ".xz": archive.xzed(plain) for name, plain in plain_parts(files, version, time).items()}
+    for name, text in {"debian-binary": b"2.0\n", **packed}.items():
+        made += b"%-16s%-12d%-6d%-6d%-8s%-10d`\n" % (name.encode(), time, 0, 0, b"100644", len(text)) + text + b"\n" * (len(text) % 2)
     return made
 
 
 def parts_of(made):
-    """{name: bytes} of a package's two archives, unpacked."""
-    found, file = {}, io.BytesIO(made[len(b'!<arch>\n'):])
+    """Returns {name: bytes} of a package's two archives, unpacked."""
+    found, file = {}, io.BytesIO(made[len(b"!<arch>\n"):])
     while head := file.read(60):
         name, size = head[:16].decode().strip(), int(head[48:58])
         text = file.read(size + size % 2)[:size]
-        if name.endswith('.xz'):
-            found[name.removesuffix('.xz')] = lzma.decompress(text)
+        if name.endswith(".xz"):
+            found[name.removesuffix(".xz")] = lzma.decompress(text)
     return found

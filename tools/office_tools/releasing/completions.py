@@ -1,21 +1,7 @@
 """What a shell offers behind `count-office`, made from the program's own help."""
-from releasing import help as helps
+from office_tools.releasing import help as helps
 
-FILE_WORDS = ('FILE', 'NEW')
-
-
-def takes_file(order):
-    return any(word.name.strip('<>[]') in FILE_WORDS for word in order.words) or any('<FILE>' in option.name for option in order.options)
-
-
-def options_of(order):
-    return [option.name.split()[0].rstrip(',') for option in order.options if option.name.startswith('--')] + ['--help']
-
-
-def bash(orders):
-    cases = ''.join('        %s) options="%s" files=%s ;;\n' % (order.name, ' '.join(options_of(order)), 'yes' if takes_file(order) else '')
-                    for order in orders)
-    return '''# What bash offers behind `count-office`: the path of an office, an order, and the order's options or files.
+BASH = """# What bash offers behind `count-office`: the path of an office, an order, and the order's options or files.
 _count_office() {
     local word=${COMP_WORDS[COMP_CWORD]} options='' files=''
     COMPREPLY=()
@@ -47,19 +33,8 @@ _count_office() {
     fi
 }
 complete -F _count_office count-office
-''' % (' '.join(order.name for order in orders), cases)
-
-
-def quoted(text):
-    """A text in the single quotes of zsh and fish."""
-    return "'" + text.replace('\\', '\\\\').replace("'", "'\\''") + "'"
-
-
-def zsh(orders):
-    names = ''.join('        %s\n' % quoted('%s:%s' % (order.name, order.about.replace(':', '\\:'))) for order in orders)
-    filed = '|'.join(order.name for order in orders if takes_file(order))
-    options = ''.join('            (%s) compadd -- %s ;;\n' % (order.name, ' '.join(options_of(order))) for order in orders)
-    return '''#compdef count-office
+"""
+ZSH = """#compdef count-office
 # What zsh offers behind `count-office`: the path of an office, an order, and the order's options or files.
 _count_office() {
     local -a orders
@@ -79,9 +54,7 @@ _count_office() {
     fi
 }
 _count_office "$@"
-''' % (names, options, filed)
-
-
+"""
 FISH = """# What fish offers behind `count-office`: the path of an office, an order, and the order's options or files.
 function __count_office_words -d 'Whether so many words stand before the one that is typed'
     test (count (commandline -opc)) -eq $argv[1]
@@ -100,23 +73,40 @@ complete -c count-office -n '__count_office_words 2; and __count_office_checks' 
 """
 
 
+def options_of(order):
+    return " ".join([*(option.name.split()[0].rstrip(",") for option in order.long_options()), "--help"])
+
+
+def quoted(text):
+    """Returns a text in the single quotes of zsh and fish."""
+    return "'" + text.replace("\\", "\\\\").replace("'", "'\\''") + "'"
+
+
+def bash(orders):
+    files = {True: "yes", False: ""}
+    cases = (f'        {order.name}) options="{options_of(order)}" files={files[order.takes_file()]} ;;\n' for order in orders)
+    return BASH % (" ".join(order.name for order in orders), "".join(cases))
+
+
+def zsh(orders):
+    names = "".join(f"        {quoted(order.name + ':' + order.about.replace(':', chr(92) + ':'))}\n" for order in orders)
+    options = "".join(f"            ({order.name}) compadd -- {options_of(order)} ;;\n" for order in orders)
+    return ZSH % (names, options, "|".join(order.name for order in orders if order.takes_file()))
+
+
 def fish(orders):
-    lines = FISH.splitlines()
+    offered = "complete -c count-office -n '__count_office_words 2; and not __count_office_checks' -f -a"
+    lines = [f"{offered} {order.name} -d {quoted(order.about)}" for order in orders]
     for order in orders:
-        lines.append("complete -c count-office -n '__count_office_words 2; and not __count_office_checks' -f -a %s -d %s" % (order.name, quoted(order.about)))
-    for order in orders:
-        seen = "-n '__count_office_gives %s'" % order.name
-        if not takes_file(order):
-            lines.append('complete -c count-office %s -f' % seen)
-        lines.append('complete -c count-office %s -l help -d %s' % (seen, quoted('Print help')))
-        for option in order.options:
-            if option.name.startswith('--'):
-                given = '-x ' if '<' in option.name else ''
-                lines.append('complete -c count-office %s -l %s %s-d %s' % (seen, option.name.split()[0][2:], given, quoted(option.text)))
-    return '\n'.join(lines) + '\n'
+        seen = f"complete -c count-office -n '__count_office_gives {order.name}'"
+        lines += [] if order.takes_file() else [f"{seen} -f"]
+        lines.append(f"{seen} -l help -d 'Print help'")
+        for option in order.long_options():
+            lines.append(f"{seen} -l {option.name.split()[0][2:]} {'-x ' if '<' in option.name else ''}-d {quoted(option.text)}")
+    return FISH + "\n".join(lines) + "\n"
 
 
 def completions(program):
-    """{shell: the text of its completions}"""
+    """Returns {shell: the text of its completions}."""
     orders = helps.orders(program)
-    return {'bash': bash(orders), 'zsh': zsh(orders), 'fish': fish(orders)}
+    return {"bash": bash(orders), "zsh": zsh(orders), "fish": fish(orders)}
