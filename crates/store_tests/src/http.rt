@@ -193,8 +193,8 @@ fn are_not_let_in<M: Machine + Drop>(
     let mut machine = machine;
     for case in [
         wanted(&one, Some(0), &[""], "Ok(())"),
-        wanted(&one, Some(2), &[FOUR_TO_KEY], "Err(Doors)"),
-        wanted(&one, None, &[FOUR_TO_KEY], "Err(Doors)"),
+        wanted(&one, Some(2), &[FOUR_TO_KEY], "Err(Network)"),
+        wanted(&one, None, &[FOUR_TO_KEY], "Err(Network)"),
         wanted(&late, Some(1), &["", FOUR_TO_KEY], "Ok(())"),
         wanted(&between, Some(1), &[FOUR_TO_KEY, "", ""], "Ok(())"),
         wanted(&between, Some(2), &[FOUR_TO_KEY, "", FOUR_TO_KEY], "Ok(())"),
@@ -260,7 +260,7 @@ fn are_too_many<M: Machine + Drop>(rt: &(impl Abort + AllocGlobal), machine: M) 
         waits: 40,
         ..Evening::of(&clients)
     };
-    let end = "Err(Doors)";
+    let end = "Err(Network)";
     serve(
         rt,
         machine,
@@ -364,7 +364,7 @@ fn hold_too_much<M: Machine + Drop>(
     clients[63] = Some(slow_client);
     texts[1] = BAD_REQUEST;
     texts[63] = BAD_REQUEST;
-    serve(rt, machine, wanted(&clients, None, &texts, "Err(Doors)"))
+    serve(rt, machine, wanted(&clients, None, &texts, "Err(Network)"))
 }
 
 /// What a client can't ask.
