@@ -18,7 +18,7 @@ pub record Holder : Type 0 where
 abbrev pub holder : Credentials → Holder
 holder c = record { clerk = c.clerk; text = string_bytes c.text }
 
--- who holds codes
+-- the clerks with codes, and their credentials
 abbrev pub holders_of : Codes → List Holder
 holders_of held = map holder held.all.items
 

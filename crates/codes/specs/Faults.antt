@@ -1,4 +1,4 @@
--- Why codes aren't accepted, or not made: a number, a text, and the line.
+-- Why codes aren't accepted, or weren't made: a number, a text, and the line.
 use Rattle.std.specs.Prelude.{List, Option, Some, None, codes, ℕ}
 use Rattle.codes.specs.declared.fault.CodesFault.{CodesFault}
 use Rattle.codes.specs.declared.fault.CodesFault.TheVariants.{BadRandom, Line, NoClerks, NoRandom, OpenToOthers, Unmade, Unread}

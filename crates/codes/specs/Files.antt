@@ -23,11 +23,11 @@ most_code_bytes = 64
 abbrev pub is_visible : ℕ → Bool
 is_visible byte = nat_lt 32 byte && nat_lt byte 127
 
--- 8 to 64 of these
+-- a code: 8 to 64 of these
 abbrev pub is_code : List ℕ → Bool
 is_code text = nat_le fewest_code_bytes (length text) && (nat_le (length text) most_code_bytes && list_all is_visible text)
 
--- it is no hyphen
+-- a byte is no hyphen
 abbrev pub is_no_hyphen : ℕ → Bool
 is_no_hyphen byte = not (byte == 45)
 
@@ -74,7 +74,7 @@ lines_from line (byte ∷ bytes) = if byte == 10 then line ∷ lines_from [] byt
 abbrev pub without_return : List ℕ → List ℕ
 without_return line = if nat_lt 0 (length line) && slice_index line (length line - 1) == 13 then take (length line - 1) line else line
 
--- it is no blank
+-- a byte is no blank
 abbrev pub is_no_blank : ℕ → Bool
 is_no_blank byte = not (byte == 32)
 
@@ -96,7 +96,7 @@ entry_behind before (Ok entry) =
 
 -- ---- all lines
 
--- it continues after an entry, or ends with what is wrong with the line of this number
+-- the result continues after an entry, or ends with what is wrong with the line of this number
 abbrev pub entries_by : (List CodeEntry → Result (List CodeEntry) CodesFault) → ℕ → List CodeEntry → Result CodeEntry CodeFlaw → Result (List CodeEntry) CodesFault
 entries_by others number before (Err flaw) = Err (fault.Line number flaw)
 entries_by others number before (Ok entry) = others (before ++ entry ∷ [])
@@ -117,6 +117,6 @@ abbrev pub weak_clerks : List CodeEntry → List ℕ
 weak_clerks [] = []
 weak_clerks (entry ∷ entries) = if is_strong entry.code then weak_clerks entries else entry.clerk ∷ weak_clerks entries
 
--- who holds the codes of some entries
+-- the holders of the codes of some entries
 abbrev pub holders_by : List CodeEntry → List Holder
 holders_by entries = map (λ (e : CodeEntry). record { clerk = e.clerk; text = credentials_of e.clerk e.code }) entries

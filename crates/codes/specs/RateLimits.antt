@@ -1,4 +1,4 @@
--- The limit on wrong codes, whoever sends them.
+-- The limit on wrong codes, from any client.
 use Rattle.std.specs.Prelude.{◌+◌, ◌-◌, ◌&&◌, Bool, if◌then◌else◌, min, nat_le, nat_lt, ℕ}
 use Rattle.codes.specs.declared.rate_limit.RateLimit.{RateLimit}
 
@@ -10,7 +10,7 @@ most_wrong = 6000
 abbrev pub minute : ℕ
 minute = 60000
 
--- the wrong codes of a minute: when it began, in milliseconds of a clock, and how many came since then, up to the limit
+-- the wrong codes of a minute: when it began, in milliseconds of a clock, and how many were sent since then, up to the limit
 pub record LimitEntry : Type 0 where
   pub since : ℕ
   pub count : ℕ
@@ -18,7 +18,7 @@ pub record LimitEntry : Type 0 where
 abbrev pub limit_entry : RateLimit → LimitEntry
 limit_entry limit = record { since = limit.since; count = limit.count }
 
--- no wrong code came
+-- no wrong code was sent
 abbrev pub none_wrong : LimitEntry
 none_wrong = record { since = 0; count = 0 }
 
@@ -26,7 +26,7 @@ none_wrong = record { since = 0; count = 0 }
 abbrev pub is_current : LimitEntry → ℕ → Bool
 is_current e now = nat_lt (now - e.since) minute
 
--- the limit is reached: that many wrong codes came in the current minute
+-- the limit is reached: that many wrong codes were sent in the current minute
 abbrev pub is_reached : LimitEntry → ℕ → Bool
 is_reached e now = nat_le most_wrong e.count && is_current e now
 

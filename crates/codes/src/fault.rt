@@ -11,7 +11,7 @@ use std::alloc::AllocError;
 pub enum CodeFlaw {
     /// The line doesn't begin with a clerk's number, 1 to 999, and a blank.
     NoEntry,
-    /// The rest of the line is no code: 8 to 64 letters, digits and signs.
+    /// The rest of the line isn't a code: 8 to 64 letters, digits and signs.
     BadCode,
     /// An earlier line has the same clerk.
     ClerkTwice,

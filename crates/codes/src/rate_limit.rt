@@ -9,9 +9,9 @@ const MOST_WRONG: u32 = 6_000;
 /// A minute, in milliseconds.
 const MINUTE: u64 = 60_000;
 
-/// The wrong codes of a minute, whoever sent them: when it began, in milliseconds of a clock, and how many came since.
+/// The wrong codes of a minute, from any client: when it began, in milliseconds of a clock, and how many were sent since.
 ///
-/// The limit concerns wrong codes alone. Whoever sends the right code is let in, however many wrong ones came.
+/// The limit concerns wrong codes alone. A request with the right code is let in, however many wrong ones were sent.
 #[derive(Clone, Copy)]
 pub struct RateLimit {
     pub since: u64,
@@ -19,7 +19,7 @@ pub struct RateLimit {
 }
 
 impl RateLimit {
-    /// Returns a limit under which no wrong code came yet.
+    /// Returns a limit under which no wrong code was sent yet.
     pub fn new() -> RateLimit
         ensures { limit_entry result ≡ none_wrong }
     {
@@ -34,7 +34,7 @@ impl RateLimit {
         now.saturating_sub(self.since) < MINUTE
     }
 
-    /// Returns whether as many wrong codes came in the current minute as the limit allows.
+    /// Returns whether as many wrong codes were sent in the current minute as the limit allows.
     pub fn is_reached(&self, now: u64) -> bool
         ensures { result ≡ is_reached (limit_entry self.now) now }
     {

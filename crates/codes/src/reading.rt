@@ -7,7 +7,7 @@ ghost use Rattle.codes.specs.Files.{CodeEntry, clerk_in, code_entry, codes_in, d
 ghost use Rattle.codes.specs.Files.{lines_from, weak_clerks, without_return};
 ghost use Rattle.codes.specs.declared.fault.CodesError.TheVariants as read_error;
 
-use crate::fault::{CodeFlaw, CodesError, CodesFault};
+use crate::fault::{CodesFault, CodeFlaw, CodesError};
 use crate::holders::{Codes, credentials_by};
 use std::alloc::{AllocError, Global};
 use std::mem;
@@ -21,7 +21,7 @@ const MOST_BYTES: usize = 64;
 /// The fewest bytes of a strong code, hyphens left out.
 const FEWEST_STRONG_BYTES: usize = 12;
 
-/// A line of a file of codes: a clerk and his code.
+/// A line of a file of codes: a clerk and that clerk's code.
 #[derive(Clone, Copy)]
 pub struct CodeLine<'a> {
     pub clerk: u32,
@@ -72,7 +72,7 @@ fn is_visible(byte: u8) -> bool
     byte > b' ' && byte < 127
 }
 
-/// Returns whether bytes are letters, digits and signs alone.
+/// Returns whether all bytes are letters, digits and signs.
 fn all_visible(text: &[u8]) -> bool
     ensures { result ≡ list_all is_visible text.now }
 {
@@ -149,7 +149,7 @@ fn without_return(line: &[u8]) -> &[u8]
     }
 }
 
-/// Returns whether some line has a clerk.
+/// Returns whether one of these lines has this clerk.
 fn has_clerk(before: &[CodeLine<'_>], clerk: u32) -> bool
     ensures { result ≡ list_any (λ (other : CodeEntry). other.clerk == clerk) (map code_entry before.now) }
 {
@@ -161,7 +161,7 @@ fn has_clerk(before: &[CodeLine<'_>], clerk: u32) -> bool
     false
 }
 
-/// Returns whether some line has a code.
+/// Returns whether one of these lines has this code.
 fn has_code(before: &[CodeLine<'_>], code: &[u8]) -> bool
     ensures { result ≡ list_any (λ (other : CodeEntry). bytes_eq other.code code.now) (map code_entry before.now) }
 {

@@ -54,7 +54,7 @@ grace = 1000
 abbrev pub IsLate : {L : Type 0} → ℕ → Client L → Type 0
 IsLate now client = timeout ≤ now - client.since
 
--- there is no room for a connection more
+-- there is no room for one more connection
 abbrev pub AreFull : {L : Type 0} → List (Client L) → Type 0
 AreFull clients = (most_clients ≤ length clients) ⊎ (most_bytes ≤ bytes_held clients)
 

@@ -6,7 +6,7 @@ ghost use Rattle.connections.specs.Streams.{Delivers, Receives, HasTaken, failed
 ghost use Rattle.connections.specs.Removals.{removed_of};
 ghost use Rattle.connections.specs.Clients.{IsCaused, IsNew, IsOf, IsSameButReceived, chunk, idle_after_put, idle_after_wait, idle_after_once};
 
-use crate::removed::{CloseReason, Removed};
+use crate::removed::{Removed, CloseReason};
 use crate::stream::{Received, Stream};
 use std::alloc::{AllocError, Global};
 use votes::Broken;
@@ -38,8 +38,8 @@ pub struct PendingResponse {
 }
 
 /// An open connection: its listener, its stream, its number in the order of acceptance, and when its present time limit began, in
-/// milliseconds. Then the bytes that were received, the response once there is one, and how many bytes of the request are still to
-/// come after the response: those are read and dropped.
+/// milliseconds. Then the bytes that were received, the response once there is one, and how many bytes of the request are still
+/// to come after the response: those are read and dropped.
 #[derive(Drop)]
 pub struct Client<L> {
     pub listener: Listener,
@@ -114,13 +114,9 @@ fn receive_once<L: Stream>(stream: &mut L, got: &mut Vec<u8>) -> Result<Received
     }
 }
 
-/// Reads until there are so many bytes in all, or no more has arrived. It reads fewer than `CHUNK` bytes past that, so a connection
-/// that sends without end holds up no other.
-fn receive_up_to<L: Stream>(
-    stream: &mut L,
-    got: &mut Vec<u8>,
-    wanted: usize,
-) -> Result<ReadProgress, ReceiveError>
+/// Receives what has arrived, until there are `wanted` bytes in all, or no more has arrived. It receives fewer than `CHUNK` bytes
+/// more than that, so that a client that keeps sending doesn't delay the others.
+fn receive_up_to<L: Stream>(stream: &mut L, got: &mut Vec<u8>, wanted: usize) -> Result<ReadProgress, ReceiveError>
     ensures receives { Receives (stream_of L.held L.taken L.failed) stream.old stream.new got.old.items got.new.items }
     ensures enough { result ≡ Ok ReadProgress.Enough → wanted ≤ length got.new.items }
     ensures waits { result ≡ Ok ReadProgress.Waits → length got.new.items < wanted }
@@ -157,8 +153,8 @@ pub fn deliver<L: Stream>(stream: &mut L, answer: &mut PendingResponse) -> Resul
     Ok(true)
 }
 
-/// Reads and drops so many bytes of a stream, as far as they have arrived, and counts them down. Returns whether no more of them
-/// will come.
+/// Reads and drops up to `unread` bytes of a stream, as far as they have arrived, and counts them down. Returns whether no more
+/// of them will come.
 fn drop_bytes<L: Stream>(stream: &mut L, unread: &mut usize) -> Result<bool, Broken>
     ensures untold { L.taken stream.new ≡ L.taken stream.old }
     ensures less { unread.new ≤ unread.old }
@@ -203,15 +199,11 @@ impl<L: Stream> Client<L> {
         ensures { result ≡ removed_of self why }
     {
         let Client { stream, number, .. } = self;
-        Removed {
-            number,
-            stream,
-            why,
-        }
+        Removed { number, stream, why }
     }
 
-    /// Receives more of a connection that has no response yet, until there are so many bytes in all, or no more has arrived. It
-    /// receives fewer than 16,384 bytes past that.
+    /// Receives more of a connection that has no response yet, until there are `wanted` bytes in all, or no more has arrived. It
+    /// receives fewer than 16,384 bytes more than that.
     pub fn receive(&mut self, wanted: usize) -> Result<ReadProgress, ReceiveError>
         requires { self.old.answer ≡ None }
         ensures receives { Receives (stream_of L.held L.taken L.failed) self.old.stream self.new.stream self.old.got.items self.new.got.items }

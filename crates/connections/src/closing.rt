@@ -9,7 +9,7 @@ ghost use Rattle.connections.specs.Closing.{IsWithin, ClosesOne, byte_limit_rule
 
 use crate::network::Network;
 use crate::removed::CloseReason;
-use crate::table::{ConnectionTable, MAX_BYTES, MAX_CLIENTS, bytes_held, longest_waiting};
+use crate::table::{MAX_BYTES, MAX_CLIENTS, ConnectionTable, bytes_held, longest_waiting};
 
 /// How long a connection may take to send its request, and as long again to accept its response, in milliseconds.
 pub const TIMEOUT: u64 = 30_000;
@@ -17,8 +17,8 @@ pub const TIMEOUT: u64 = 30_000;
 /// How long a new connection is safe from being closed to make room, in milliseconds.
 const GRACE: u64 = 1_000;
 
-/// A rule by which those connections are closed that have waited longest: whether orders are closed too, how long a connection must
-/// have waited at a moment, both in milliseconds, and the reason.
+/// A rule by which those connections are closed that have waited longest: whether orders are closed too, how long a connection
+/// must have waited at a moment, both in milliseconds, and the reason.
 #[derive(Clone, Copy)]
 pub struct Rule {
     pub orders_too: bool,
@@ -64,12 +64,7 @@ fn byte_limit_rule(orders_too: bool) -> Rule
 }
 
 /// Closes the connection at a place, for a reason.
-fn close_at<D: Network>(
-    network: &mut D,
-    table: &mut ConnectionTable<D::Stream>,
-    place: usize,
-    why: CloseReason,
-)
+fn close_at<D: Network>(network: &mut D, table: &mut ConnectionTable<D::Stream>, place: usize, why: CloseReason)
     requires { place < length table.old.clients.items }
     ensures closed { IsClosedAt why place table.old.clients.items (D.known network.old) table.new.clients.items (D.known network.new) }
     ensures came { table.new.came ≡ table.old.came }
@@ -78,13 +73,9 @@ fn close_at<D: Network>(
     network.close(table.remove_at(place).into_removed(why));
 }
 
-/// Closes the connection that has waited longest, of those that a rule applies to, if it has waited long enough. Returns whether
-/// one was closed.
-fn close_one<D: Network>(
-    network: &mut D,
-    table: &mut ConnectionTable<D::Stream>,
-    rule: Rule,
-) -> bool
+/// Closes the connection that has waited longest of those that a rule applies to, if that is long enough. Returns whether one was
+/// closed.
+fn close_one<D: Network>(network: &mut D, table: &mut ConnectionTable<D::Stream>, rule: Rule) -> bool
     ensures go { ClosesOne (IsClosedByRule rule) result (D.known network.old) (D.known network.new) table.old table.new }
     ensures nobody { result ≡ false → All (λ client. is_among rule.orders_too client.listener ≡ true → rule.now - client.since < rule.least) table.old.clients.items }
 {
@@ -98,12 +89,8 @@ fn close_one<D: Network>(
     true
 }
 
-/// Closes all connections whose time limit is over.
-pub fn close_timed_out<D: Network>(
-    network: &mut D,
-    table: &mut ConnectionTable<D::Stream>,
-    now: u64,
-)
+/// Closes the connections that are timed out.
+pub fn close_timed_out<D: Network>(network: &mut D, table: &mut ConnectionTable<D::Stream>, now: u64)
     ensures go { AreClosedByRule (IsClosedByRule (timeout_rule now)) (D.known network.old) (D.known network.new) table.old table.new }
     ensures all { length table.old.clients.items ≤ most_clients → All (λ client. now - client.since < timeout) table.new.clients.items }
 {
@@ -120,8 +107,7 @@ fn close_one_for_bytes<D: Network>(network: &mut D, table: &mut ConnectionTable<
     ensures go { ClosesOne IsClosedForBytes result (D.known network.old) (D.known network.new) table.old table.new }
     ensures nobody { result ≡ false → table.old.clients.items ≡ [] }
 {
-    close_one(network, table, byte_limit_rule(false))
-        || close_one(network, table, byte_limit_rule(true))
+    close_one(network, table, byte_limit_rule(false)) || close_one(network, table, byte_limit_rule(true))
 }
 
 /// Closes the connections that have waited longest, clients first, until the bytes in memory are within the limit.
@@ -145,27 +131,17 @@ fn is_full<L>(table: &ConnectionTable<L>) -> bool
     table.clients.len() >= MAX_CLIENTS || bytes_held(table.clients.as_slice()) >= MAX_BYTES
 }
 
-/// Closes one connection for the next, because the system has no room for both. Returns whether one was closed.
-pub fn evict_one<D: Network>(
-    network: &mut D,
-    table: &mut ConnectionTable<D::Stream>,
-    now: u64,
-) -> bool
+/// Closes a client for the next connection, because the system has no room for both. Returns whether one was closed.
+pub fn evict_one<D: Network>(network: &mut D, table: &mut ConnectionTable<D::Stream>, now: u64) -> bool
     ensures go { ClosesOne (IsClosedByRule (eviction_rule now)) result (D.known network.old) (D.known network.new) table.old table.new }
     ensures nobody { result ≡ false → All (λ client. is_among false client.listener ≡ true → now - client.since < grace) table.old.clients.items }
 {
     close_one(network, table, eviction_rule(now))
 }
 
-/// Makes sure that one more connection can be accepted, and returns whether it can. If the table is full, and clients may be closed
-/// for it, this closes the client that has waited longest, provided that it has waited for a second. An order is never closed for
-/// another connection.
-pub fn evict_if_full<D: Network>(
-    network: &mut D,
-    table: &mut ConnectionTable<D::Stream>,
-    lets_go: bool,
-    now: u64,
-) -> bool
+/// Makes room in the table for one more connection, and returns whether there is room. If the table is full, and clients may be
+/// closed, this closes the client that has waited longest, if that is at least a second. An order is never closed to make room.
+pub fn evict_if_full<D: Network>(network: &mut D, table: &mut ConnectionTable<D::Stream>, lets_go: bool, now: u64) -> bool
     ensures go { AreClosedByRule (IsClosedForRoom now) (D.known network.old) (D.known network.new) table.old table.new }
     ensures table { result ≡ true → length table.new.clients.items < most_clients }
     ensures only { (table.new ≡ table.old) ⊎ IsFull table.old }

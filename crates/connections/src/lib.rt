@@ -1,28 +1,26 @@
 //! Connections whose streams are read and written side by side, without blocking.
 //!
-//! A [`Stream`](stream) is one connection's bytes, in and out. A [`Client`](client) is an open connection: what was received of its
-//! request, and how much of its response was sent. The [`ConnectionTable`](table) has the open connections, and says which has
-//! waited longest; [`closing`](closing) has the rules by which they are closed early. A [`Network`](network) accepts connections,
-//! and reports which are ready. Nothing here knows a socket, a clock or an office: the crates above decide when a request is
-//! complete, and what the response is. They read the request by a [`SliceSource`](slice_source), and write the response into a
-//! [`VecSink`](vec_sink).
+//! A [`Stream`](stream) is one connection's bytes, in and out. A [`Client`](client) is an open connection: what was received of
+//! its request, and how much of its response was sent. The [`ConnectionTable`](table) has the open connections, and says which
+//! has waited longest; [`closing`](closing) has the rules by which they are closed early. A [`Network`](network) accepts
+//! connections, and reports which are ready. Nothing here knows a socket, a clock or an office: the crates above decide when a
+//! request is complete, and what the response is. They read the request by a [`SliceSource`](slice_source), and write the
+//! response into a [`VecSink`](vec_sink).
 #![tactic(auto)]
 
 pub mod client;
 pub mod closing;
 pub mod network;
-pub mod removed;
 pub mod slice_source;
+pub mod removed;
 pub mod stream;
 pub mod table;
 pub mod vec_sink;
 
-pub use client::{
-    Accepted, Client, Listener, PendingResponse, ReadProgress, ReceiveError, deliver,
-};
+pub use client::{PendingResponse, Client, Accepted, Listener, ReadProgress, ReceiveError, deliver};
 pub use network::{AcceptOutcome, Network};
-pub use removed::{CloseReason, Removed};
 pub use slice_source::SliceSource;
+pub use removed::{Removed, CloseReason};
 pub use stream::{Received, Stream};
-pub use table::{ConnectionTable, MAX_BYTES, MAX_CLIENTS};
+pub use table::{MAX_BYTES, MAX_CLIENTS, ConnectionTable};
 pub use vec_sink::VecSink;

@@ -14,7 +14,7 @@ use votes::Broken;
 pub enum AcceptOutcome<L> {
     /// The next connection.
     One(Accepted<L>),
-    /// No connection is pending, or none that is wanted.
+    /// No connection is pending, or none of a kind that is accepted now.
     Nobody,
     /// The next connection failed before it was accepted. Another may be pending.
     NotNow,
@@ -46,8 +46,8 @@ pub trait Network {
     fn next_ready(&mut self) -> Option<u64>
         ensures { known self.new ≡ after_ready result (known self.old) };
 
-    /// Accepts the next pending connection, which has this number from then on. Orders come first, and clients are accepted only if
-    /// they are wanted.
+    /// Accepts the next pending connection, which has this number from then on. Orders come first, and clients are accepted only
+    /// if they are wanted.
     fn accept(&mut self, number: u64, clients_too: bool) -> AcceptOutcome<Self::Stream>
         ensures fresh { IsFresh Self.Stream.taken result }
         ensures wanted { IsWanted clients_too result }

@@ -9,7 +9,7 @@ use votes::Broken;
 /// What a read returned.
 #[derive(Clone, Copy)]
 pub enum Received {
-    /// So many bytes, at least one.
+    /// This many bytes, at least one.
     Bytes(usize),
     /// No bytes yet.
     Nothing,

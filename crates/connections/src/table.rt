@@ -6,7 +6,7 @@ ghost use Rattle.connections.specs.Clients.{IsNew, IsOf};
 ghost use Rattle.connections.specs.Tables.{AreUnseen, HasWaitedLongest, answer_bytes, bytes_held, count_at, earlier, is_among, most_clients, place_in};
 ghost use Rattle.connections.specs.declared.client.Client.{Client};
 
-use crate::client::{Accepted, Client, Listener, PendingResponse};
+use crate::client::{PendingResponse, Client, Accepted, Listener};
 use crate::stream::Stream;
 use std::alloc::{AllocError, Global};
 
@@ -48,7 +48,8 @@ fn is_among(orders_too: bool, listener: Listener) -> bool
     }
 }
 
-/// Returns the earlier of two, each with its place and the moment when its time limit began; the first if the second doesn't count.
+/// Returns the earlier of two, each with its place and the moment when its time limit began; the first if the second doesn't
+/// count.
 fn earlier(
     found: Option<(usize, u64)>,
     is_among: bool,

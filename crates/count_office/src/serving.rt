@@ -7,13 +7,13 @@ ghost use Rattle.connections.specs.Streams.{stream_of};
 ghost use Rattle.wire.specs.Origins.{given_by};
 ghost use Rattle.count_office.specs.Serving.{MayServe, ServesAtNetwork, ServesOrder, TellsOutcome, failure_by, gate_at, server_settings_of, settings_with};
 
-use crate::codes_file::tell_untaken;
 use crate::gate::{GateFiles, gate_of, read_gate_files};
 use crate::host::{Host, Opened};
-use connections::Network;
+use crate::codes_file::tell_untaken;
 use desk::{Failure, tell_failure};
+use connections::Network;
+use server::{SideJobs, ServeError, FileNumbers, ServerSettings, serve_connections};
 use office::Office;
-use server::{FileNumbers, ServeError, ServerSettings, SideJobs, serve_connections};
 use sqlite::{Alter, Connection};
 use std::alloc::Global;
 use store::Fault;
@@ -76,9 +76,10 @@ fn serve_through<D: Network, A: SideJobs, S: Alter>(
             gate: gate_of(settings.gate_files),
         },
         file: settings.file,
+        side_jobs,
     };
     let most = most_of(settings.serving.connections);
-    serve_connections(alloc, network, server_settings, side_jobs, most, office)
+    serve_connections(alloc, network, server_settings, most, office)
 }
 
 /// Opens the network of a host, serves an open office there, and closes it. The error is that it can't be opened, or why serving
@@ -105,14 +106,7 @@ fn serve_at<H: Host, S: Alter>(
         file,
     };
     let ended = serve_through(alloc, &mut network, settings, &side_jobs, office);
-    host.close(
-        serving.port,
-        Opened {
-            network,
-            side_jobs,
-            file,
-        },
-    );
+    host.close(serving.port, Opened { network, side_jobs, file });
     match ended {
         Ok(()) => Ok(()),
         Err(ended) => Err(failure_of(ended)),

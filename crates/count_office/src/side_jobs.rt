@@ -6,8 +6,8 @@ ghost use Rattle.std.specs.Prelude.{◌-◌, ◌<◌};
 use crate::copies::copy_served;
 use crate::presence::Presence;
 use desk::{Failure, journal_open, tell_failure};
+use server::{SideJobs, Destination};
 use office::Office;
-use server::SideJobs;
 use sqlite::{Alter, Connection};
 use std::alloc::{AllocError, Global};
 use store::Fault;
@@ -36,12 +36,11 @@ impl SideJobs for LocalJobs<'_> {
     fn copy<S: Alter, O: Sink, E: Sink>(
         &self,
         office: &mut Office<S>,
-        folder: &str,
-        path: &str,
+        to: Destination<'_>,
         out: &mut O,
         err: &mut E,
     ) -> u8 {
-        match path_from(self.rt.alloc(), folder, path) {
+        match path_from(self.rt.alloc(), to.folder, to.path) {
             Ok(path) => copy_served(self.rt, office, path.as_str(), out, err),
             Err(AllocError) => tell_failure(Failure::Office(Fault::Memory), err),
         }

@@ -10,7 +10,7 @@ use Rattle.register.specs.declared.batches.BatchCommand.TheVariants as batch_com
 use Rattle.register.specs.declared.counts.CountCommand.TheVariants as count_command
 use Rattle.office.specs.declared.sheets.Text.{Text as WardText}
 use Rattle.office.specs.declared.sheets.Text.TheVariants as ward_text
-use Rattle.wire.specs.Origins.{origin_text}
+use Rattle.origins.specs.Origins.{origin_text}
 use Rattle.keyfile.specs.Digests.{asked_digest}
 use Rattle.desk.specs.Verdicts.{Judgement, judgement_given}
 use Rattle.desk.specs.declared.order_entry.Kind.{Kind}

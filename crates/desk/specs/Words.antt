@@ -18,7 +18,7 @@ use Rattle.desk.specs.Numbers.{number_in}
 use Rattle.desk.specs.Orders.{Meant, OfWords, OrderWords, WordValue, WordEntry, asked_by, by_office, no_digest, no_origin, no_verdict, orders, send}
 use Rattle.desk.specs.Verdicts.{Judgement, judgement_in}
 use Rattle.register.specs.declared.command.Command.{Command}
-use Rattle.wire.specs.Origins.{origin_in}
+use Rattle.origins.specs.Origins.{origin_in}
 use Rattle.keyfile.specs.Digests.{digest_in}
 
 -- the numbers that a word may be

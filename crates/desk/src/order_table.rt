@@ -9,17 +9,17 @@ ghost use Rattle.std.specs.Prelude.{◌≡◌, ◌⊎◌, false, Err, None, Some
 ghost use Rattle.clap.specs.Words.{all_of, first_of, found_of, rows_of, subcommand_rows_of};
 ghost use Rattle.desk.specs.Orders.{ask, no_digest, no_origin, no_verdict, orders, print, told, told_errand, told_text, words_of};
 ghost use Rattle.keyfile.specs.Digests.{digest_bytes};
-ghost use Rattle.wire.specs.Origins.{origin_text};
+ghost use Rattle.origins.specs.Origins.{origin_text};
 ghost use Rattle.desk.specs.Words.{digest_at, is_command_name, is_order_name, meaning, meaning_of, names_order, number_at, number_found, origin_at, sent, text_at};
 ghost use Rattle.desk.specs.Words.{flag_at, texts_at};
 
+use crate::orders::{Errand, Job, KeyingFile, Order, Question, Task};
+use crate::requests::{by_clerk, by_office};
 use crate::order_entry::{
     ACTOR, BATCH, CANDIDATE, CLERK, CLERKS, CODES, CODES_FILE, CONNECTIONS, DIGEST, Entry, FILE,
     FIRST_CLERK, Heading, ID, KEEP_GOING, MARKS, NAME, NEW, ORIGIN, PAPER, PORT, ROUND, SCRIPT,
     SEATS, SECOND_CLERK, SIZE, STAGE, TITLE, VERDICT, WARD, Word,
 };
-use crate::orders::{Errand, Job, KeyingFile, Order, Question, Task};
-use crate::requests::{by_clerk, by_office};
 use crate::verdicts::verdict_in;
 use clap::ArgMatches;
 use keyfile::FileDigest;
@@ -29,7 +29,7 @@ use register::{
     WardCommand,
 };
 use std::alloc::{AllocError, Global};
-use wire::Origin;
+use origins::Origin;
 
 // ---- the table
 

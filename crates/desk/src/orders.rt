@@ -7,7 +7,7 @@ ghost use Rattle.desk.specs.Scripts.{sends_requests};
 use keyfile::FileDigest;
 use office::Text;
 use register::Request;
-use wire::Origin;
+use origins::Origin;
 
 /// A clerk's keying of a batch, which a file holds.
 #[derive(Clone, Copy, Debug)]

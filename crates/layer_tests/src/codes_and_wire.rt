@@ -4,11 +4,11 @@ ghost use Rattle.std.specs.Prelude.{Some, take};
 
 use super::wire_requests::asks_of;
 use crate::sheet_outputs::is_text;
-use codes::{ClerkRange, Codes, CodesError, CodesFault, DrawFailed, Draws, RateLimit, make};
+use codes::{ClerkRange, Codes, CodesFault, DrawFailed, Draws, RateLimit, CodesError, make};
 use std::alloc::{AllocError, Global};
 use std::process::Abort;
 use std::test::Fail;
-use wire::{Gate, HttpSettings, Page, authentication_of};
+use wire::{Gate, HttpSettings, Page, Routes, parse};
 
 /// A file of codes, one line of which a Windows program ended.
 const FILE: &str = "4 kf7m-2wxt\r\n\n9 w3hd-4psn\n";
@@ -167,7 +167,8 @@ fn is_reached_after(
     now: u64,
 ) -> Result<bool, AllocError> {
     let request = format!(in alloc; "PUT /clerks/4/x HTTP/1.1\r\nauthorization: {value}\r\n\r\n")?;
-    let is_wrong = match authentication_of(given, request.as_bytes()) {
+    let routes = Routes::new(alloc)?;
+    let is_wrong = match parse(given, &routes, request.as_bytes()).authentication() {
         Some(authentication) => authentication.is_wrong,
         None => false,
     };
@@ -256,10 +257,7 @@ fn asks_beside(rt: &(impl Abort + AllocGlobal), given: HttpSettings<'_>) -> Resu
 }
 
 /// When the limit of wrong codes is reached, and until when.
-fn limits_wrong_codes(
-    rt: &(impl Abort + AllocGlobal),
-    given: HttpSettings<'_>,
-) -> Result<(), Fail> {
+fn limits_wrong_codes(rt: &(impl Abort + AllocGlobal), given: HttpSettings<'_>) -> Result<(), Fail> {
     let alloc = rt.alloc();
     let mut limit = RateLimit::new();
     for (value, times, now, is_reached) in &KNOCKS {

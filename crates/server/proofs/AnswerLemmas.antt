@@ -1,5 +1,5 @@
 -- Answers to reads: what one tells, and what is kept of it.
-use Rattle.std.proofs.Common.{◌≡◌, ◌∙◌, ◌⊎◌, ◌∷◌, ◌++◌, Bool, false, true≢false, ℕ, List, [], Option, Some, arith, inl, inr, refl, subst, suc, sym}
+use Rattle.std.proofs.Common.{◌≡◌, ◌∙◌, ◌⊎◌, ◌∷◌, ◌++◌, Bool, false, true, true≢false, ℕ, List, [], Option, Some, arith, inl, inr, refl, subst, suc, sym}
 use Rattle.std.specs.List.{Contains}
 use Rattle.std.proofs.lemmas.List.Elements.{All-push}
 use Rattle.sqlite.specs.Held.{Held}
@@ -13,17 +13,16 @@ use Rattle.connections.specs.Streams.{HasTaken, Stream}
 use Rattle.connections.specs.declared.client.Listener.TheVariants.{Clients}
 use Rattle.tables.specs.Faults.{fault_number}
 use Rattle.tables.specs.declared.fault.Fault.{Fault}
-use Rattle.wire.specs.Requests.{HttpRequestEntry, Asks, reading}
+use Rattle.wire.specs.Requests.{HttpRequestEntry, Asks, denied, keying, reading, shown}
 use Rattle.wire.specs.Gates.{HttpSettingsEntry}
 use Rattle.wire.specs.Responses.{ResponseEntry, fault_response}
-use Rattle.wire.specs.Serving.{FaultLeaves, IsAnswered, IsPut, IsServed, ReadiesFor, Serves, reading_response}
-use Rattle.wire.specs.Told.{IsTold}
+use Rattle.wire.specs.Serving.{FaultLeaves, IsAnswered, IsPut, IsServed, Readies, ReadiesFor, closed_response, reading_response}
+use Rattle.wire.specs.Told.{IsTold, IsWritten}
 use Rattle.wire.specs.declared.serving.Served.{Served}
 use Rattle.wire.specs.declared.serving.Served.TheVariants.{Answered, ReadFailed, WriteFailed}
 use Rattle.wire.specs.declared.target.Resource.{Resource}
-use Rattle.wire.proofs.RequestLemmas.{AsksOneThing-all}
 use Rattle.server.specs.Reads.{AreReadAt, ServedOffice, IsRead, MemoryEntry, ReadEntry, TellsNoFault, served_office}
-use Rattle.server.specs.Exchanges.{EndsSo, HasServed, KeepsReads, ServesClient, Exchange}
+use Rattle.server.specs.Exchanges.{ChangesNothing, EndsIn, EndsSo, HasAnswered, KeepsReads, ServesClient, Exchange}
 
 -- ---- what an answer tells
 
@@ -32,118 +31,132 @@ told_fault : (number status : ℕ) (old new : Option (List ℕ)) (response : _) 
 told_fault number status old new response (inl is) put = put.0 ∙ is.status
 told_fault number status old new response (inr is) put = put.0 ∙ is.status
 
-module _ (settings : HttpSettingsEntry) (s : OfficeState) (got : List ℕ) (what : Resource) (asks : Asks settings got (reading what)) (closed : Bool) (st : State) where
-  answered_read : (asked : HttpRequestEntry) (entry : ResponseEntry) (response : _) → asked ≡ reading what → IsTold entry response → IsAnswered s asked entry closed st
-      → IsTold (reading_response s what) response × IsOpenAt s closed st
-  answered_read asked entry response same tells answered =
-      let it = subst (λ (a : HttpRequestEntry). IsAnswered s a entry closed st) same answered in
-      (subst (λ (e : ResponseEntry). IsTold e response) it.is.1 tells, subst (λ (x : OfficeState). IsOpenAt x closed st) it.is.0 it.open_at)
+-- what changes nothing was answered, and the office is at its state
+answered_still : (s : OfficeState) (asked : HttpRequestEntry) (answer : ResponseEntry) (closed : Bool) (st : State) → ChangesNothing asked → IsAnswered s asked answer closed st → IsOpenAt s closed st
+answered_still s (denied why) answer closed st still it = subst (λ (x : OfficeState). IsOpenAt x closed st) it.is.0 it.open_at
+answered_still s (shown clerk show) answer closed st still it = subst (λ (x : OfficeState). IsOpenAt x closed st) it.is.0 it.open_at
+answered_still s (reading what) answer closed st still it = subst (λ (x : OfficeState). IsOpenAt x closed st) it.is.0 it.open_at
+answered_still s (keying clerk batch entry) answer closed st still it = absurd still
 
-  -- an answer that tells no fault is the one to the read
-  no_fault : (status : ℕ) (old new : Option (List ℕ)) (response : _) → ReadiesFor settings (Some got) s response closed st → IsPut old new response (Answered status) → (status ≡ 503 → ⊥)
-      → IsTold (reading_response s what) response × IsOpenAt s closed st
-  no_fault status old new response (inr wanting) put other = absurd (other (told_fault 101 status old new response (inl wanting.0) put))
-  no_fault status old new response (inl ready) put other =
-      let (entry, tells, leaves) = ready.readies in
-      let same = AsksOneThing-all settings got ready.asked (reading what) ready.asks asks in
-      elim leaves [
-        | inl answered ↦ answered_read ready.asked entry response same tells answered
-        | inr (fault, told, more) ↦ absurd (other (told_fault (fault_number fault) status old new response (subst (λ (e : ResponseEntry). IsTold e response) told tells) put))
-      ]
+-- or it met a fault, and only read
+failed_still : (s : OfficeState) (asked : HttpRequestEntry) (f : Fault) (closed : Bool) (st : State) → ChangesNothing asked → FaultLeaves s asked f closed st → IsReadAt s closed st
+failed_still s (denied why) f closed st still leaves = absurd leaves
+failed_still s (shown clerk show) f closed st still leaves = absurd leaves
+failed_still s (reading what) f closed st still (inl stays) = inl stays.open_at
+failed_still s (reading what) f closed st still (inr shut) = inr (shut.is_closed, shut.leaves)
+failed_still s (keying clerk batch entry) f closed st still leaves = absurd still
 
-  failed_read : (asked : HttpRequestEntry) (f : Fault) → asked ≡ reading what → FaultLeaves s asked f closed st → IsReadAt s closed st
-  failed_read asked f same leaves = by (subst (λ (a : HttpRequestEntry). FaultLeaves s a f closed st) same leaves)
-    where
-      by : FaultLeaves s (reading what) f closed st → IsReadAt s closed st
-      by (inl stays) = inl stays.open_at
-      by (inr shut) = inr (shut.is_closed, shut.leaves)
+pub only_read : (s : OfficeState) (asked : HttpRequestEntry) (response : _) (closed : Bool) (st : State) → ChangesNothing asked → Readies s asked response closed st → IsReadAt s closed st
+only_read s asked response closed st still (entry, tells, inl answered) = inl (answered_still s asked entry closed st still answered)
+only_read s asked response closed st still (entry, tells, inr (fault, told, more)) = failed_still s asked fault closed st still more
 
-  -- whatever is answered to a read, the office was only read
-  only_read : (response : _) → ReadiesFor settings (Some got) s response closed st → IsReadAt s closed st
-  only_read response (inr wanting) = inl wanting.1
-  only_read response (inl ready) =
-      let (entry, tells, leaves) = ready.readies in
-      let same = AsksOneThing-all settings got ready.asked (reading what) ready.asks asks in
-      elim leaves [
-        | inl answered ↦ let it = answered_read ready.asked entry response same tells answered in inl it.1
-        | inr (fault, told, more) ↦ failed_read ready.asked fault same more
-      ]
-
-  pub served_read : (before after : Option (List ℕ)) (served : Served) → Serves settings (Some got) before after s served closed st → IsReadAt s closed st
-  served_read before after (Answered status) it = only_read it.response it.ready
-  served_read before after ReadFailed it = inl it
-  served_read before after WriteFailed it = only_read it.response it.ready
-
-  pub served_well : (answer : List ℕ) (served : Served) → TellsNoFault served → Serves settings (Some got) (Some []) (Some answer) s served closed st → IsRead settings s got answer × IsOpenAt s closed st
-  served_well answer (Answered status) other it =
-      let well = no_fault status (Some []) (Some answer) it.response it.ready it.put other in
-      (record { what = what; asks = asks; status = status; told = record { response = it.response; ready = well.0; put = it.put } }, well.1)
-  served_well answer ReadFailed other it = absurd other
-  served_well answer WriteFailed other it = absurd other
+-- an answer that tells no fault is the one to the read
+no_fault : (s : OfficeState) (what : Resource) (status : ℕ) (old new : Option (List ℕ)) (response : _) (closed : Bool) (st : State) → Readies s (reading what) response closed st
+    → IsPut old new response (Answered status) → (status ≡ 503 → ⊥) → IsTold (reading_response s what) response
+no_fault s what status old new response closed st (entry, tells, inl answered) put other = subst (λ (e : ResponseEntry). IsTold e response) answered.is.1 tells
+no_fault s what status old new response closed st (entry, tells, inr (fault, told, more)) put other =
+    absurd (other (told_fault (fault_number fault) status old new response (subst (λ (e : ResponseEntry). IsTold e response) told tells) put))
 
 -- ---- one call
 
-module _ {S : Type 0} (settings : HttpSettingsEntry) (state_of : Held S → State) (old new : OfficeValue S) (held got before after answer : List ℕ) (served : Served) (is_got : held ≡ got)
-    (is_before : before ≡ []) (is_answer : answer ≡ after)
-    (serves : HasCleanDisk (state_of new.held) → old.closed ≡ false → (s : OfficeState) → IsAt s (state_of old.held)
-    → Serves settings (Some held) (Some before) (Some after) s served new.closed (state_of new.held)) where
-  these : (s : OfficeState) → Serves settings (Some held) (Some before) (Some after) s served new.closed (state_of new.held)
-      → Serves settings (Some got) (Some []) (Some answer) s served new.closed (state_of new.held)
-  these s it =
-      subst (λ (a : List ℕ). Serves settings (Some got) (Some []) (Some a) s served new.closed (state_of new.held)) (sym is_answer)
-      (subst (λ (b : List ℕ). Serves settings (Some got) (Some b) (Some after) s served new.closed (state_of new.held)) is_before
-      (subst (λ (g : List ℕ). Serves settings (Some g) (Some before) (Some after) s served new.closed (state_of new.held)) is_got it))
+module _ {S : Type 0} (state_of : Held S → State) (old new : OfficeValue S) (asked : HttpRequestEntry) (before after answer : List ℕ) (served : Served) (is_before : before ≡ []) (is_answer : answer ≡ after) where
+  these : (IsReady : _) → IsServed IsReady (Some before) (Some after) served → IsServed IsReady (Some []) (Some answer) served
+  these IsReady it =
+      subst (λ (a : List ℕ). IsServed IsReady (Some []) (Some a) served) (sym is_answer) (subst (λ (b : List ℕ). IsServed IsReady (Some b) (Some after) served) is_before it)
+
+  pub call_answers : (HasCleanDisk (state_of new.held) → old.closed ≡ false → (s : OfficeState) → IsAt s (state_of old.held)
+      → IsServed (λ response. Readies s asked response new.closed (state_of new.held)) (Some before) (Some after) served)
+      → (old.closed ≡ true → IsServed (IsTold (closed_response asked)) (Some before) (Some after) served) → (old.closed ≡ true → new ≡ old)
+      → (HasCleanDisk (state_of new.held) → HasCleanDisk (state_of old.held)) → HasAnswered state_of old asked answer new
+  call_answers serves away stays clean = record {
+    serves = λ clean is_open s at. (served, these (λ response. Readies s asked response new.closed (state_of new.held)) (serves clean is_open s at));
+    turned_away = λ was. ((served, these (IsTold (closed_response asked)) (away was)), stays was);
+    clean = clean;
+  }
+
+  read_told : (s : OfficeState) (what : Resource) (ending : Served) → TellsNoFault ending → asked ≡ reading what
+      → IsServed (λ response. Readies s asked response new.closed (state_of new.held)) (Some []) (Some answer) ending → IsRead s what answer
+  read_told s what (Answered status) other same it = record {
+    status = status;
+    told = record {
+      response = it.response;
+      ready = no_fault s what status (Some []) (Some answer) it.response new.closed (state_of new.held)
+          (subst (λ (a : HttpRequestEntry). Readies s a it.response new.closed (state_of new.held)) same it.ready) it.put other;
+      put = it.put;
+    };
+  }
+  read_told s what ReadFailed other same it = absurd other
+  read_told s what WriteFailed other same it = absurd other
 
   -- the answer that was told is the one to the read
-  pub call_read : TellsNoFault served → WhenOpenAt state_of old new (λ s. (what : Resource) → Asks settings got (reading what) → IsRead settings s got answer × IsOpenAt s new.closed (state_of new.held))
-  call_read well = λ clean is_open s at what asks. served_well settings s got what asks new.closed (state_of new.held) answer served well (these s (serves clean is_open s at))
+  pub call_read : TellsNoFault served → (HasCleanDisk (state_of new.held) → old.closed ≡ false → (s : OfficeState) → IsAt s (state_of old.held)
+      → IsServed (λ response. Readies s asked response new.closed (state_of new.held)) (Some before) (Some after) served)
+      → WhenOpenAt state_of old new (λ s. (what : Resource) → asked ≡ reading what → IsRead s what answer)
+  call_read well serves = λ clean is_open s at what same.
+      read_told s what served well same (these (λ response. Readies s asked response new.closed (state_of new.held)) (serves clean is_open s at))
 
   -- the office was only read
-  pub call_asked : WhenOpenAt state_of old new (λ s. (what : Resource) → Asks settings got (reading what) → IsReadAt s new.closed (state_of new.held))
-  call_asked = λ clean is_open s at what asks. served_read settings s got what asks new.closed (state_of new.held) (Some []) (Some answer) served (these s (serves clean is_open s at))
+  pub call_only : (HasCleanDisk (state_of new.held) → old.closed ≡ false → (s : OfficeState) → IsAt s (state_of old.held)
+      → IsServed (λ response. Readies s asked response new.closed (state_of new.held)) (Some before) (Some after) served)
+      → ChangesNothing asked → WhenOpenAt state_of old new (λ s. IsReadAt s new.closed (state_of new.held))
+  call_only serves still = λ clean is_open s at. let it = serves clean is_open s at in only_read s asked it.response new.closed (state_of new.held) still it.ready
 
 -- ---- a client is served
 
 module _ {S : Type 0} (settings : HttpSettingsEntry) (state_of : Held S → State) where
   -- by the office
-  pub served_anew : (old new : OfficeValue S) (kept later : MemoryEntry) (number moment : ℕ) (got answer : List ℕ) → HasServed settings state_of old got answer new
-      → KeepsReads settings state_of (served_office old kept) got (served_office new later)
+  pub served_anew : (old new : OfficeValue S) (kept later : MemoryEntry) (number moment : ℕ) (got : List ℕ) (asked : HttpRequestEntry) (answer : List ℕ) → Asks settings got asked
+      → HasAnswered state_of old asked answer new → KeepsReads settings state_of (served_office old kept) got (served_office new later)
       → ServesClient settings state_of (served_office old kept) (record { listener = Clients; number = number; moment = moment; got = got; answer = answer }) (served_office new later)
-  served_anew old new kept later number moment got answer has keeps = record {
-    serves = λ clean is_open s at right. has.serves clean is_open s at;
+  served_anew old new kept later number moment got asked answer asks has keeps = record {
+    serves = λ clean is_open s at right.
+        let (served, it) = has.serves clean is_open s at in
+        (served, record { response = it.response; ready = inl (record { asked = asked; asks = asks; readies = it.ready }); put = it.put });
     keeps = keeps;
-    turned_away = has.turned_away;
+    turned_away = λ was.
+        let ((served, it), stays) = has.turned_away was in
+        ((served, record { response = it.response; ready = inl (record { asked = asked; asks = asks; tells = it.ready }); put = it.put }), stays);
     clean = has.clean;
   }
 
-  kept_at : (s : OfficeState) (reads : List ReadEntry) (entry : ReadEntry) → Contains reads entry → AreReadAt settings s reads → IsRead settings s entry.got entry.answer
-  kept_at s reads entry (place, within, is) right = subst (λ (r : ReadEntry). IsRead settings s r.got r.answer) is (right place entry within)
+  -- memory ran out to read what he asks, and nothing is kept any more
+  pub served_none : (office : OfficeValue S) (kept later : MemoryEntry) (number moment : ℕ) (got answer : List ℕ) → later.reads ≡ [] → EndsIn answer (IsServed (IsWritten (fault_response 101)))
+      → ServesClient settings state_of (served_office office kept) (record { listener = Clients; number = number; moment = moment; got = got; answer = answer }) (served_office office later)
+  served_none office kept later number moment got answer none (served, it) = record {
+    serves = λ clean is_open s at right. (served, record { response = it.response; ready = inr (it.ready, record { is_open = is_open; at = at }); put = it.put });
+    keeps = inl none;
+    turned_away = λ was. ((served, record { response = it.response; ready = inr it.ready; put = it.put }), refl);
+    clean = λ clean. clean;
+  }
 
-  told_from : (s : OfficeState) (got answer : List ℕ) (closed : Bool) (st : State) (number moment : ℕ) → IsRead settings s got answer → IsOpenAt s closed st
+  kept_at : (s : OfficeState) (reads : List ReadEntry) (entry : ReadEntry) → Contains reads entry → AreReadAt s reads → IsRead s entry.what entry.answer
+  kept_at s reads entry (place, within, is) right = subst (λ (r : ReadEntry). IsRead s r.what r.answer) is (right place entry within)
+
+  told_from : (s : OfficeState) (what : Resource) (got answer : List ℕ) (closed : Bool) (st : State) (number moment : ℕ) → Asks settings got (reading what) → IsRead s what answer → IsOpenAt s closed st
       → EndsSo (record { listener = Clients; number = number; moment = moment; got = got; answer = answer }) (IsServed (λ response. ReadiesFor settings (Some got) s response closed st))
-  told_from s got answer closed st number moment it open_at = (
+  told_from s what got answer closed st number moment asks it open_at = (
     Answered it.status,
     record {
       response = it.told.response;
       ready = inl (record {
-        asked = reading it.what;
-        asks = it.asks;
-        readies = (reading_response s it.what, it.told.ready, inl (record { next = s; is = (refl, refl); open_at = open_at }));
+        asked = reading what;
+        asks = asks;
+        readies = (reading_response s what, it.told.ready, inl (record { next = s; is = (refl, refl); open_at = open_at }));
       });
       put = it.told.put;
     },
   )
 
   -- from what was kept
-  pub served_again : (office : OfficeValue S) (kept : MemoryEntry) (number moment : ℕ) (got answer : List ℕ) (entry : ReadEntry) → office.closed ≡ false → (what : Resource) × Asks settings got (reading what)
-      → Contains kept.reads entry → entry.got ≡ got → entry.answer ≡ answer
+  pub served_again : (office : OfficeValue S) (kept : MemoryEntry) (number moment : ℕ) (got : List ℕ) (what : Resource) (answer : List ℕ) (entry : ReadEntry) → office.closed ≡ false → Asks settings got (reading what)
+      → Contains kept.reads entry → entry.what ≡ what → entry.answer ≡ answer
       → ServesClient settings state_of (served_office office kept) (record { listener = Clients; number = number; moment = moment; got = got; answer = answer }) (served_office office kept)
-  served_again office kept number moment got answer entry is_open asks there same told = record {
+  served_again office kept number moment got what answer entry is_open asks there same told = record {
     serves = λ clean was s at right.
         let it = kept_at s kept.reads entry there right in
-        let his = subst (λ (g : List ℕ). IsRead settings s g answer) same (subst (λ (a : List ℕ). IsRead settings s entry.got a) told it) in
-        told_from s got answer office.closed (state_of office.held) number moment his (record { is_open = is_open; at = at });
-    keeps = inr (asks, λ clean was s at right. (right, inl (record { is_open = is_open; at = at })));
+        let his = subst (λ (w : Resource). IsRead s w answer) same (subst (λ (a : List ℕ). IsRead s entry.what a) told it) in
+        told_from s what got answer office.closed (state_of office.held) number moment asks his (record { is_open = is_open; at = at });
+    keeps = inr ((reading what, asks, tt), λ clean was s at right. (right, inl (record { is_open = is_open; at = at })));
     turned_away = λ closed. absurd (true≢false (sym closed ∙ is_open));
     clean = λ clean. clean;
   }
@@ -160,34 +173,32 @@ module _ {S : Type 0} (settings : HttpSettingsEntry) (state_of : Held S → Stat
 
   -- ---- what is kept of it
 
-  behind : (s : OfficeState) (gone kept : List ReadEntry) → AreReadAt settings s (gone ++ kept) → AreReadAt settings s kept
+  behind : (s : OfficeState) (gone kept : List ReadEntry) → AreReadAt s (gone ++ kept) → AreReadAt s kept
   behind s [] kept right = right
   behind s (one ∷ gone) kept right = behind s gone kept (λ place entry within. right (suc place) entry (omega (arith, within)))
 
   -- nothing more is kept
-  pub keeps_same : (old new : OfficeValue S) (kept : MemoryEntry) (got : List ℕ) → (what : Resource) × Asks settings got (reading what)
-      → WhenOpenAt state_of old new (λ s. (what : Resource) → Asks settings got (reading what) → IsReadAt s new.closed (state_of new.held))
-      → KeepsReads settings state_of (served_office old kept) got (served_office new kept)
-  keeps_same old new kept got (what, asks) only = inr ((what, asks), λ clean is_open s at right. (right, only clean is_open s at what asks))
+  pub keeps_same : (old new : OfficeValue S) (kept : MemoryEntry) (got : List ℕ) (asked : HttpRequestEntry) → Asks settings got asked → ChangesNothing asked
+      → WhenOpenAt state_of old new (λ s. IsReadAt s new.closed (state_of new.held)) → KeepsReads settings state_of (served_office old kept) got (served_office new kept)
+  keeps_same old new kept got asked asks still only = inr ((asked, asks, still), λ clean is_open s at right. (right, only clean is_open s at))
 
   -- this answer may be kept too, and the oldest were let go
-  pub keeps_more : (old new : OfficeValue S) (kept later : MemoryEntry) (got answer told : List ℕ) → told ≡ answer → (what : Resource) × Asks settings got (reading what)
-      → WhenOpenAt state_of old new (λ s. (what : Resource) → Asks settings got (reading what) → IsRead settings s got answer × IsOpenAt s new.closed (state_of new.held))
-      → WhenOpenAt state_of old new (λ s. (what : Resource) → Asks settings got (reading what) → IsReadAt s new.closed (state_of new.held))
-      → (gone left : List ReadEntry) × (kept.reads ≡ gone ++ left) × ((later.reads ≡ left) ⊎ (later.reads ≡ left ++ record { got = got; answer = told } ∷ []))
+  pub keeps_more : (old new : OfficeValue S) (kept later : MemoryEntry) (got : List ℕ) (what : Resource) (answer told : List ℕ) → told ≡ answer → Asks settings got (reading what)
+      → WhenOpenAt state_of old new (λ s. IsRead s what answer) → WhenOpenAt state_of old new (λ s. IsReadAt s new.closed (state_of new.held))
+      → (gone left : List ReadEntry) × (kept.reads ≡ gone ++ left) × ((later.reads ≡ left) ⊎ (later.reads ≡ left ++ record { what = what; answer = told } ∷ []))
       → KeepsReads settings state_of (served_office old kept) got (served_office new later)
-  keeps_more old new kept later got answer told same_told (what, asks) read only (gone, left, is, now) = inr (
-    (what, asks),
+  keeps_more old new kept later got what answer told same_told asks read only (gone, left, is, now) = inr (
+    (reading what, asks, tt),
     λ clean is_open s at right. (
-      let still = behind s gone left (subst (λ (rs : List ReadEntry). AreReadAt settings s rs) is right) in
+      let still = behind s gone left (subst (λ (rs : List ReadEntry). AreReadAt s rs) is right) in
           elim now [
-            | inl same ↦ subst (λ (rs : List ReadEntry). AreReadAt settings s rs) (sym same) still
+            | inl same ↦ subst (λ (rs : List ReadEntry). AreReadAt s rs) (sym same) still
             | inr more ↦
-                subst (λ (rs : List ReadEntry). AreReadAt settings s rs) (sym more)
-                (All-push (λ (r : ReadEntry). IsRead settings s r.got r.answer) left (record { got = got; answer = told }) still
-                (subst (λ (a : List ℕ). IsRead settings s got a) (sym same_told) (read clean is_open s at what asks).0))
+                subst (λ (rs : List ReadEntry). AreReadAt s rs) (sym more)
+                (All-push (λ (r : ReadEntry). IsRead s r.what r.answer) left (record { what = what; answer = told }) still
+                (subst (λ (a : List ℕ). IsRead s what a) (sym same_told) (read clean is_open s at)))
           ],
-      only clean is_open s at what asks,
+      only clean is_open s at,
     ),
   )
 

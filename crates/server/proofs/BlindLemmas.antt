@@ -143,14 +143,14 @@ module _ (itself : SeenIsAlike) (alike : AlikeOfficesAnswerAlike) (seen : SeenIs
     keying_seen : (s : OfficeState) (exchange : Exchange) (served : Served) (n batch : ℕ) (entry : KeyingEntry) (request : Request) → IsState s → Asks settings.clients exchange.got (keying n batch entry)
         → IsHandedOn n batch entry request → (response : _) → IsTold (told_response (told_of (step_of s request))) response → IsPut (Some []) (Some exchange.answer) response served
         → IsAnsweredBySeen state_of settings clerk (seen_by clerk s) exchange (seen_by clerk (after s (request ∷ [])))
-    keying_seen s exchange served n batch entry request state asks message response told put = go (n == clerk) refl
+    keying_seen s exchange served n batch entry request state asks handed response told put = go (n == clerk) refl
       where
         none_denied : (why : RequestError) → Asks settings.clients exchange.got (denied why) → IsAnsweredAt Clients state_of settings (seen_by clerk s) exchange []
         none_denied why denies = let bad : keying n batch entry ≡ denied why = AsksOneThing-all settings.clients exchange.got (keying n batch entry) (denied why) asks denies in absurd (cc bad)
 
         go : (b : Bool) → (n == clerk) ≡ b → IsAnsweredBySeen state_of settings clerk (seen_by clerk s) exchange (seen_by clerk (after s (request ∷ [])))
         go true same =
-            let its : request.actor ≡ clerk = message.actor ∙ eqb-true n clerk same in
+            let its : request.actor ≡ clerk = handed.actor ∙ eqb-true n clerk same in
             record {
               own = λ under. (
                 request ∷ [],
@@ -158,7 +158,7 @@ module _ (itself : SeenIsAlike) (alike : AlikeOfficesAnswerAlike) (seen : SeenIs
                   served,
                   record {
                     response = response;
-                    ready = inl (keying n batch entry, asks, (request, message, subst (λ (t : Told). IsTold (told_response t) response) (told_seen s request its) told, refl));
+                    ready = inl (keying n batch entry, asks, (request, handed, subst (λ (t : Told). IsTold (told_response t) response) (told_seen s request its) told, refl));
                     put = put;
                   },
                 ),
@@ -168,13 +168,13 @@ module _ (itself : SeenIsAlike) (alike : AlikeOfficesAnswerAlike) (seen : SeenIs
               other = λ not. absurd (not (record { asked = keying n batch entry; asks = asks; its = ap Some (eqb-true n clerk same) }));
             }
         go false other =
-            let apart : (request.actor == clerk) ≡ false = ap (λ (m : ℕ). m == clerk) message.actor ∙ other in
+            let apart : (request.actor == clerk) ≡ false = ap (λ (m : ℕ). m == clerk) handed.actor ∙ other in
             record {
               own = λ under.
                   let one = AsksOneThing-all settings.clients exchange.got (keying n batch entry) under.asked asks under.asks in
                   absurd (both_ways (n == clerk) other (eq-eqb n clerk (some_same n clerk (ap clerk_asked one ∙ under.its))));
               denied = none_denied;
-              other = λ not. other_seen s request message.handed state message.command apart;
+              other = λ not. other_seen s request handed.handed state handed.command apart;
             }
 
     -- what a client asked was answered
@@ -199,9 +199,9 @@ module _ (itself : SeenIsAlike) (alike : AlikeOfficesAnswerAlike) (seen : SeenIs
 
         denies : (why : RequestError) → Asks settings.clients exchange.got (denied why) → IsAnsweredAt Clients state_of settings (seen_by clerk s) exchange []
         denies why its = let bad : reading what ≡ denied why = AsksOneThing-all settings.clients exchange.got (reading what) (denied why) asks its in absurd (cc bad)
-    asked_seen s exchange sent served (keying n batch entry) state asks response (request, message, told, is_sent) put =
+    asked_seen s exchange sent served (keying n batch entry) state asks response (request, handed, told, is_sent) put =
         subst (λ (rs : List Request). IsAnsweredBySeen state_of settings clerk (seen_by clerk s) exchange (seen_by clerk (after s rs))) (sym is_sent)
-        (keying_seen s exchange served n batch entry request state asks message response told put)
+        (keying_seen s exchange served n batch entry request state asks handed response told put)
 
     client_seen : (s : OfficeState) (exchange : Exchange) (sent : List Request) → IsState s → IsAnsweredAt Clients state_of settings s exchange sent
         → IsAnsweredBySeen state_of settings clerk (seen_by clerk s) exchange (seen_by clerk (after s sent))

@@ -1,5 +1,5 @@
 -- What goes out of an order, one frame behind the other.
-use Rattle.std.proofs.Common.{◌≡◌, ◌∙◌, ◌<◌, ◌+◌, ◌^◌, ◌++◌, ◌⊎◌, Bool, false, true, ◌&&◌, cond, ℕ, List, [], None, Option, Some, ap, arith, drop, fold, inl, inr, length, length-append, refl, subst, sym, take}
+use Rattle.std.proofs.Common.{◌≡◌, ◌∙◌, ◌<◌, ◌^◌, ◌++◌, ◌⊎◌, Bool, false, true, ◌&&◌, cond, ℕ, List, [], None, Option, Some, ap, arith, drop, fold, inl, inr, length, length-append, refl, subst, sym, take}
 use Rattle.std.proofs.Common.{leb}
 use Rattle.std.specs.Prelude.{⊤, bytes_eq}
 use Rattle.std.proofs.lemmas.Bool.{le-leb, leb-true}

@@ -21,7 +21,6 @@ use Rattle.wire.specs.Requests.{HttpRequestEntry, Asks, denied, keying, reading,
 use Rattle.wire.specs.Responses.{ResponseEntry, fault_response}
 use Rattle.wire.specs.Serving.{FaultLeaves, IsAnswered, IsServed, ReadiesFor, TellsAsked, TellsFault, TellsFor, told_response}
 use Rattle.wire.specs.Told.{IsTold, IsWritten}
-use Rattle.wire.specs.declared.target.Resource.{Resource}
 use Rattle.wire.proofs.RequestLemmas.{AsksOneThing-all}
 use Rattle.connections.specs.declared.client.Listener.{Listener}
 use Rattle.connections.specs.declared.client.Listener.TheVariants.{Clients, Orders}
@@ -34,7 +33,7 @@ use Rattle.server.specs.ServedOrders.{IsOrderOutcome, IsFramed, TellsOrder, Tell
 use Rattle.wire.specs.Gates.{HttpSettingsEntry}
 use Rattle.server.specs.Reads.{AreReadAt, ServedOffice, IsRead, ReadEntry, with_none_kept}
 use Rattle.server.specs.Settings.{ServerSettingsEntry}
-use Rattle.server.specs.Exchanges.{AnswersInTurn, AreTurnedAway, EndsSo, IsAnsweredAt, IsKeptOf, IsKeptWaiting, IsLastFor, IsStoppedAt, IsToldClosed, IsSentAway, IsWithoutFile, KeepsReads, ServesAt, ServesClient, ServesExchange, Exchange}
+use Rattle.server.specs.Exchanges.{AnswersInTurn, AreTurnedAway, ChangesNothing, EndsSo, IsAnsweredAt, IsKeptOf, IsKeptWaiting, IsLastFor, IsStoppedAt, IsToldClosed, IsSentAway, IsWithoutFile, KeepsReads, ServesAt, ServesClient, ServesExchange, Exchange}
 use Rattle.desk.specs.declared.orders.Job.{Job}
 use Rattle.server.specs.declared.served_order.ServedOrder.{ServedOrder}
 use Rattle.server.specs.declared.served_order.ServedOrder.TheVariants as asked
@@ -190,27 +189,27 @@ module _ {S : Type 0} (state_of : Held S → State) (folder : Folder) (s : Offic
 -- what one who had his turn leaves: what was answered for him, the office open behind it, and the answers that are kept right at its state; or a fault closed it
 abbrev TurnLeaves : {S : Type 0} → Listener → (Held S → State) → ServerSettingsEntry → OfficeState → Exchange → List ReadEntry → Bool → State → Type 0
 TurnLeaves listener state_of settings s exchange reads closed st =
-    ((sent : List Request) × IsAnsweredAt listener state_of settings s exchange sent × AreReadAt settings.clients (after s sent) reads × IsOpenAt (after s sent) closed st)
+    ((sent : List Request) × IsAnsweredAt listener state_of settings s exchange sent × AreReadAt (after s sent) reads × IsOpenAt (after s sent) closed st)
     ⊎ ((answered : List Request) × (last : List Request) × IsStoppedAt listener state_of settings s exchange answered last × (closed ≡ true) × LeavesState st (IsAfterSome s (answered ++ last) (length answered)))
 
 -- ---- what is kept of reads
 
-none_read : (settings : HttpSettingsEntry) (s : OfficeState) (reads : List ReadEntry) → reads ≡ [] → AreReadAt settings s reads
-none_read settings s reads none = subst (λ (rs : List ReadEntry). AreReadAt settings s rs) (sym none) (All-nil (λ (r : ReadEntry). IsRead settings s r.got r.answer))
+none_read : (s : OfficeState) (reads : List ReadEntry) → reads ≡ [] → AreReadAt s reads
+none_read s reads none = subst (λ (rs : List ReadEntry). AreReadAt s rs) (sym none) (All-nil (λ (r : ReadEntry). IsRead s r.what r.answer))
 
--- for a read nothing is handed on
-reading_sends : (settings : HttpSettingsEntry) (s : OfficeState) (exchange : Exchange) (what : Resource) (sent : List Request) → Asks settings exchange.got (reading what)
+-- for what changes nothing, nothing is handed on
+nothing_sent : (settings : HttpSettingsEntry) (s : OfficeState) (exchange : Exchange) (asked : HttpRequestEntry) (sent : List Request) → Asks settings exchange.got asked → ChangesNothing asked
     → EndsSo exchange (IsServed (TellsFor settings (Some exchange.got) s sent)) → sent ≡ []
-reading_sends settings s exchange what sent asks (served, it) = by it.ready
+nothing_sent settings s exchange asked sent asks still (served, it) = by it.ready
   where
-    of : (asked : HttpRequestEntry) → asked ≡ reading what → TellsAsked s asked it.response sent → sent ≡ []
-    of (reading other) is tells = tells.1
+    of : (other : HttpRequestEntry) → other ≡ asked → TellsAsked s other it.response sent → sent ≡ []
+    of (reading what) is tells = tells.1
     of (denied why) is tells = tells.1
     of (shown clerk show) is tells = tells.1
-    of (keying clerk batch entry) is tells = let bad : keying clerk batch entry ≡ reading what = is in absurd (cc bad)
+    of (keying clerk batch entry) is tells = absurd (subst ChangesNothing (sym is) still)
 
     by : TellsFor settings (Some exchange.got) s sent it.response → sent ≡ []
-    by (inl (asked, so, tells)) = of asked (AsksOneThing-all settings exchange.got asked (reading what) so asks) tells
+    by (inl (other, so, tells)) = of other (AsksOneThing-all settings exchange.got other asked so asks) tells
     by (inr (fault, none)) = none
 
 module _ {S : Type 0} (settings : ServerSettingsEntry) (state_of : Held S → State) where
@@ -237,19 +236,19 @@ module _ {S : Type 0} (settings : ServerSettingsEntry) (state_of : Held S → St
 
   -- what is kept behind a client who was served is right at the state after him
   kept_right : (s : OfficeState) (exchange : Exchange) (old new : ServedOffice S) → ServesClient settings.clients state_of old exchange new → HasCleanDisk (state_of new.office.held) → old.office.closed ≡ false
-      → IsAt s (state_of old.office.held) → AreReadAt settings.clients s old.kept.reads → (sent : List Request) → EndsSo exchange (IsServed (TellsFor settings.clients (Some exchange.got) s sent))
-      → AreReadAt settings.clients (after s sent) new.kept.reads
+      → IsAt s (state_of old.office.held) → AreReadAt s old.kept.reads → (sent : List Request) → EndsSo exchange (IsServed (TellsFor settings.clients (Some exchange.got) s sent))
+      → AreReadAt (after s sent) new.kept.reads
   kept_right s exchange old new it clean is_open at right sent told = by it.keeps
     where
-      by : KeepsReads settings.clients state_of old exchange.got new → AreReadAt settings.clients (after s sent) new.kept.reads
-      by (inl none) = none_read settings.clients (after s sent) new.kept.reads none
-      by (inr ((what, asks), keeps)) =
+      by : KeepsReads settings.clients state_of old exchange.got new → AreReadAt (after s sent) new.kept.reads
+      by (inl none) = none_read (after s sent) new.kept.reads none
+      by (inr ((asked, asks, nothing), keeps)) =
           let still = keeps clean is_open s at right in
-          subst (λ (rs : List Request). AreReadAt settings.clients (after s rs) new.kept.reads) (sym (reading_sends settings.clients s exchange what sent asks told)) still.0
+          subst (λ (rs : List Request). AreReadAt (after s rs) new.kept.reads) (sym (nothing_sent settings.clients s exchange asked sent asks nothing told)) still.0
 
   -- a client was served
   served_leaves : (s : OfficeState) (exchange : Exchange) (old new : ServedOffice S) → ServesClient settings.clients state_of old exchange new → HasCleanDisk (state_of new.office.held) → old.office.closed ≡ false
-      → IsAt s (state_of old.office.held) → AreReadAt settings.clients s old.kept.reads → TurnLeaves Clients state_of settings s exchange new.kept.reads new.office.closed (state_of new.office.held)
+      → IsAt s (state_of old.office.held) → AreReadAt s old.kept.reads → TurnLeaves Clients state_of settings s exchange new.kept.reads new.office.closed (state_of new.office.held)
   served_leaves s exchange old new it clean is_open at right =
       elim (client_leaves settings.clients s exchange new.office.closed (state_of new.office.held) (it.serves clean is_open s at right)) [
         | inl (sent, told, open_at) ↦ inl (sent, inr told, kept_right s exchange old new it clean is_open at right sent told, open_at)
@@ -257,7 +256,7 @@ module _ {S : Type 0} (settings : ServerSettingsEntry) (state_of : Held S → St
       ]
 
   turn_leaves : (listener : Listener) (s : OfficeState) (exchange : Exchange) (old new : ServedOffice S) → ServesAt listener settings state_of old exchange new → HasCleanDisk (state_of new.office.held) → old.office.closed ≡ false
-      → IsAt s (state_of old.office.held) → AreReadAt settings.clients s old.kept.reads → TurnLeaves listener state_of settings s exchange new.kept.reads new.office.closed (state_of new.office.held)
+      → IsAt s (state_of old.office.held) → AreReadAt s old.kept.reads → TurnLeaves listener state_of settings s exchange new.kept.reads new.office.closed (state_of new.office.held)
   turn_leaves Clients s exchange old new (inl it) clean is_open at right =
       let back = turned_back exchange old new it in
       subst (λ (d : ServedOffice S). TurnLeaves Clients state_of settings s exchange d.kept.reads d.office.closed (state_of d.office.held)) (sym back.1)
@@ -268,7 +267,7 @@ module _ {S : Type 0} (settings : ServerSettingsEntry) (state_of : Held S → St
       let tells : (sent last : List Request) → TellsSo state_of (folder_of it.files) s it.asked told.cut told.page sent last → TellsOrder state_of settings.file s exchange.got exchange.answer sent last =
       λ sent last so. record { files = it.files; asked = it.asked; is = it.is; cut = told.cut; page = told.page; told = told.told; tells = so } in
       elim (order_leaves state_of (folder_of it.files) s old.office new.office it.asked told.cut told.page (told.does clean is_open s at)) [
-        | inl (sent, last, so, open_at) ↦ inl (sent, (last, tells sent last so), none_read settings.clients (after s sent) new.kept.reads emptied, open_at)
+        | inl (sent, last, so, open_at) ↦ inl (sent, (last, tells sent last so), none_read (after s sent) new.kept.reads emptied, open_at)
         | inr (sent, last, so, is_closed, leaves) ↦ inr (sent, last, tells sent last so, is_closed, leaves)
       ]
 
@@ -323,7 +322,7 @@ module _ {S : Type 0} (settings : ServerSettingsEntry) (state_of : Held S → St
   }
 
   keeps : (s : OfficeState) (exchanges : List Exchange) (old new : ServedOffice S) → FoldsTo (ServesExchange settings state_of) old exchanges new → HasCleanDisk (state_of new.office.held) → old.office.closed ≡ false
-      → IsAt s (state_of old.office.held) → AreReadAt settings.clients s old.kept.reads → Keeps s exchanges new.office.closed (state_of new.office.held)
+      → IsAt s (state_of old.office.held) → AreReadAt s old.kept.reads → Keeps s exchanges new.office.closed (state_of new.office.held)
   keeps s [] old new same clean is_open at right =
       subst (λ (o : ServedOffice S). Keeps s [] o.office.closed (state_of o.office.held)) same (record {
         answered = [];
@@ -350,7 +349,7 @@ module _ {S : Type 0} (settings : ServerSettingsEntry) (state_of : Held S → St
       → HasCleanDisk (state_of new.office.held) → old.closed ≡ false → IsAt (after empty_office earlier) (state_of old.held)
       → IsKeptOf state_of settings earlier exchanges new.office.closed (state_of new.office.held)
   kept_of earlier exchanges old new each clean is_open at =
-      let it = keeps (after empty_office earlier) exchanges (with_none_kept old) new each clean is_open at (none_read settings.clients (after empty_office earlier) [] refl) in
+      let it = keeps (after empty_office earlier) exchanges (with_none_kept old) new each clean is_open at (none_read (after empty_office earlier) [] refl) in
       record {
         answered = it.answered;
         last = it.last;

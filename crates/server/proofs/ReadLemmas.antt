@@ -3,6 +3,7 @@ use Rattle.std.proofs.Common.{◌≡◌, ◌<◌, ◌∙◌, ◌∷◌, ◌++◌
 use Rattle.std.specs.List.{Contains}
 use Rattle.std.proofs.lemmas.List.{get_or-map, length-map}
 use Rattle.server.specs.Reads.{ReadEntry, read_entry}
+use Rattle.wire.specs.declared.target.Resource.{Resource}
 use Rattle.server.specs.declared.read_cache.CachedRead.{CachedRead}
 
 -- the oldest was let go
@@ -15,8 +16,8 @@ gone_more first (one ∷ answers) left gone is rest = (
 )
 
 -- one of those that are kept
-pub kept_has : (answers seen : List CachedRead) (place : ℕ) (one : CachedRead) (got answer : List ℕ) → seen ≡ answers → place < length seen → one ≡ get_or seen place one → one.got.items ≡ got
-    → answer ≡ one.answer.items → (entry : ReadEntry) × Contains (map read_entry answers) entry × (entry.got ≡ got) × (entry.answer ≡ answer)
-kept_has answers seen place one got answer same within is asked told =
-    subst (λ (xs : List CachedRead). (entry : ReadEntry) × Contains (map read_entry xs) entry × (entry.got ≡ got) × (entry.answer ≡ answer)) same
+pub kept_has : (answers seen : List CachedRead) (place : ℕ) (one : CachedRead) (what : Resource) (answer : List ℕ) → seen ≡ answers → place < length seen → one ≡ get_or seen place one → one.what ≡ what
+    → answer ≡ one.answer.items → (entry : ReadEntry) × Contains (map read_entry answers) entry × (entry.what ≡ what) × (entry.answer ≡ answer)
+kept_has answers seen place one what answer same within is asked told =
+    subst (λ (xs : List CachedRead). (entry : ReadEntry) × Contains (map read_entry xs) entry × (entry.what ≡ what) × (entry.answer ≡ answer)) same
     (read_entry one, (place, omega (arith, within, length-map seen read_entry), get_or-map read_entry seen place one (read_entry one) within ∙ ap read_entry (sym is)), asked, sym told)

@@ -1,5 +1,6 @@
 -- A client who goes on, part by part.
-use Rattle.std.proofs.Common.{◌≡◌, ◌∙◌, ◌∷◌, ℕ, Bool, List, [], false, true, None, Option, Some, ap, inl, inr, is_some, map, option_map, refl, subst, sym}
+use Rattle.std.specs.Io.KnownBytes.{IsAtEnd}
+use Rattle.std.proofs.Common.{◌≡◌, ◌≤◌, ◌∙◌, ◌∷◌, ◌++◌, ℕ, Bool, List, [], false, true, None, Option, Some, ap, inl, inr, is_some, length, map, option_map, refl, subst, sym}
 use Rattle.std.specs.Prelude.{Err, Ok, Result}
 use Rattle.votes.specs.declared.streams.Broken.{Broken as Failure}
 use Rattle.connections.specs.Closing.{EndsFor}
@@ -10,28 +11,26 @@ use Rattle.connections.specs.declared.removed.CloseReason.TheVariants.{Broken, C
 use Rattle.server.specs.declared.servicing.Serviced.{Serviced}
 use Rattle.server.specs.declared.servicing.Serviced.TheVariants.{Leaves, Served, Waits}
 use Rattle.sqlite.specs.Held.{Held}
-use Rattle.sqlite.specs.State.{HasCleanDisk, State}
-use Rattle.register.specs.Offices.{OfficeState}
-use Rattle.store.specs.Offices.{IsAt}
-use Rattle.office.specs.Values.{OfficeValue}
-use Rattle.office.specs.Answers.{IsOpenAt}
+use Rattle.sqlite.specs.State.{State}
 use Rattle.wire.specs.Responses.{ResponseEntry, fault_response, waits_response}
-use Rattle.wire.specs.Serving.{EndsWith, IsServed, OnReadFailed, ReadiesClosed, ReadiesFor, Serves, ServesClosed}
+use Rattle.wire.specs.Serving.{IsServed}
 use Rattle.wire.specs.Told.{IsWritten}
 use Rattle.wire.specs.declared.serving.Served.{Served as Ending}
-use Rattle.wire.specs.declared.serving.Served.TheVariants.{Answered, ReadFailed, WriteFailed}
 use Rattle.connections.specs.Streams.{Delivers, Receives, HasFailed, Stream}
 use Rattle.connections.specs.Clients.{IsReceived, IsOf, IsServedSo, IsSent}
 use Rattle.connections.specs.declared.client.PendingResponse.{PendingResponse}
 use Rattle.connections.specs.declared.client.Client.{Client}
 use Rattle.wire.specs.Gates.{HttpSettingsEntry}
-use Rattle.wire.specs.Completeness.{IsCompletenessOf, IsWhole}
+use Rattle.wire.specs.Completeness.{IsCompletenessOf}
+use Rattle.wire.specs.Parsing.{IsParsed}
+use Rattle.wire.specs.declared.completeness.Completeness.{Completeness}
 use Rattle.wire.specs.declared.completeness.Completeness.TheVariants.{Complete}
+use Rattle.wire.specs.declared.parsed.Parsed.{Parsed}
 use Rattle.connections.proofs.StreamLemmas.{heard_more, told_more, told_none}
 use Rattle.server.specs.Settings.{ServerSettingsEntry}
-use Rattle.server.specs.Servicing.{Services, HasCome, HasComeAt, HasResponded, HasExchanges, IsAtGate, IsLostOnly, LooksAtGate, MayHaveResponded, WasServiced, answer_of, moment_of, response_at}
+use Rattle.server.specs.Servicing.{Services, HasComeAt, HasResponded, HasExchanges, IsAtGate, IsCome, IsLostOnly, LooksAtGate, MayHaveResponded, WasServiced, answer_of, moment_of, response_at}
 use Rattle.server.specs.Reads.{ServedOffice}
-use Rattle.server.specs.Exchanges.{EndsIn, HasServed, IsGoneResponse, IsWaitResponse, ServesExchange, Exchange}
+use Rattle.server.specs.Exchanges.{EndsIn, IsGoneResponse, IsWaitResponse, ServesExchange, Exchange}
 
 pub none_from : {X : Type 0} (found : Option X) → is_some found ≡ false → found ≡ None
 none_from None is = refl
@@ -43,56 +42,43 @@ pub same_answer : (old new : PendingResponse) (before : Option PendingResponse) 
 same_answer old new before is same = ap Some same ∙ sym (ap (option_map (λ (a : PendingResponse). a.bytes.items)) is)
 
 -- bytes that lack nothing have come to their end
-pub lacks_nothing : (settings : HttpSettingsEntry) (held : Option (List ℕ)) (seen got : List ℕ) (lacking : _) → seen ≡ got → lacking ≡ Complete → IsCompletenessOf settings seen lacking → HasCome settings held got
-lacks_nothing settings held seen got lacking same nothing it = inl (subst (λ (bytes : List ℕ). IsWhole settings bytes) same (subst (λ l. IsCompletenessOf settings seen l) nothing it))
+pub come_whole : (its : HttpSettingsEntry) (held : Option (List ℕ)) (got : List ℕ) (parsed : Parsed) (lacking : Completeness) (n : ℕ) → n ≡ length got → lacking ≡ Complete
+    → ((settings : HttpSettingsEntry) (bytes : List ℕ) → length bytes ≡ n → IsParsed settings bytes parsed → IsCompletenessOf settings bytes lacking) → IsParsed its got parsed → IsCome its held got parsed
+come_whole its held got parsed lacking n long nothing completeness_of is = (inl (subst (λ (l : Completeness). IsCompletenessOf its got l) nothing (completeness_of its got (sym long) is)), is)
+
+-- and so have those of a client that sends no more
+pub come_ended : (its : HttpSettingsEntry) (held : Option (List ℕ)) (got : List ℕ) (parsed : Parsed) → IsAtEnd held → IsParsed its got parsed → IsCome its held got parsed
+come_ended its held got parsed ended is = (inr ended, is)
+
+-- what was parsed stays right as more is gathered
+pub parsed_on : {L : Type 0} (stream : Stream L) (its : HttpSettingsEntry) (parsed : Parsed) (old new : L) (before after : List ℕ) → Receives stream old new before after
+    → ((more : List ℕ) → IsParsed its (before ++ more) parsed) → IsParsed its after parsed
+parsed_on stream its parsed old new before after receives lasts = subst (λ (xs : List ℕ). IsParsed its xs parsed) (sym receives.is) (lasts receives.more)
+
+-- so it is of as many bytes as a head may have
+pub lasts_for : (its : HttpSettingsEntry) (seen got : List ℕ) (parsed : Parsed) → seen ≡ got → (8192 ≤ length seen → (more : List ℕ) → IsParsed its (seen ++ more) parsed) → 8192 ≤ length got
+    → (more : List ℕ) → IsParsed its (got ++ more) parsed
+lasts_for its seen got parsed same lasts full =
+    subst (λ (xs : List ℕ). (more : List ℕ) → IsParsed its (xs ++ more) parsed) same (lasts (subst (λ (xs : List ℕ). 8192 ≤ length xs) (sym same) full))
 
 -- neither of two has an answer
 pub no_answer : {L : Type 0} (old new : Client L) → old.answer ≡ None → new.answer ≡ None → answer_of new ≡ answer_of old
 no_answer old new none still = ap (option_map (λ (a : PendingResponse). a.bytes.items)) (still ∙ sym none)
 
--- an answer was put for a visit, where the reader, which doesn't fail, didn't
-ends_so : (IsReady : _) (ReadFailure : Type 0) (answer : List ℕ) (served : Ending) (failed : Type 0) → (failed → ⊥) → OnReadFailed served failed
-    → EndsWith IsReady ReadFailure (Some []) (Some answer) served → EndsIn answer (IsServed IsReady)
-ends_so IsReady ReadFailure answer (Answered status) failed never read it = (Answered status, it)
-ends_so IsReady ReadFailure answer ReadFailed failed never read it = absurd (never read)
-ends_so IsReady ReadFailure answer WriteFailed failed never read it = (WriteFailed, it)
-
--- a client was served from what was gathered of him, by the clauses of the call that served him
-pub visit_served : {S : Type 0} (settings : HttpSettingsEntry) (state_of : Held S → State) (old new : OfficeValue S) (held got before after answer : List ℕ) (served : Ending) (failed : Type 0)
-    → held ≡ got → before ≡ [] → answer ≡ after → (failed → ⊥) → OnReadFailed served failed
-    → (HasCleanDisk (state_of new.held) → old.closed ≡ false → (s : OfficeState) → IsAt s (state_of old.held)
-    → Serves settings (Some held) (Some before) (Some after) s served new.closed (state_of new.held))
-    → (old.closed ≡ true → ServesClosed settings (Some held) (Some before) (Some after) served) → (old.closed ≡ true → new ≡ old)
-    → (HasCleanDisk (state_of new.held) → HasCleanDisk (state_of old.held)) → HasServed settings state_of old got answer new
-visit_served settings state_of old new held got before after answer served failed is_got is_before is_answer never read serves away stays clean = record {
-  serves = λ clean is_open s at.
-      ends_so (λ response. ReadiesFor settings (Some got) s response new.closed (state_of new.held)) (IsOpenAt s new.closed (state_of new.held)) answer served failed never read
-      (these (λ g b a. Serves settings (Some g) (Some b) (Some a) s served new.closed (state_of new.held)) (serves clean is_open s at));
-  turned_away = λ was. (
-    ends_so (ReadiesClosed settings (Some got)) (Some answer ≡ Some []) answer served failed never read (these (λ g b a. ServesClosed settings (Some g) (Some b) (Some a) served) (away was)),
-    stays was,
-  );
-  clean = clean;
-}
-  where
-    these : (P : List ℕ → List ℕ → List ℕ → Type 0) → P held before after → P got [] answer
-    these P p =
-        subst (λ (a : List ℕ). P got [] a) (sym is_answer) (subst (λ (b : List ℕ). P got b after) is_before (subst (λ (g : List ℕ). P g before after) is_got p))
-
--- a client was told one thing, by the clauses of the call that told it
-told_one : (response : ResponseEntry) (exchange : Exchange) (before after : List ℕ) (served : Ending) → before ≡ [] → exchange.answer ≡ after → IsServed (IsWritten response) (Some before) (Some after) served
-    → EndsIn exchange.answer (IsServed (IsWritten response))
-told_one response exchange before after served is_before is_answer it = (
+-- one thing was told, from the first byte on, by the clauses of the call that told it
+pub told_first : (response : ResponseEntry) (answer before after : List ℕ) (served : Ending) → before ≡ [] → answer ≡ after → IsServed (IsWritten response) (Some before) (Some after) served
+    → EndsIn answer (IsServed (IsWritten response))
+told_first response answer before after served is_before is_answer it = (
   served,
   subst (λ (a : List ℕ). IsServed (IsWritten response) (Some []) (Some a) served) (sym is_answer)
       (subst (λ (b : List ℕ). IsServed (IsWritten response) (Some b) (Some after) served) is_before it),
 )
 
 pub told_waiting : (exchange : Exchange) (before after : List ℕ) (served : Ending) → before ≡ [] → exchange.answer ≡ after → IsServed (IsWritten waits_response) (Some before) (Some after) served → IsWaitResponse exchange
-told_waiting exchange before after served is_before is_answer it = told_one waits_response exchange before after served is_before is_answer it
+told_waiting exchange before after served is_before is_answer it = told_first waits_response exchange.answer before after served is_before is_answer it
 
 pub told_gone : (exchange : Exchange) (before after : List ℕ) (served : Ending) → before ≡ [] → exchange.answer ≡ after → IsServed (IsWritten (fault_response 113)) (Some before) (Some after) served → IsGoneResponse exchange
-told_gone exchange before after served is_before is_answer it = told_one (fault_response 113) exchange before after served is_before is_answer it
+told_gone exchange before after served is_before is_answer it = told_first (fault_response 113) exchange.answer before after served is_before is_answer it
 
 -- it leaves for one reason
 pub left_as : (was why : CloseReason) → Leaves was ≡ Leaves why → was ≡ why
@@ -200,6 +186,12 @@ module _ {L : Type 0} (stream : Stream L) where
   went_stopped settings state_of now serviced broken old new at behind before later attends is since failed =
       let turn : HasResponded settings stream state_of now old new at behind = subst (λ (a : Serviced). Services settings stream state_of now a old new at behind) is attends in
       (turn.exchange ∷ [], (turn, refl), (since, failed))
+
+  -- it waits, and had none
+  pub went_waits : {S : Type 0} (settings : ServerSettingsEntry) (state_of : Held S → State) (now : ℕ) (serviced : Serviced) (old new : Client L) (at behind : ServedOffice S) (before : NetworkEntry L)
+      → Services settings stream state_of now serviced old new at behind → serviced ≡ Waits → new.since ≡ old.since → Comes settings state_of now (Ok None) before before old new at behind
+  went_waits settings state_of now serviced old new at behind before attends is since =
+      ([], subst (λ (a : Serviced). Services settings stream state_of now a old new at behind) is attends, inl (refl, since, refl))
 
   -- it leaves, with its turn or without
   pub went_away : {S : Type 0} (settings : ServerSettingsEntry) (state_of : Held S → State) (now : ℕ) (serviced : Serviced) (why : CloseReason) (old new : Client L) (at behind : ServedOffice S) (before : NetworkEntry L)

@@ -11,13 +11,12 @@ use Rattle.office.specs.Values.{OfficeValue}
 use Rattle.connections.specs.declared.client.Listener.{Listener}
 use Rattle.connections.specs.declared.client.Listener.TheVariants.{Clients, Orders}
 use Rattle.wire.specs.Bodies.{KeyingEntry}
-use Rattle.wire.specs.Requests.{Asks, keying, reading}
+use Rattle.wire.specs.Requests.{HttpRequestEntry, Asks, denied, keying, reading, shown}
 use Rattle.wire.specs.Gates.{HttpSettingsEntry, IsAuthentication, AuthenticationEntry}
 use Rattle.wire.specs.Responses.{fault_response, waits_response}
-use Rattle.wire.specs.Told.{IsWritten}
-use Rattle.wire.specs.Serving.{IsHandedOn, IsServed, ReadiesClosed, ReadiesFor, TellsFault, TellsFor}
+use Rattle.wire.specs.Told.{IsTold, IsWritten}
+use Rattle.wire.specs.Serving.{IsHandedOn, IsServed, Readies, ReadiesClosed, ReadiesFor, TellsFault, TellsFor, closed_response}
 use Rattle.wire.specs.declared.serving.Served.{Served}
-use Rattle.wire.specs.declared.target.Resource.{Resource}
 use Rattle.server.specs.ServedOrders.{FollowsOrder, IsTurnedAway, TellsOrder}
 use Rattle.server.specs.Reads.{AreReadAt, ServedOffice, limit_after, must_wait}
 use Rattle.server.specs.Settings.{ServerSettingsEntry}
@@ -40,24 +39,31 @@ EndsIn answer IsEnd = (served : Served) × IsEnd (Some []) (Some answer) served
 abbrev pub EndsSo : Exchange → (Option (List ℕ) → Option (List ℕ) → Served → Type 0) → Type 0
 EndsSo exchange IsEnd = EndsIn exchange.answer IsEnd
 
--- The office served these bytes with this response. If it was open, the response has what they ask, with what that left. If it was closed, the response says so.
-pub record HasServed {S : Type 0} (settings : HttpSettingsEntry) (state_of : Held S → State) (old : OfficeValue S) (got answer : List ℕ) (new : OfficeValue S) : Type 0 where
-  pub serves : WhenOpenAt state_of old new (λ s. EndsIn answer (IsServed (λ response. ReadiesFor settings (Some got) s response new.closed (state_of new.held))))
-  pub turned_away : old.closed ≡ true → EndsIn answer (IsServed (ReadiesClosed settings (Some got))) × (new ≡ old)
+-- The office answered what was asked. If it was open, these bytes are the response, with what that left; if it was closed, they say so.
+pub record HasAnswered {S : Type 0} (state_of : Held S → State) (old : OfficeValue S) (asked : HttpRequestEntry) (answer : List ℕ) (new : OfficeValue S) : Type 0 where
+  pub serves : WhenOpenAt state_of old new (λ s. EndsIn answer (IsServed (λ response. Readies s asked response new.closed (state_of new.held))))
+  pub turned_away : old.closed ≡ true → EndsIn answer (IsServed (IsTold (closed_response asked))) × (new ≡ old)
   pub clean : HasCleanDisk (state_of new.held) → HasCleanDisk (state_of old.held)
 
--- what a request leaves in the cache: nothing; or it asks for a read, and what is cached is right at the same state as before
+-- the request changes nothing: it isn't a keying
+abbrev pub ChangesNothing : HttpRequestEntry → Type 0
+ChangesNothing (denied why) = ⊤
+ChangesNothing (shown clerk show) = ⊤
+ChangesNothing (reading what) = ⊤
+ChangesNothing (keying clerk batch entry) = ⊥
+
+-- what processing a request leaves of the cache: it is empty; or the request changes nothing, and if the cache was right at the state, it still is
 abbrev pub KeepsReads : {S : Type 0} → HttpSettingsEntry → (Held S → State) → ServedOffice S → List ℕ → ServedOffice S → Type 0
 KeepsReads settings state_of old got new =
     (new.kept.reads ≡ [])
-    ⊎ (((what : Resource) × Asks settings got (reading what))
-    × WhenOpenAt state_of old.office new.office (λ s. AreReadAt settings s old.kept.reads → AreReadAt settings s new.kept.reads × IsReadAt s new.office.closed (state_of new.office.held)))
+    ⊎ (((asked : HttpRequestEntry) × Asks settings got asked × ChangesNothing asked)
+    × WhenOpenAt state_of old.office new.office (λ s. AreReadAt s old.kept.reads → AreReadAt s new.kept.reads × IsReadAt s new.office.closed (state_of new.office.held)))
 
 -- A client was served, by the office or from the cache. If the office was open and the cache was right, the response has what the client asks, with what that left. If the
 -- office was closed, the response says so.
 pub record ServesClient {S : Type 0} (settings : HttpSettingsEntry) (state_of : Held S → State) (old : ServedOffice S) (exchange : Exchange) (new : ServedOffice S) : Type 0 where
   pub serves : WhenOpenAt state_of old.office new.office
-      (λ s. AreReadAt settings s old.kept.reads → EndsSo exchange (IsServed (λ response. ReadiesFor settings (Some exchange.got) s response new.office.closed (state_of new.office.held))))
+      (λ s. AreReadAt s old.kept.reads → EndsSo exchange (IsServed (λ response. ReadiesFor settings (Some exchange.got) s response new.office.closed (state_of new.office.held))))
   pub keeps : KeepsReads settings state_of old exchange.got new
   pub turned_away : old.office.closed ≡ true → EndsSo exchange (IsServed (ReadiesClosed settings (Some exchange.got))) × (new.office ≡ old.office)
   pub clean : HasCleanDisk (state_of new.office.held) → HasCleanDisk (state_of old.office.held)
@@ -70,7 +76,7 @@ IsWaitResponse exchange = EndsSo exchange (IsServed (IsWritten waits_response))
 abbrev pub IsGoneResponse : Exchange → Type 0
 IsGoneResponse exchange = EndsSo exchange (IsServed (IsWritten (fault_response 113)))
 
--- a client is turned away: it must wait, or the file is gone
+-- a client is sent away: it must wait, or the file is gone
 abbrev pub IsSentAway : Exchange → Type 0
 IsSentAway exchange = IsWaitResponse exchange ⊎ IsGoneResponse exchange
 
@@ -99,7 +105,7 @@ pub record IsLetIn {S : Type 0} (settings : HttpSettingsEntry) (state_of : Held 
 abbrev pub RespondsToClient : {S : Type 0} → HttpSettingsEntry → (Held S → State) → ServedOffice S → Exchange → ServedOffice S → Type 0
 RespondsToClient settings state_of old exchange new = (IsKeptWaiting settings old exchange new ⊎ IsWithoutFile old exchange new) ⊎ IsLetIn settings state_of old exchange new
 
--- The request of a connection of this listener was processed: a client's so; or an order is followed, the cache is emptied, and no wrong code is counted.
+-- The request of a connection of this listener was processed: a client's as above; or an order is followed, the cache is emptied, and no wrong code is counted.
 abbrev pub ServesAt : {S : Type 0} → Listener → ServerSettingsEntry → (Held S → State) → ServedOffice S → Exchange → ServedOffice S → Type 0
 ServesAt Clients settings state_of old exchange new = RespondsToClient settings.clients state_of old exchange new
 ServesAt Orders settings state_of old exchange new =

@@ -1,11 +1,10 @@
--- What is kept in memory: the responses to reads, which are sent again while nothing changes; and the wrong codes that came.
+-- The server's memory: the cache of reads, and the wrong codes that were sent.
 use Rattle.std.specs.Prelude.{◌≡◌, ◌&&◌, Bool, false, List, [], None, Option, Some, if◌then◌else◌, map, ℕ}
 use Rattle.std.specs.List.{All}
 use Rattle.register.specs.Offices.{OfficeState}
 use Rattle.office.specs.Values.{OfficeValue}
 use Rattle.codes.specs.RateLimits.{LimitEntry, counted, is_reached, limit_entry, none_wrong}
-use Rattle.wire.specs.Requests.{Asks, reading}
-use Rattle.wire.specs.Gates.{HttpSettingsEntry, AuthenticationEntry}
+use Rattle.wire.specs.Gates.{AuthenticationEntry}
 use Rattle.wire.specs.Serving.{IsServed, reading_response}
 use Rattle.wire.specs.Told.{IsTold}
 use Rattle.wire.specs.declared.serving.Served.{Served}
@@ -15,21 +14,19 @@ use Rattle.server.specs.declared.read_cache.ReadCache.{ReadCache}
 use Rattle.server.specs.declared.read_cache.CachedRead.{CachedRead}
 use Rattle.server.specs.declared.server_memory.ServerMemory.{ServerMemory}
 
--- the bytes of a request, and those of its response
+-- a resource that was read, and the bytes of the response
 pub record ReadEntry : Type 0 where
-  pub got : List ℕ
+  pub what : Resource
   pub answer : List ℕ
 
 abbrev pub read_entry : CachedRead → ReadEntry
-read_entry k = record { got = k.got.items; answer = k.answer.items }
+read_entry k = record { what = k.what; answer = k.answer.items }
 
 abbrev pub reads_in : ReadCache → List ReadEntry
 reads_in kept = map read_entry kept.answers.items
 
--- These bytes ask for a read, and this is the response to it at a state, byte for byte.
-pub record IsRead (settings : HttpSettingsEntry) (s : OfficeState) (got answer : List ℕ) : Type 0 where
-  pub what : Resource
-  pub asks : Asks settings got (reading what)
+-- This is the response to a read at a state, byte for byte.
+pub record IsRead (s : OfficeState) (what : Resource) (answer : List ℕ) : Type 0 where
   pub status : ℕ
   pub told : IsServed (λ response. IsTold (reading_response s what) response) (Some []) (Some answer) (Answered status)
 
@@ -39,9 +36,9 @@ TellsNoFault (Answered status) = status ≡ 503 → ⊥
 TellsNoFault ReadFailed = ⊥
 TellsNoFault WriteFailed = ⊥
 
--- each response in the cache is the one at this state
-abbrev pub AreReadAt : HttpSettingsEntry → OfficeState → List ReadEntry → Type 0
-AreReadAt settings s reads = All (λ r. IsRead settings s r.got r.answer) reads
+-- each cached response is the one at this state
+abbrev pub AreReadAt : OfficeState → List ReadEntry → Type 0
+AreReadAt s reads = All (λ r. IsRead s r.what r.answer) reads
 
 -- ---- wrong codes
 
@@ -50,14 +47,14 @@ abbrev pub must_wait : Option AuthenticationEntry → ℕ → LimitEntry → Boo
 must_wait None now limit = false
 must_wait (Some authentication) now limit = authentication.is_wrong && is_reached limit now
 
--- the wrong codes that came, including this client's
+-- the wrong codes that were sent, including this client's
 abbrev pub limit_after : Option AuthenticationEntry → ℕ → LimitEntry → LimitEntry
 limit_after None now limit = limit
 limit_after (Some authentication) now limit = if authentication.is_wrong then counted now limit else limit
 
 -- ---- both
 
--- the responses to reads that are kept, and how many wrong codes came
+-- the cached responses, and the wrong codes that were sent
 pub record MemoryEntry : Type 0 where
   pub reads : List ReadEntry
   pub limit : LimitEntry
@@ -65,7 +62,7 @@ pub record MemoryEntry : Type 0 where
 abbrev pub memory_entry : ServerMemory → MemoryEntry
 memory_entry kept = record { reads = reads_in kept.reads; limit = limit_entry kept.limit }
 
--- an office that is served, and what is kept in memory
+-- an office that is served, and the server's memory
 pub record ServedOffice (S : Type 0) : Type 0 where
   pub office : OfficeValue S
   pub kept : MemoryEntry

@@ -92,7 +92,7 @@ pub record AreIn {L : Type 0} (settings : ServerSettingsEntry) (stream : Stream 
   pub left : (number : ℕ) (connection : ServedConnection L) → number < length all_connections
       → IsIn clients number ⊎ HasLeft stream gone exchanges number (slice_index_or all_connections number connection)
 
--- so it is with the table: connections were accepted, and had their exchanges, and these of them are open
+-- what holds of the table: connections were accepted, and had their exchanges, and these of them are open
 abbrev pub IsSound : {L : Type 0} → ServerSettingsEntry → Stream L → ConnectionTable L → Type 0
 IsSound {L} settings stream table = (all_connections : List (ServedConnection L)) × (exchanges : List Exchange) × (gone : List (Removed L))
     × AreIn settings stream all_connections exchanges gone table.came table.clients.items

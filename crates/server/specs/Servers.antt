@@ -43,7 +43,7 @@ pub record GoesOn {L : Type 0} (settings : ServerSettingsEntry) (stream : Stream
   pub back : RemovesMore before.left later.left gone
   pub own : (all_connections : List (ServedConnection L)) (earlier : List Exchange) (left : List (Removed L)) → AreIn settings stream all_connections earlier left old.came old.clients.items
       → (all : List (ServedConnection L)) × (map (λ connection. connection.came) all ≡ map (λ connection. connection.came) all_connections ++ all_accepted)
-      × AreIn settings stream all (earlier ++ exchanges) (left ++ gone) new.came new.clients.items
+          × AreIn settings stream all (earlier ++ exchanges) (left ++ gone) new.came new.clients.items
 
 -- the same while an office serves the exchanges
 pub record GoesOnServing {L S : Type 0} (settings : ServerSettingsEntry) (stream : Stream L) (state_of : Held S → State) (before later : NetworkEntry L) (old new : ConnectionTable L)
@@ -52,7 +52,7 @@ pub record GoesOnServing {L S : Type 0} (settings : ServerSettingsEntry) (stream
   pub each : FoldsTo (ServesExchange settings state_of) at exchanges behind
   pub goes_on : GoesOn settings stream exchanges before later old new
 
--- The same from any moment that the clock showed last. Step by step these are the responses that were made, and so connections were accepted and closed.
+-- The same from any moment that the clock showed last. Step by step, these responses were made, and these connections were accepted and closed.
 abbrev pub ServesOn : {L S : Type 0} → ServerSettingsEntry → Stream L → (Held S → State) → NetworkEntry L → NetworkEntry L → ConnectionTable L → ConnectionTable L → ServedOffice S
     → ServedOffice S → Type 0
 ServesOn settings stream state_of before later old new at behind =
@@ -89,8 +89,8 @@ IsRound (Ok true) before later = (later.failed ≡ before.failed) × (later.wait
 IsRound (Ok false) before later = (later.failed ≡ before.failed) × (later.waits ≡ one_more before.waits)
 IsRound (Err broken) before later = (later.failed ≡ one_more before.failed) × (later.waits ≡ before.waits)
 
--- Why serving ended early: a call of the network failed, and it was the only one; or the table couldn't be allocated; or as many rounds were over as there are numbers.
--- Otherwise no call failed.
+-- Why serving ended early: a call of the network failed, and it was the only one; or the table couldn't be allocated; or the number of rounds reached its limit. Otherwise no
+-- call failed.
 abbrev pub IsEndedBy : {L : Type 0} → NetworkEntry L → NetworkEntry L → Result (Unit {0}) ServeError → Type 0
 IsEndedBy before later (Ok end) = later.failed ≡ before.failed
 IsEndedBy before later (Err ended.Network) = later.failed ≡ one_more before.failed

@@ -14,6 +14,8 @@ use Rattle.connections.specs.declared.client.Listener.{Listener}
 use Rattle.connections.specs.declared.client.Listener.TheVariants.{Clients, Orders}
 use Rattle.wire.specs.Gates.{HttpSettingsEntry}
 use Rattle.wire.specs.Completeness.{IsWhole}
+use Rattle.wire.specs.Parsing.{IsParsed}
+use Rattle.wire.specs.declared.parsed.Parsed.{Parsed}
 use Rattle.server.specs.declared.servicing.Serviced.{Serviced}
 use Rattle.server.specs.declared.servicing.Serviced.TheVariants.{Waits, Served, Leaves}
 use Rattle.server.specs.ServedOrders.{HasCameWhole}
@@ -25,7 +27,11 @@ use Rattle.server.specs.Exchanges.{ServesExchange, Exchange}
 abbrev pub HasCome : HttpSettingsEntry → Option (List ℕ) → List ℕ → Type 0
 HasCome settings held got = IsWhole settings got ⊎ IsAtEnd held
 
--- the same for a connection of this listener; an order's message is complete
+-- the same for a client whose head was parsed
+abbrev pub IsCome : HttpSettingsEntry → Option (List ℕ) → List ℕ → Parsed → Type 0
+IsCome settings held got parsed = HasCome settings held got × IsParsed settings got parsed
+
+-- the same for a connection of either listener; an order is complete once its whole message arrived
 abbrev pub HasComeAt : Listener → ServerSettingsEntry → Option (List ℕ) → List ℕ → Type 0
 HasComeAt Clients settings held got = HasCome settings.clients held got
 HasComeAt Orders settings held got = HasCameWhole got

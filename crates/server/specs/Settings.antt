@@ -8,5 +8,5 @@ pub record ServerSettingsEntry : Type 0 where
   pub clients : HttpSettingsEntry
   pub file : FileNumbers
 
-abbrev pub settings_in : ServerSettings → ServerSettingsEntry
+abbrev pub settings_in : {A : Type 0} → ServerSettings A → ServerSettingsEntry
 settings_in server_settings = record { clients = settings_entry server_settings.http; file = server_settings.file }

@@ -16,8 +16,8 @@ use sqlite::Alter;
 /// So take two services whose offices look alike to a clerk, and that receive no orders. If both receive the same bytes under the
 /// clerk's number, in the same order, both send the clerk the same, whatever other clerks keyed.
 ///
-/// The law doesn't speak of faults, nor of the responses to wait (429) and that the file is gone (113). It says nothing of how long
-/// a response takes, nor of what everyone may read, which is a stage sheet or a declaration.
+/// The law doesn't cover faults, nor the responses that the client must wait (429) and that the file is gone (113). It says
+/// nothing of how long a response takes, nor of public reads: a stage sheet or a declaration.
 pub fn clerks_are_answered_as_seen<S: Alter>()
     ensures own { ClerksAreAnsweredAsSeen (state S.Store) }
     ensures kept { KeptAreAnsweredAsSeen (state S.Store) }

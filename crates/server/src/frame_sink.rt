@@ -6,26 +6,26 @@ ghost use Rattle.order_protocol.specs.Frames.{AreWhole, IsOver, SaysMore, output
 ghost use Rattle.server.specs.FrameSinks.{IsEnded, IsGoingOut, said_through};
 
 use connections::{PendingResponse, Stream, deliver};
-use order_protocol::{MAX_FRAME, put_end_frame, put_error_frames, put_output};
+use order_protocol::{MAX_FRAME, put_error_frames, put_end_frame, put_output};
 use std::alloc::{AllocError, Global};
 use votes::{Broken, Sink};
 
-/// The most bytes of the response to one order. For more, end `serve` first.
+/// The most bytes of the response to one order. For a longer one, end `serve` first.
 const MAX_ANSWER: usize = 32 << 20;
 
-/// The sink for an order's replies: appends them to what it has printed already, in frames, and sends as much as the stream accepts
-/// now. It fails if the stream does, if an allocation does, or if the response gets too long.
+/// The sink for an order's replies: appends them to what it has printed already, in frames, and sends as much as the stream
+/// accepts now. It fails if the stream does, if an allocation does, or if the response gets too long.
 ///
-/// It owns the stream. An order is processed by code that knows only of a `Sink`, so nothing would be known afterwards of a stream
-/// that it borrows.
+/// It owns the stream. An order is processed by code that knows only of a `Sink`, so nothing would be known afterwards of a
+/// stream that it borrows.
 pub struct FrameSink<L> {
     pub stream: L,
     pub answer: PendingResponse,
     pub failed: u64,
 }
 
-/// Appends frames with these bytes of the error output, and the last frame, with the status. If an allocation fails, the bytes are
-/// those from before, or all but the last frame.
+/// Appends frames with these bytes of the error output, and the last frame, with the status. If an allocation fails, the bytes
+/// are those from before, or all but the last frame.
 fn put_end(out: &mut Vec<u8>, status: u8, err: &[u8]) -> Result<(), AllocError>
     ensures says { AreWhole out.old.items → (rest : List ℕ) × SaysMore out.old.items out.new.items [] rest × OnOk result ((rest ≡ err.now) × IsOver out.new.items status []) }
     ensures begins { take (length out.old.items) out.new.items ≡ out.old.items }

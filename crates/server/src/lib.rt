@@ -1,11 +1,16 @@
 //! The server: it services the connections of clients, over HTTP, and of orders that are handed over, side by side, and processes
 //! their requests one after the other.
 //!
-//! [`serve_connections`] accepts connections from a [`Network`](connections::Network), at most 512 at once. [`service`] receives as
-//! much of a request as has arrived. Once the request is complete, it is processed: a client's from the bytes that were received,
-//! an order's in the open office. So no connection waits for another's stream, and the office does one thing at a time. A read that
-//! is repeated while nothing has changed is answered from the cache. If the office has a gate, a request is let in by its clerk's
-//! code, and only so many wrong codes are checked within a minute.
+//! [`serve_connections`] accepts connections from a [`Network`](connections::Network), at most 512 at once. [`service`] receives
+//! as much of a request as has arrived. Once the request is complete, it is processed: a client's by its parsed head and the
+//! bytes that were received, an order's by its message, in the same open office. So no connection waits for another's stream, and
+//! the office does one thing at a time.
+//!
+//! Whenever more of a client's request has arrived, [`wire::parse`] parses its head, with routes that are made once. From that
+//! one result the server knows whether the request is complete, whose code it has, whether it must wait, what it reads, and what
+//! the office is asked. Responses to reads are cached by what is asked, not by the bytes of the request, and a cached response is
+//! sent again until a keying or an order empties the cache. If the office has a gate, a request under a clerk's number requires
+//! that clerk's code. Once 6,000 wrong codes were sent within a minute, a wrong code is answered 429.
 //!
 //! `specs/Exchanges.antt` defines what is kept of the requests, and `specs/ServedOrders.antt` what an order asks and what it
 //! prints. `specs/Reads.antt` defines the cache and the rate limit, and `specs/Servicing.antt` what servicing a connection does.
@@ -13,19 +18,19 @@
 //! them. `specs/Blind.antt` says that what a clerk is sent depends only on what that clerk sees.
 //!
 //! ```text
-//! serve_connections(alloc, &mut network, settings, &side_jobs, connections, &mut office)?    // or why it ended early (`ServeError`)
+//! serve_connections(alloc, &mut network, server_settings, connections, &mut office)?    // or why it ended early (`ServeError`)
 //! ```
 #![tactic(auto)]
 
-// what an order asks, and its output
-mod frame_sink;
+// orders: what they ask, and their responses
+pub mod side_jobs;
+mod served_order;
 mod order_arrival;
 mod order_response;
+mod frame_sink;
 mod read_cache;
-mod served_order;
 mod server_memory;
 pub mod server_settings;
-pub mod side_jobs;
 // one connection
 pub mod servicing;
 // all connections
@@ -34,9 +39,9 @@ mod serving;
 // what a clerk is sent
 mod blind;
 
+pub use side_jobs::{SideJobs, Destination};
+pub use servicing::{Serviced, service};
 pub use blind::{clerks_are_answered_as_seen, servers_answer_as_seen};
 pub use serve_error::ServeError;
-pub use server_settings::{FileNumbers, ServerSettings};
-pub use servicing::{Serviced, service};
 pub use serving::serve_connections;
-pub use side_jobs::SideJobs;
+pub use server_settings::{FileNumbers, ServerSettings};

@@ -6,7 +6,7 @@ ghost use Rattle.connections.specs.Streams.{Receives, HasFailed, stream_of};
 ghost use Rattle.server.specs.ServedOrders.{HasCameWhole};
 ghost use Rattle.server.specs.Servicing.{IsLostOnly, IsSameClient};
 
-use connections::{Client, CloseReason, ReadProgress, Stream};
+use connections::{Client, ReadProgress, CloseReason, Stream};
 use order_protocol::read_message_head;
 
 /// The length of the field with the length of a message, before the message itself.
@@ -38,8 +38,8 @@ fn receive_length<L: Stream>(client: &mut Client<L>) -> Result<Option<[u8; LENGT
     }
 }
 
-/// Reads the message of an order; returns whether it is complete. A connection is closed if it ends too early, or if the message is
-/// too long.
+/// Reads the message of an order; returns whether it is complete. A connection is closed if it ends too early, or if the message
+/// is too long.
 pub fn receive_message<L: Stream>(client: &mut Client<L>) -> Result<bool, CloseReason>
     requires { client.old.answer ≡ None }
     ensures receives { Receives (stream_of L.held L.taken L.failed) client.old.stream client.new.stream client.old.got.items client.new.got.items }

@@ -1,6 +1,6 @@
 //! The response to an order: it is processed in the open office, and its output is sent in frames.
 
-ghost use Rattle.std.specs.Prelude.{◌≡◌, ◌-◌, ◌^◌, ◌<◌, ℕ, List, [], true};
+ghost use Rattle.std.specs.Prelude.{◌≡◌, ⊤, ◌-◌, ◌^◌, ◌<◌, ℕ, List, [], true};
 ghost use Rattle.sqlite.specs.State.{HasCleanDisk};
 ghost use Rattle.sqlite.specs.Held.{state};
 ghost use Rattle.office.specs.Answers.{IsReadAt, WhenOpenAt};
@@ -10,17 +10,17 @@ ghost use Rattle.order_protocol.specs.Messages.{OrderMessageEntry, order_message
 ghost use Rattle.desk.specs.Pages.{Shows, Tells, outputs_of};
 ghost use Rattle.server.specs.ServedOrders.{AsksSo, IsOrderOutcome, FollowsOrder, HasCameWhole, IsCopyTold, IsMessage, TellsAsked, folder_of, shut_page};
 
-use crate::frame_sink::FrameSink;
+use crate::side_jobs::{SideJobs, Destination};
+use crate::served_order::{ServedOrder, served_order_by, is_for_file, read_message, words_of};
 use crate::order_arrival::LENGTH;
-use crate::served_order::{ServedOrder, is_for_file, read_message, served_order_by, words_of};
-use crate::server_settings::FileNumbers;
-use crate::side_jobs::SideJobs;
-use connections::{PendingResponse, Stream, VecSink};
+use crate::frame_sink::FrameSink;
+use crate::server_settings::ServerSettings;
 use desk::{Failure, Folder, follow, tell_failure, tell_words};
+use connections::{PendingResponse, Stream, VecSink};
+use order_protocol::{OrderMessage, MessagePart};
 use office::Office;
-use order_protocol::{MessagePart, OrderMessage};
 use sqlite::Alter;
-use std::alloc::Global;
+use std::alloc::{AllocError, Global};
 use store::Fault;
 use votes::Sink;
 
@@ -46,8 +46,27 @@ impl<'b> Folder for AttachedFiles<'b> {
     }
 }
 
-/// Prints what a closed office says of an order: that it is closed, of anything it would do; and otherwise why the order isn't
-/// followed.
+/// An order that is processed: what it asks, the files that came with it, and what it needs besides the office.
+struct Handing<'t, A> {
+    alloc: Global,
+    side_jobs: &'t A,
+    asked: &'t ServedOrder<'t>,
+    attached: AttachedFiles<'t>,
+}
+
+impl<A> Clone for Handing<'_, A> {
+    ghost is_clone = { λ x y. y ≡ x };
+
+    ghost is_infallible = { λ _. ⊤ };
+
+    fn clone(&self) -> Result<Self, AllocError> {
+        Ok(*self)
+    }
+}
+
+impl<A> Copy for Handing<'_, A> {}
+
+/// Prints what a closed office says of an order: that it is closed, of what is followed; and why anything else isn't.
 fn print_closed<O: Sink, E: Sink>(asked: &ServedOrder<'_>, out: &mut O, err: &mut E) -> u8
     requires out { O.failed out.old < 2 ^ 64 - 1 }
     requires err { E.failed err.old < 2 ^ 64 - 1 }
@@ -64,8 +83,7 @@ fn print_closed<O: Sink, E: Sink>(asked: &ServedOrder<'_>, out: &mut O, err: &mu
 
 /// Copies the office for an order, to a path as seen from the order's folder. There is no folder if its name isn't UTF-8.
 fn copy_for_order<A: SideJobs, S: Alter, O: Sink, E: Sink>(
-    side_jobs: &A,
-    attached: AttachedFiles<'_>,
+    order: &Handing<'_, A>,
     path: &str,
     office: &mut Office<S>,
     out: &mut O,
@@ -77,18 +95,18 @@ fn copy_for_order<A: SideJobs, S: Alter, O: Sink, E: Sink>(
         (λ _ page. WhenOpenAt (state S.Store) office.old office.new (λ s. IsCopyTold s page × IsReadAt s office.new.closed (state S.Store office.new.held))) }
     ensures clean { HasCleanDisk (state S.Store office.new.held) → HasCleanDisk (state S.Store office.old.held) }
 {
-    match str::from_utf8(attached.folder) {
-        Ok(folder) => side_jobs.copy(office, folder, path, out, err),
+    match str::from_utf8(order.attached.folder) {
+        Ok(folder) => {
+            let to = Destination { folder, path };
+            order.side_jobs.copy(office, to, out, err)
+        }
         Err(_) => tell_failure(Failure::CopyFailed, err),
     }
 }
 
 /// Does what an order asks in an office that is open, and returns the status.
 fn do_open<A: SideJobs, S: Alter, O: Sink, E: Sink>(
-    alloc: Global,
-    side_jobs: &A,
-    asked: &ServedOrder<'_>,
-    attached: AttachedFiles<'_>,
+    order: &Handing<'_, A>,
     office: &mut Office<S>,
     out: &mut O,
     err: &mut E,
@@ -97,25 +115,23 @@ fn do_open<A: SideJobs, S: Alter, O: Sink, E: Sink>(
     requires err { E.failed err.old < 2 ^ 64 - 1 }
     ensures did { let outputs = outputs_of O.taken O.failed E.taken E.failed in Tells (outputs out.old err.old) (outputs out.new err.new) result
         (λ cut page. WhenOpenAt (state S.Store) office.old office.new
-        (λ s. IsOrderOutcome (state S.Store office.old.held) office.new.closed (state S.Store office.new.held) (folder_of (message_part_entries attached.entry.files.now)) s asked.now cut page)) }
+        (λ s. IsOrderOutcome (state S.Store office.old.held) office.new.closed (state S.Store office.new.held) (folder_of
+            (message_part_entries order.now.attached.files.now)) s order.now.asked.now cut page)) }
     ensures clean { HasCleanDisk (state S.Store office.new.held) → HasCleanDisk (state S.Store office.old.held) }
 {
-    match asked {
+    match order.asked {
         ServedOrder::Refused(failure) => tell_failure(*failure, err),
         ServedOrder::Misread(fault) => tell_words(fault, out, err),
-        ServedOrder::Do(job) => follow(alloc, office, job, &attached, out, err),
-        ServedOrder::Copy(path) => copy_for_order(side_jobs, attached, path, office, out, err),
-        ServedOrder::Journal => side_jobs.journal(office, out, err),
+        ServedOrder::Do(job) => follow(order.alloc, office, job, &order.attached, out, err),
+        ServedOrder::Copy(path) => copy_for_order(order, path, office, out, err),
+        ServedOrder::Journal => order.side_jobs.journal(office, out, err),
     }
 }
 
 /// Does what an order asks in the office, which is open or closed, and returns the status. A closed office reports that it is
 /// closed, for anything it would do otherwise.
 fn do_asked<A: SideJobs, S: Alter, O: Sink, E: Sink>(
-    alloc: Global,
-    side_jobs: &A,
-    asked: &ServedOrder<'_>,
-    attached: AttachedFiles<'_>,
+    order: &Handing<'_, A>,
     office: &mut Office<S>,
     out: &mut O,
     err: &mut E,
@@ -124,41 +140,37 @@ fn do_asked<A: SideJobs, S: Alter, O: Sink, E: Sink>(
     requires err { E.failed err.old < 2 ^ 64 - 1 }
     ensures did { let outputs = outputs_of O.taken O.failed E.taken E.failed in Tells (outputs out.old err.old) (outputs out.new err.new) result
         (λ cut page. WhenOpenAt (state S.Store) office.old office.new
-        (λ s. IsOrderOutcome (state S.Store office.old.held) office.new.closed (state S.Store office.new.held) (folder_of (message_part_entries attached.entry.files.now)) s asked.now cut page)
-        × (office.old.closed ≡ true → page ≡ shut_page asked.now)) }
+        (λ s. IsOrderOutcome (state S.Store office.old.held) office.new.closed (state S.Store office.new.held) (folder_of
+            (message_part_entries order.now.attached.files.now)) s order.now.asked.now cut page)
+        × (office.old.closed ≡ true → page ≡ shut_page order.now.asked.now)) }
     ensures closed { office.old.closed ≡ true → office.new ≡ office.old }
     ensures clean { HasCleanDisk (state S.Store office.new.held) → HasCleanDisk (state S.Store office.old.held) }
 {
     if office.is_closed() {
-        return print_closed(asked, out, err);
+        return print_closed(order.asked, out, err);
     }
-    do_open(alloc, side_jobs, asked, attached, office, out, err)
+    do_open(order, office, out, err)
 }
 
 /// Does what an order asks, and sends its output in frames on its stream, which is returned. What the stream doesn't accept now
-/// stays in the response, which is sent side by side with those of others. If the allocation for the last frame fails, the response
-/// ends without it.
+/// stays in the response, which is sent side by side with others. If the allocation for the last frame fails, the response ends
+/// without it.
 fn respond_to_asked<L: Stream, A: SideJobs, S: Alter>(
-    alloc: Global,
-    side_jobs: &A,
-    asked: &ServedOrder<'_>,
-    attached: AttachedFiles<'_>,
+    order: &Handing<'_, A>,
     stream: L,
     office: &mut Office<S>,
 ) -> (L, PendingResponse)
     requires { HasTaken (L.taken stream) [] }
     ensures told { IsSent (stream_of L.held L.taken L.failed) result.0 result.1.bytes.items result.1.sent }
-    ensures followed { TellsAsked (state S.Store) office.old (message_part_entries attached.entry.files.now) asked.now result.1.bytes.items office.new }
+    ensures followed { TellsAsked (state S.Store) office.old (message_part_entries order.now.attached.files.now) order.now.asked.now result.1.bytes.items office.new }
 {
-    let mut out = FrameSink::new(alloc, stream);
-    let mut err = VecSink::new(alloc);
-    let status = do_asked(
-        alloc, side_jobs, asked, attached, office, &mut out, &mut err,
-    );
+    let mut out = FrameSink::new(order.alloc, stream);
+    let mut err = VecSink::new(order.alloc);
+    let status = do_asked(order, office, &mut out, &mut err);
     out.end(status, err.into_bytes().as_slice())
 }
 
-/// Returns what an order asks; or that it isn't followed, if the office is to do something, and its file isn't whole.
+/// Returns what an order asks; or that it isn't followed, if it asks for a job and the office's file is gone or replaced.
 fn unless_gone<'w, A: SideJobs>(asked: ServedOrder<'w>, side_jobs: &A) -> ServedOrder<'w>
     ensures { (h : OrderMessageEntry) → AsksSo h asked.entry → AsksSo h result }
 {
@@ -174,52 +186,71 @@ fn unless_gone<'w, A: SideJobs>(asked: ServedOrder<'w>, side_jobs: &A) -> Served
     }
 }
 
-/// Responds to an order that was decoded: with the output of what it asks, or with why it isn't followed.
+/// Responds to an order that isn't followed, with this fault.
+fn tell_refused<L: Stream, A: SideJobs, S: Alter>(
+    alloc: Global,
+    side_jobs: &A,
+    fault: Fault,
+    stream: L,
+    office: &mut Office<S>,
+) -> (L, PendingResponse)
+    requires { HasTaken (L.taken stream) [] }
+    ensures told { IsSent (stream_of L.held L.taken L.failed) result.0 result.1.bytes.items result.1.sent }
+    ensures followed { TellsAsked (state S.Store) office.old [] (ServedOrder.Refused (Failure.Office fault)) result.1.bytes.items office.new }
+{
+    let order = Handing {
+        alloc,
+        side_jobs,
+        asked: &ServedOrder::Refused(Failure::Office(fault)),
+        attached: AttachedFiles {
+            folder: &[],
+            files: &[],
+        },
+    };
+    respond_to_asked(&order, stream, office)
+}
+
+/// Responds to an order whose message was decoded: prints what it asks, or why it isn't followed.
 fn respond_to_message<L: Stream, A: SideJobs, S: Alter>(
     alloc: Global,
-    file: FileNumbers,
-    side_jobs: &A,
+    server_settings: ServerSettings<'_, A>,
     message: &OrderMessage<'_>,
     stream: L,
     office: &mut Office<S>,
 ) -> (L, PendingResponse)
     requires { HasTaken (L.taken stream) [] }
     ensures told { IsSent (stream_of L.held L.taken L.failed) result.0 result.1.bytes.items result.1.sent }
-    ensures followed { (got : List ℕ) → IsMessage got (order_message_entry message.now) → FollowsOrder file (state S.Store) office.old got result.1.bytes.items office.new }
+    ensures followed { (got : List ℕ) → IsMessage got (order_message_entry message.now) → FollowsOrder server_settings.entry.file (state S.Store) office.old got result.1.bytes.items office.new }
 {
-    let none = AttachedFiles {
-        folder: &[],
-        files: &[],
-    };
-    if !is_for_file(message, file) {
-        let refused = ServedOrder::Refused(Failure::Office(Fault::Store));
-        return respond_to_asked(alloc, side_jobs, &refused, none, stream, office);
+    if !is_for_file(message, server_settings.file) {
+        return tell_refused(alloc, server_settings.side_jobs, Fault::Store, stream, office);
     }
     let words = match words_of(alloc, &message.words) {
         Ok(words) => words,
-        Err(fault) => {
-            let refused = ServedOrder::Refused(Failure::Office(fault));
-            return respond_to_asked(alloc, side_jobs, &refused, none, stream, office);
-        }
+        Err(fault) => return tell_refused(alloc, server_settings.side_jobs, fault, stream, office),
     };
-    let attached = AttachedFiles {
-        folder: message.folder,
-        files: &message.files,
+    let asked = unless_gone(served_order_by(alloc, &words), server_settings.side_jobs);
+    let order = Handing {
+        alloc,
+        side_jobs: server_settings.side_jobs,
+        asked: &asked,
+        attached: AttachedFiles {
+            folder: message.folder,
+            files: &message.files,
+        },
     };
-    let asked = unless_gone(served_order_by(alloc, &words), side_jobs);
-    respond_to_asked(alloc, side_jobs, &asked, attached, stream, office)
+    respond_to_asked(&order, stream, office)
 }
 
-/// Responds to an order whose message was received: it is processed in the office, and its output is sent in frames on its stream,
-/// which is returned.
+/// Responds to an order whose message was received: it is processed in the office, and its output is sent in frames on its
+/// stream, which is returned.
 ///
 /// The response is fault 102, as for a file that another program holds, if the bytes are no message, or if the order is from
 /// another version of the program or for another file. For `init`, `migrate` and `serve` it is that the office is being served
 /// (111).
 pub fn answer_order<L: Stream, A: SideJobs, S: Alter>(
     alloc: Global,
-    file: FileNumbers,
-    side_jobs: &A,
+    server_settings: ServerSettings<'_, A>,
     got: &[u8],
     stream: L,
     office: &mut Office<S>,
@@ -227,17 +258,10 @@ pub fn answer_order<L: Stream, A: SideJobs, S: Alter>(
     requires fresh { HasTaken (L.taken stream) [] }
     requires whole { HasCameWhole got.now }
     ensures told { IsSent (stream_of L.held L.taken L.failed) result.0 result.1.bytes.items result.1.sent }
-    ensures followed { FollowsOrder file (state S.Store) office.old got.now result.1.bytes.items office.new }
+    ensures followed { FollowsOrder server_settings.entry.file (state S.Store) office.old got.now result.1.bytes.items office.new }
 {
     match read_message(alloc, &got[LENGTH..]) {
-        Ok(message) => respond_to_message(alloc, file, side_jobs, &message, stream, office),
-        Err(fault) => {
-            let refused = ServedOrder::Refused(Failure::Office(fault));
-            let none = AttachedFiles {
-                folder: &[],
-                files: &[],
-            };
-            respond_to_asked(alloc, side_jobs, &refused, none, stream, office)
-        }
+        Ok(message) => respond_to_message(alloc, server_settings, &message, stream, office),
+        Err(fault) => tell_refused(alloc, server_settings.side_jobs, fault, stream, office),
     }
 }

@@ -1,54 +1,51 @@
-//! The cache of reads, whose responses are sent again while nothing changes.
+//! The cache of reads: responses that are sent again while nothing changes.
 //!
-//! The same request, byte for byte, gets the same response. Any request that isn't a read empties the cache before it is processed.
+//! Its key is what is read, whatever the bytes of the request are. It is emptied before a keying or an order is processed.
 
-ghost use Rattle.std.specs.Prelude.{◌≡◌, ◌⊎◌, ◌≤◌, ◌<◌, ◌++◌, ◌∷◌, [], IfSome, List, Option, ℕ, length, true};
+ghost use Rattle.std.specs.Prelude.{◌≡◌, ◌⊎◌, ◌++◌, ◌∷◌, [], IfSome, List, true};
 ghost use Rattle.std.specs.List.{Contains};
-ghost use Rattle.wire.specs.Requests.{Asks, reading};
-ghost use Rattle.wire.specs.Gates.{settings_entry};
-ghost use Rattle.wire.specs.declared.target.Resource.{Resource};
 ghost use Rattle.server.specs.Reads.{ReadEntry, reads_in};
 
-use connections::SliceSource;
 use std::alloc::Global;
-use wire::{HttpRequest, HttpSettings, read_request};
+use wire::Resource;
 
-/// The most bytes in the cache, of requests and responses together.
+/// The most bytes of cached responses.
 const MAX_KEPT: usize = 16 << 20;
 
-/// The most responses in the cache.
+/// The most cached responses.
 const MAX_ANSWERS: usize = 512;
 
-/// How a request for a read begins. Others aren't parsed twice.
-const GET: &[u8] = b"GET ";
-
-/// A request, and the response to it.
+/// A resource that was read, and the response.
 #[derive(Drop)]
 pub struct CachedRead {
-    pub got: Vec<u8>,
+    pub what: Resource,
     pub answer: Vec<u8>,
 }
 
-/// The responses to reads since anything may have changed, the oldest first.
+/// The cached responses, all sent since anything may have changed, the oldest first.
 #[derive(Drop)]
 pub struct ReadCache {
     pub answers: Vec<CachedRead>,
     pub bytes: usize,
 }
 
-/// Returns whether bytes ask for a read: a clerk's work, the candidates of the clerk's batch, a stage sheet or a declaration.
-/// Returns false if an allocation fails.
-pub fn asks_reading(alloc: Global, settings: HttpSettings<'_>, got: &[u8]) -> bool
-    ensures { result ≡ true → (what : Resource) × Asks (settings_entry settings.entry) got.now (reading what) }
+/// Returns whether the same is read.
+fn is_same(one: Resource, other: Resource) -> bool
+    ensures { result ≡ true → one ≡ other }
 {
-    if !got.starts_with(GET) {
-        return false;
+    match (one, other) {
+        (Resource::Work { clerk }, Resource::Work { clerk: theirs }) => clerk == theirs,
+        (
+            Resource::Candidates { clerk, batch },
+            Resource::Candidates {
+                clerk: theirs,
+                batch: too,
+            },
+        ) => clerk == theirs && batch == too,
+        (Resource::Sheet { ward }, Resource::Sheet { ward: other }) => ward == other,
+        (Resource::Declaration { ward }, Resource::Declaration { ward: other }) => ward == other,
+        _ => false,
     }
-    let mut reader = SliceSource::new(got);
-    matches!(
-        read_request(alloc, settings, &mut reader),
-        Ok(HttpRequest::Resource(_))
-    )
 }
 
 impl ReadCache {
@@ -70,12 +67,12 @@ impl ReadCache {
         self.bytes = 0;
     }
 
-    /// Returns the response to these bytes, if it is in the cache, and can be allocated.
-    pub fn get(&self, alloc: Global, got: &[u8]) -> Option<Vec<u8>>
-        ensures { IfSome result (λ answer. (entry : ReadEntry) × Contains (reads_in self.now) entry × (entry.got ≡ got.now) × (entry.answer ≡ answer.items)) }
+    /// Returns the cached response to a read, if there is one, and a copy of it can be allocated.
+    pub fn get(&self, alloc: Global, what: Resource) -> Option<Vec<u8>>
+        ensures { IfSome result (λ answer. (entry : ReadEntry) × Contains (reads_in self.now) entry × (entry.what ≡ what) × (entry.answer ≡ answer.items)) }
     {
         for kept in &self.answers {
-            if kept.got.as_slice() == got {
+            if is_same(kept.what, what) {
                 return match Vec::from_slice(alloc, kept.answer.as_slice()) {
                     Ok(answer) => Some(answer),
                     Err(_) => None,
@@ -85,7 +82,7 @@ impl ReadCache {
         None
     }
 
-    /// Removes the oldest responses, until the cache has room for so many bytes more.
+    /// Removes the oldest responses until `more` bytes fit.
     fn make_room(&mut self, more: usize)
         ensures { (gone : List ReadEntry) × (reads_in self.old ≡ gone ++ reads_in self.new) }
     {
@@ -98,26 +95,25 @@ impl ReadCache {
                 return;
             }
             let oldest = self.answers.remove(0);
-            let len = oldest.got.len().saturating_add(oldest.answer.len());
-            self.bytes = self.bytes.saturating_sub(len);
+            self.bytes = self.bytes.saturating_sub(oldest.answer.len());
         }
     }
 
-    /// Keeps a response, and removes the oldest ones to make room. It isn't kept if an allocation fails.
-    pub fn keep(&mut self, alloc: Global, got: &[u8], answer: &[u8])
+    /// Adds the response to a read, and removes the oldest responses if the cache is full. Adds nothing if the response is too
+    /// long, or an allocation fails.
+    pub fn keep(&mut self, alloc: Global, what: Resource, answer: &[u8])
         ensures { (gone kept : List ReadEntry) × (reads_in self.old ≡ gone ++ kept)
-            × ((reads_in self.new ≡ kept) ⊎ (reads_in self.new ≡ kept ++ record { got = got.now; answer = answer.now } ∷ [])) }
+            × ((reads_in self.new ≡ kept) ⊎ (reads_in self.new ≡ kept ++ record { what = what; answer = answer.now } ∷ [])) }
     {
-        let len = got.len().saturating_add(answer.len());
-        if len > MAX_KEPT {
+        if answer.len() > MAX_KEPT {
             return;
         }
-        self.make_room(len);
-        let (Ok(got), Ok(answer)) = (Vec::from_slice(alloc, got), Vec::from_slice(alloc, answer))
-        else {
+        self.make_room(answer.len());
+        let Ok(answer) = Vec::from_slice(alloc, answer) else {
             return;
         };
-        if self.answers.push(CachedRead { got, answer }).is_ok() {
+        let len = answer.len();
+        if self.answers.push(CachedRead { what, answer }).is_ok() {
             self.bytes = self.bytes.saturating_add(len);
         }
     }

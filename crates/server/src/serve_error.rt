@@ -7,6 +7,6 @@ pub enum ServeError {
     Network,
     /// The table of connections couldn't be allocated.
     Memory,
-    /// There were as many rounds as there are numbers of 64 bits.
+    /// As many rounds were served as a number of 64 bits can count.
     Rounds,
 }

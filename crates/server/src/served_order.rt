@@ -9,26 +9,26 @@ ghost use Rattle.server.specs.ServedOrders.{AsksSo, IsForFile};
 use crate::server_settings::FileNumbers;
 use desk::version::VERSION;
 use desk::{Failure, Job, Order, Task, WordsFault, order};
-use order_protocol::{DecodeError, MessagePart, OrderMessage, decode_message};
+use order_protocol::{OrderMessage, MessagePart, DecodeError, decode_message};
 use std::alloc::Global;
 use store::Fault;
 
 /// What an order asks of the server.
 #[derive(Drop)]
 pub enum ServedOrder<'a> {
-    /// To do this in the office.
+    /// To do this job in the office.
     Do(Job<'a>),
-    /// A copy of the office at a path, at which there is nothing yet.
+    /// A copy of the office to a new file at this path.
     Copy(&'a str),
     /// The journal of the office.
     Journal,
-    /// Nothing that is followed, for this reason.
+    /// Nothing: the order isn't followed, for this reason.
     Refused(Failure),
-    /// Nothing: its words are no order.
+    /// Nothing: its words aren't an order.
     Misread(WordsFault),
 }
 
-/// Decodes the order of a message. The errors are that an allocation failed, and that the bytes are no message.
+/// Decodes the order of a message. The errors are that an allocation failed, and that the bytes aren't a message.
 pub fn read_message<'b>(alloc: Global, message: &'b [u8]) -> Result<OrderMessage<'b>, Fault>
     ensures ok { IfOk result (λ h. Fits (order_message_entry h) × (message.now ≡ encoding_of (order_message_entry h))) }
     ensures err { IfErr result (λ fault. (fault ≡ Fault.Memory) ⊎ ((fault ≡ Fault.Store) × ((h : OrderMessageEntry) → Fits h → message.now ≡ encoding_of h → ⊥))) }
@@ -68,8 +68,8 @@ pub fn is_for_file(handed: &OrderMessage<'_>, file: FileNumbers) -> bool
         && handed.inode == file.inode
 }
 
-/// Returns what an order asks that is for the file that is served. For `init`, `migrate` and `serve` that is refused: the office is
-/// being served.
+/// Returns what an order asks that is for the file that is served. `init`, `migrate` and `serve` are refused, because the office
+/// is being served.
 pub fn served_order_by<'w>(alloc: Global, words: &'w [&'w str]) -> ServedOrder<'w>
     ensures { (h : OrderMessageEntry) → map (λ p. p.name) h.words ≡ map (λ word. word.now) words.entry.now → AsksSo h result }
 {

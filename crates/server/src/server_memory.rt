@@ -1,31 +1,35 @@
-//! What a server keeps in memory.
+//! The server's memory.
 
-ghost use Rattle.std.specs.Prelude.{◌≡◌, [], option_map};
+ghost use Rattle.std.specs.Prelude.{◌≡◌, [], IfOk, option_map};
 ghost use Rattle.codes.specs.RateLimits.{limit_entry, none_wrong};
 ghost use Rattle.wire.specs.Gates.{authentication_entry};
 ghost use Rattle.server.specs.Reads.{memory_entry, limit_after, must_wait, reads_in};
 
 use crate::read_cache::ReadCache;
 use codes::RateLimit;
-use std::alloc::Global;
-use wire::Authentication;
+use std::alloc::{AllocError, Global};
+use wire::{Authentication, Routes};
 
-/// The cache of reads; and the wrong codes that came.
+/// The cache of reads, the limit on wrong codes, and the routes, which are made once.
 #[derive(Drop)]
 pub struct ServerMemory {
+    pub alloc: Global,
+    pub routes: Routes,
     pub reads: ReadCache,
     pub limit: RateLimit,
 }
 
 impl ServerMemory {
-    /// Returns a memory without responses, and without wrong codes. Allocates nothing.
-    pub fn new(alloc: Global) -> ServerMemory
-        ensures { memory_entry result ≡ record { reads = []; limit = none_wrong } }
+    /// Returns an empty cache, a limit without wrong codes, and the routes. The only error is a failed allocation.
+    pub fn new(alloc: Global) -> Result<ServerMemory, AllocError>
+        ensures { IfOk result (λ kept. memory_entry kept ≡ record { reads = []; limit = none_wrong }) }
     {
-        ServerMemory {
+        Ok(ServerMemory {
+            alloc,
+            routes: Routes::new(alloc)?,
             reads: ReadCache::new(alloc),
             limit: RateLimit::new(),
-        }
+        })
     }
 
     /// Returns whether a client must wait at a moment: its code is wrong, and the rate limit is reached.
@@ -38,7 +42,7 @@ impl ServerMemory {
         }
     }
 
-    /// Counts a wrong code, if this client sent one.
+    /// Counts a wrong code, if the request has one.
     pub fn note(&mut self, authentication: Option<Authentication>, now: u64)
         ensures reads { reads_in self.new.reads ≡ reads_in self.old.reads }
         ensures limit { limit_entry self.new.limit ≡ limit_after (option_map authentication_entry authentication) now (limit_entry self.old.limit) }

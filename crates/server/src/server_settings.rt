@@ -1,17 +1,33 @@
 //! The settings of a server.
 
+ghost use Rattle.std.specs.Prelude.{◌≡◌, ⊤};
+
+use std::alloc::AllocError;
 use wire::HttpSettings;
 
-/// A file, by the numbers of its device and its own.
+/// A file, by the number of its device and its inode number.
 #[derive(Clone, Copy)]
 pub struct FileNumbers {
     pub device: u64,
     pub inode: u64,
 }
 
-/// The settings of HTTP: the origin of a proxy and the gate, if any; and the file that is served, for which orders are handed over.
-#[derive(Clone, Copy)]
-pub struct ServerSettings<'a> {
+/// The settings of HTTP, which are the origin of a proxy and the gate, if any; the file that is served, for which orders are
+/// handed over; and what an order needs besides the office.
+pub struct ServerSettings<'a, A> {
     pub http: HttpSettings<'a>,
     pub file: FileNumbers,
+    pub side_jobs: &'a A,
 }
+
+impl<A> Clone for ServerSettings<'_, A> {
+    ghost is_clone = { λ x y. y ≡ x };
+
+    ghost is_infallible = { λ _. ⊤ };
+
+    fn clone(&self) -> Result<Self, AllocError> {
+        Ok(*self)
+    }
+}
+
+impl<A> Copy for ServerSettings<'_, A> {}

@@ -1,43 +1,39 @@
 //! How a connection is serviced: its request is received, processed once it is complete, and its response is sent.
 
-ghost use Rattle.std.specs.Prelude.{◌≡◌, ◌≢◌, ◌⊎◌, ℕ, [], Err, None, Ok, Some, false, true};
+ghost use Rattle.std.specs.Prelude.{◌≡◌, ◌≢◌, ◌⊎◌, ◌++◌, ℕ, [], Err, IfOk, IfSome, List, None, Ok, Some, true};
 ghost use Rattle.sqlite.specs.Held.{state};
 ghost use Rattle.connections.specs.Streams.{Receives, HasFailed, HasTaken, stream_of};
 ghost use Rattle.connections.specs.Clients.{IsOf, IsSent};
 ghost use Rattle.connections.specs.Closing.{EndsFor, IsSentWhole};
 ghost use Rattle.connections.specs.declared.removed.CloseReason.{CloseReason};
-ghost use Rattle.wire.specs.Gates.{settings_entry};
-ghost use Rattle.server.specs.ServedOrders.{HasCameWhole};
-ghost use Rattle.server.specs.Settings.{ServerSettingsEntry, settings_in};
-ghost use Rattle.server.specs.Servicing.{Services, HasCome, HasComeAt, IsLostOnly, IsSameClient, HasSentNothing, answer_of};
-ghost use Rattle.office.specs.Answers.{IsOpenAt, IsReadAt, WhenOpenAt};
-ghost use Rattle.wire.specs.Requests.{Asks, reading};
+ghost use Rattle.wire.specs.Gates.{HttpSettingsEntry, settings_entry};
+ghost use Rattle.wire.specs.Parsing.{IsParsed};
+ghost use Rattle.wire.specs.Responses.{fault_response};
+ghost use Rattle.wire.specs.Serving.{IsServed};
+ghost use Rattle.wire.specs.Told.{IsWritten};
+ghost use Rattle.server.specs.Settings.{settings_in};
+ghost use Rattle.server.specs.Servicing.{Services, IsCome, IsLostOnly, IsSameClient, HasSentNothing, answer_of};
+ghost use Rattle.office.specs.Answers.{IsReadAt, WhenOpenAt};
+ghost use Rattle.wire.specs.Requests.{Asks, http_request_entry, reading};
 ghost use Rattle.wire.specs.declared.target.Resource.{Resource};
 ghost use Rattle.codes.specs.RateLimits.{limit_entry};
 ghost use Rattle.server.specs.Reads.{IsRead, TellsNoFault, served_office, memory_entry};
-ghost use Rattle.server.specs.Exchanges.{HasServed, IsGoneResponse, IsWaitResponse, RespondsToClient, ServesClient, ServesExchange, Exchange};
+ghost use Rattle.server.specs.Exchanges.{ChangesNothing, EndsIn, HasAnswered, IsGoneResponse, IsWaitResponse, RespondsToClient, ServesClient, Exchange};
 
+use crate::side_jobs::SideJobs;
 use crate::order_arrival::receive_message;
 use crate::order_response::answer_order;
-use crate::read_cache::asks_reading;
 use crate::server_memory::ServerMemory;
 use crate::server_settings::ServerSettings;
-use crate::side_jobs::SideJobs;
-use connections::{
-    Client, CloseReason, Listener, PendingResponse, ReadProgress, SliceSource, Stream, VecSink,
-    deliver,
-};
+use connections::{PendingResponse, Client, Listener, ReadProgress, CloseReason, Stream, VecSink, deliver};
 use office::Office;
 use sqlite::Alter;
 use std::alloc::Global;
 use votes::Broken;
 use wire::{
-    Completeness, HttpSettings, Served, authentication_of, body_to_come, completeness_of,
-    serve_one, write_gone_response, write_wait_response,
+    HttpRequest, HttpSettings, Completeness, MAX_HEAD_BYTES, Parsed, Resource, Routes, Served, parse, respond,
+    write_gone_response, tell_no_memory, write_wait_response,
 };
-
-/// How many bytes of a request are received before it is checked what is missing: as many as a head may have.
-const FRONT: usize = 8192;
 
 /// The status of a response with a fault, which isn't cached.
 const FAULT: u16 = 503;
@@ -53,70 +49,63 @@ pub enum Serviced {
     Leaves(CloseReason),
 }
 
-/// Receives the body of a request, for which so many bytes in all are wanted. Returns whether the request is complete.
+/// Receives the body of a request whose head was parsed, until there are `wanted` bytes in all. Returns whether the request is
+/// complete.
 fn receive_body<L: Stream>(
-    alloc: Global,
-    settings: HttpSettings<'_>,
     client: &mut Client<L>,
+    parsed: Parsed,
     wanted: usize,
 ) -> Result<bool, CloseReason>
     requires { client.old.answer ≡ None }
     ensures receives { Receives (stream_of L.held L.taken L.failed) client.old.stream client.new.stream client.old.got.items client.new.got.items }
     ensures same { IsSameClient client.old client.new × (client.new.answer ≡ None) }
-    ensures come { result ≡ Ok true → HasCome (settings_entry settings.entry) (L.held client.new.stream) client.new.got.items }
+    ensures come { (its : HttpSettingsEntry) → ((more : List ℕ) → IsParsed its (client.old.got.items ++ more) parsed) → result ≡ Ok true
+        → IsCome its (L.held client.new.stream) client.new.got.items parsed }
     ensures broken { result ≡ Err CloseReason.Broken → HasFailed (L.failed client.new.stream) }
     ensures lost { IsLostOnly result }
 {
     match client.receive(wanted)? {
         ReadProgress::Ended => Ok(true),
         ReadProgress::Waits => Ok(false),
-        ReadProgress::Enough => match completeness_of(alloc, settings, client.got.as_slice())? {
-            Completeness::Complete => Ok(true),
-            Completeness::AtLeast(_) => Ok(false),
-        },
+        ReadProgress::Enough => {
+            let got = client.got.as_slice();
+            match parsed.completeness_of(got.len()) {
+                Completeness::Complete => Ok(true),
+                Completeness::AtLeast(_) => Ok(false),
+            }
+        }
     }
 }
 
-/// Receives a client's request. Returns whether it is complete.
-fn receive_request<L: Stream>(
-    alloc: Global,
-    settings: HttpSettings<'_>,
+/// Receives the request of a client. Returns its parsed head once the request is complete, or the client sends no more.
+fn hear_request<L: Stream>(
     client: &mut Client<L>,
-) -> Result<bool, CloseReason>
+    settings: HttpSettings<'_>,
+    routes: &Routes,
+) -> Result<Option<Parsed>, CloseReason>
     requires { client.old.answer ≡ None }
     ensures receives { Receives (stream_of L.held L.taken L.failed) client.old.stream client.new.stream client.old.got.items client.new.got.items }
     ensures same { IsSameClient client.old client.new × (client.new.answer ≡ None) }
-    ensures come { result ≡ Ok true → HasCome (settings_entry settings.entry) (L.held client.new.stream) client.new.got.items }
+    ensures come { IfOk result (λ found. IfSome found (λ parsed. IsCome (settings_entry settings.entry) (L.held client.new.stream) client.new.got.items parsed)) }
     ensures broken { result ≡ Err CloseReason.Broken → HasFailed (L.failed client.new.stream) }
     ensures lost { IsLostOnly result }
 {
-    let received = client.receive(FRONT)?;
-    match completeness_of(alloc, settings, client.got.as_slice())? {
-        Completeness::Complete => Ok(true),
+    let received = client.receive(MAX_HEAD_BYTES)?;
+    let got = client.got.as_slice();
+    let parsed = parse(settings, routes, got);
+    match parsed.completeness_of(got.len()) {
+        Completeness::Complete => Ok(Some(parsed)),
         Completeness::AtLeast(wanted) => match received {
-            ReadProgress::Ended => Ok(true),
-            ReadProgress::Waits => Ok(false),
-            ReadProgress::Enough => receive_body(alloc, settings, client, wanted),
+            ReadProgress::Ended => Ok(Some(parsed)),
+            ReadProgress::Waits => Ok(None),
+            ReadProgress::Enough => {
+                if receive_body(client, parsed, wanted)? {
+                    Ok(Some(parsed))
+                } else {
+                    Ok(None)
+                }
+            }
         },
-    }
-}
-
-/// Receives more of a connection that has no response yet. Returns whether its request is complete.
-fn receive<L: Stream>(
-    alloc: Global,
-    settings: HttpSettings<'_>,
-    client: &mut Client<L>,
-) -> Result<bool, CloseReason>
-    requires { client.old.answer ≡ None }
-    ensures receives { Receives (stream_of L.held L.taken L.failed) client.old.stream client.new.stream client.old.got.items client.new.got.items }
-    ensures same { IsSameClient client.old client.new × (client.new.answer ≡ None) }
-    ensures come { result ≡ Ok true → (all : ServerSettingsEntry) → all.clients ≡ settings_entry settings.entry → HasComeAt client.old.listener all (L.held client.new.stream) client.new.got.items }
-    ensures broken { result ≡ Err CloseReason.Broken → HasFailed (L.failed client.new.stream) }
-    ensures lost { IsLostOnly result }
-{
-    match client.listener {
-        Listener::Clients => receive_request(alloc, settings, client),
-        Listener::Orders => receive_message(client),
     }
 }
 
@@ -131,94 +120,79 @@ fn tells_no_fault(served: Served) -> bool
     }
 }
 
-/// Serves a client from the bytes that were received. Returns the response, of which nothing was sent yet, and whether it is whole
-/// and no fault. If an allocation fails, it is a beginning.
-fn served<S: Alter>(
-    alloc: Global,
-    settings: HttpSettings<'_>,
-    got: &[u8],
-    office: &mut Office<S>,
-) -> (Vec<u8>, bool)
-    ensures served { HasServed (settings_entry settings.entry) (state S.Store) office.old got.now result.0.items office.new }
+/// Processes a request in the office. Returns the response, of which nothing was sent yet, and whether it is whole and no fault.
+/// If an allocation fails, it is only a beginning.
+fn response_to<S: Alter>(alloc: Global, asked: HttpRequest<'_>, office: &mut Office<S>) -> (Vec<u8>, bool)
+    ensures answers { HasAnswered (state S.Store) office.old (http_request_entry asked.entry) result.0.items office.new }
     ensures read { result.1 ≡ true → WhenOpenAt (state S.Store) office.old office.new
-        (λ s. (what : Resource) → Asks (settings_entry settings.entry) got.now (reading what)
-        → IsRead (settings_entry settings.entry) s got.now result.0.items × IsOpenAt s office.new.closed (state S.Store office.new.held)) }
-    ensures asked { WhenOpenAt (state S.Store) office.old office.new
-        (λ s. (what : Resource) → Asks (settings_entry settings.entry) got.now (reading what) → IsReadAt s office.new.closed (state S.Store office.new.held)) }
+        (λ s. (what : Resource) → http_request_entry asked.entry ≡ reading what → IsRead s what result.0.items) }
+    ensures only { ChangesNothing (http_request_entry asked.entry) → WhenOpenAt (state S.Store) office.old office.new (λ s. IsReadAt s office.new.closed (state S.Store office.new.held)) }
 {
-    let mut reader = SliceSource::new(got);
     let mut writer = VecSink::new(alloc);
-    let served = serve_one(alloc, settings, &mut reader, &mut writer, office);
+    let served = respond(alloc, asked, &mut writer, office);
     let is_told = tells_no_fault(served);
     (writer.into_bytes(), is_told)
 }
 
-/// Returns whether a client asks for a read, and the office is open for it. Returns false if an allocation fails.
-fn is_reading<S: Alter>(
-    alloc: Global,
-    settings: HttpSettings<'_>,
-    got: &[u8],
-    office: &Office<S>,
-) -> bool
-    ensures open { result ≡ true → office.now.closed ≡ false }
-    ensures asks { result ≡ true → (what : Resource) × Asks (settings_entry settings.entry) got.now (reading what) }
-{
-    if office.is_closed() {
-        return false;
-    }
-    asks_reading(alloc, settings, got)
-}
-
-/// Returns the response to a client that asks for a read: from the cache, if it is there. Otherwise the office is read, and the
-/// response is kept.
-fn read_answer<S: Alter>(
-    alloc: Global,
-    settings: HttpSettings<'_>,
-    got: &[u8],
-    office: &mut Office<S>,
-    kept: &mut ServerMemory,
-) -> PendingResponse
-    requires open { office.old.closed ≡ false }
-    requires asks { (what : Resource) × Asks (settings_entry settings) got.now (reading what) }
-    ensures served { (number moment : ℕ) → ServesClient (settings_entry settings.entry) (state S.Store) (served_office office.old (memory_entry kept.old))
-        (record { listener = Listener.Clients; number = number; moment = moment; got = got.now; answer = result.bytes.items }) (served_office office.new (memory_entry kept.new)) }
+/// Returns the response to a read; nothing of it was sent yet. It is the cached one, if there is one; otherwise the office is
+/// asked, and its response is cached.
+fn answer_reading<S: Alter>(what: Resource, office: &mut Office<S>, kept: &mut ServerMemory) -> PendingResponse
+    ensures served { (its : HttpSettingsEntry) (number moment : ℕ) (got : List ℕ) → Asks its got (reading what) → ServesClient its (state S.Store) (served_office office.old (memory_entry kept.old))
+        (record { listener = Listener.Clients; number = number; moment = moment; got = got; answer = result.bytes.items }) (served_office office.new (memory_entry kept.new)) }
     ensures limit { limit_entry kept.new.limit ≡ limit_entry kept.old.limit }
     ensures untold { result.sent ≡ 0 }
 {
-    if let Some(bytes) = kept.reads.get(alloc, got) {
-        return PendingResponse { bytes, sent: 0 };
+    if !office.is_closed() {
+        if let Some(bytes) = kept.reads.get(kept.alloc, what) {
+            return PendingResponse { bytes, sent: 0 };
+        }
     }
-    let (bytes, is_told) = served(alloc, settings, got, office);
+    let (bytes, is_told) = response_to(kept.alloc, HttpRequest::Resource(what), office);
     if !is_told {
         return PendingResponse { bytes, sent: 0 };
     }
-    kept.reads.keep(alloc, got, bytes.as_slice());
+    kept.reads.keep(kept.alloc, what, bytes.as_slice());
     PendingResponse { bytes, sent: 0 }
 }
 
-/// Returns the response to a client that is let in, from the bytes that were received; nothing of it was sent yet. Anything but a
-/// read empties the cache first.
-fn answered<S: Alter>(
-    alloc: Global,
+/// Returns the response to a client that is let in, of which these bytes were received; nothing of it was sent yet. The cache is
+/// emptied before a keying, and if an allocation for the request fails.
+fn answer_request<S: Alter>(
     settings: HttpSettings<'_>,
+    parsed: Parsed,
     got: &[u8],
     office: &mut Office<S>,
     kept: &mut ServerMemory,
 ) -> PendingResponse
+    requires { IsParsed (settings_entry settings) got.now parsed }
     ensures served { (number moment : ℕ) → ServesClient (settings_entry settings.entry) (state S.Store) (served_office office.old (memory_entry kept.old))
         (record { listener = Listener.Clients; number = number; moment = moment; got = got.now; answer = result.bytes.items }) (served_office office.new (memory_entry kept.new)) }
     ensures limit { limit_entry kept.new.limit ≡ limit_entry kept.old.limit }
     ensures untold { result.sent ≡ 0 }
 {
-    if is_reading(alloc, settings, got, office) {
-        return read_answer(alloc, settings, got, office, kept);
+    let Ok(asked) = parsed.asked(kept.alloc, settings, got) else {
+        kept.reads.empty();
+        return to_no_memory(kept.alloc);
+    };
+    match asked {
+        HttpRequest::Resource(what) => answer_reading(what, office, kept),
+        HttpRequest::Keying(keying) => {
+            kept.reads.empty();
+            let (bytes, _) = response_to(kept.alloc, HttpRequest::Keying(keying), office);
+            PendingResponse { bytes, sent: 0 }
+        }
+        HttpRequest::Denied(why) => {
+            let (bytes, _) = response_to(kept.alloc, HttpRequest::Denied(why), office);
+            PendingResponse { bytes, sent: 0 }
+        }
+        HttpRequest::Shown(clerk, show) => {
+            let (bytes, _) = response_to(kept.alloc, HttpRequest::Shown(clerk, show), office);
+            PendingResponse { bytes, sent: 0 }
+        }
     }
-    kept.reads.empty();
-    let (bytes, _) = served(alloc, settings, got, office);
-    PendingResponse { bytes, sent: 0 }
 }
 
-/// Returns the response that a client must wait; nothing of it was sent yet.
+/// Returns the response to a client that must wait; nothing of it was sent yet.
 fn wait_response(alloc: Global) -> PendingResponse
     ensures told { (exchange : Exchange) → exchange.answer ≡ result.bytes.items → IsWaitResponse exchange }
     ensures untold { result.sent ≡ 0 }
@@ -228,25 +202,6 @@ fn wait_response(alloc: Global) -> PendingResponse
     PendingResponse {
         bytes: writer.into_bytes(),
         sent: 0,
-    }
-}
-
-/// The moment at which a request is processed: the time of the clock, and whether the file of the office is whole then.
-#[derive(Clone, Copy)]
-struct Moment {
-    now: u64,
-    is_whole: bool,
-}
-
-impl Moment {
-    /// Returns the moment at a time of the clock, and looks at the file of the office.
-    fn of<A: SideJobs>(now: u64, side_jobs: &A) -> Moment
-        ensures { result.now ≡ now }
-    {
-        Moment {
-            now,
-            is_whole: side_jobs.is_whole(),
-        }
     }
 }
 
@@ -263,72 +218,60 @@ fn gone_response(alloc: Global) -> PendingResponse
     }
 }
 
-/// Returns the response to a client, from the bytes that were received; nothing of it was sent yet. If its code is wrong, and the
-/// rate limit is reached, it must wait. If the file of the office isn't whole, the response says so, unless the client asks for a
-/// read. Nothing else is done in either case. Otherwise the code is counted if it was wrong.
-fn answer_client<S: Alter>(
-    alloc: Global,
-    settings: HttpSettings<'_>,
-    moment: Moment,
-    got: &[u8],
+/// Returns the response if an allocation for a request failed; nothing of it was sent yet.
+fn to_no_memory(alloc: Global) -> PendingResponse
+    ensures told { EndsIn result.bytes.items (IsServed (IsWritten (fault_response 101))) }
+    ensures untold { result.sent ≡ 0 }
+{
+    let mut writer = VecSink::new(alloc);
+    let _ = tell_no_memory(&mut writer);
+    PendingResponse {
+        bytes: writer.into_bytes(),
+        sent: 0,
+    }
+}
+
+/// A client's request that is processed: its parsed head, its bytes, and the time of the clock.
+#[derive(Clone, Copy)]
+struct Due<'a> {
+    parsed: Parsed,
+    got: &'a [u8],
+    moment: u64,
+}
+
+/// Returns the response to a client; nothing of it was sent yet. If its code is wrong and the rate limit is reached, the response
+/// is to wait. If the file of the office is gone or replaced, the response says so, except to a read of an open office. In both
+/// cases nothing else is done. Otherwise the request is processed, and its code is counted if it is wrong.
+fn answer_client<A: SideJobs, S: Alter>(
+    server_settings: ServerSettings<'_, A>,
+    due: Due<'_>,
     office: &mut Office<S>,
     kept: &mut ServerMemory,
 ) -> PendingResponse
-    ensures meets { (number : ℕ) → RespondsToClient (settings_entry settings.entry) (state S.Store) (served_office office.old (memory_entry kept.old))
-        (record { listener = Listener.Clients; number = number; moment = moment.now; got = got.now; answer = result.bytes.items }) (served_office office.new (memory_entry kept.new)) }
+    requires { IsParsed (settings_entry server_settings.http) due.got.now due.parsed }
+    ensures meets { (number : ℕ) → RespondsToClient (settings_entry server_settings.entry.settings) (state S.Store) (served_office office.old (memory_entry kept.old))
+        (record { listener = Listener.Clients; number = number; moment = due.entry.moment; got = due.entry.got.now; answer = result.bytes.items }) (served_office office.new (memory_entry kept.new)) }
     ensures untold { result.sent ≡ 0 }
 {
-    let authentication = authentication_of(settings, got);
-    if kept.must_wait(authentication, moment.now) {
-        return wait_response(alloc);
+    let Due {
+        parsed,
+        got,
+        moment,
+    } = due;
+    let authentication = parsed.authentication();
+    if kept.must_wait(authentication, moment) {
+        return wait_response(kept.alloc);
     }
-    if !moment.is_whole && !is_reading(alloc, settings, got, office) {
-        return gone_response(alloc);
+    let is_read = parsed.reading().is_some() && !office.is_closed();
+    if !is_read && !server_settings.side_jobs.is_whole() {
+        return gone_response(kept.alloc);
     }
-    let answer = answered(alloc, settings, got, office, kept);
-    kept.note(authentication, moment.now);
+    let answer = answer_request(server_settings.http, parsed, got, office, kept);
+    kept.note(authentication, moment);
     answer
 }
 
-/// Returns the stream of a connection, and the response to its complete request. Nothing of a client's response was sent yet, and
-/// of an order's as much as its stream accepted.
-fn answer_to<L: Stream, A: SideJobs, S: Alter>(
-    alloc: Global,
-    server_settings: ServerSettings<'_>,
-    now: u64,
-    side_jobs: &A,
-    listener: Listener,
-    got: &[u8],
-    stream: L,
-    office: &mut Office<S>,
-    kept: &mut ServerMemory,
-) -> (L, PendingResponse)
-    requires fresh { HasTaken (L.taken stream) [] }
-    requires whole { listener ≡ Listener.Orders → HasCameWhole got.now }
-    ensures told { IsSent (stream_of L.held L.taken L.failed) result.0 result.1.bytes.items result.1.sent }
-    ensures served { (number : ℕ) → ServesExchange (settings_in server_settings.entry) (state S.Store) (served_office office.old (memory_entry kept.old))
-        (record { listener = listener; number = number; moment = now; got = got.now; answer = result.1.bytes.items }) (served_office office.new (memory_entry kept.new)) }
-{
-    match listener {
-        Listener::Clients => (
-            stream,
-            answer_client(
-                alloc,
-                server_settings.http,
-                Moment::of(now, side_jobs),
-                got,
-                office,
-                kept,
-            ),
-        ),
-        Listener::Orders => {
-            kept.reads.empty();
-            answer_order(alloc, server_settings.file, side_jobs, got, stream, office)
-        }
-    }
-}
-
-/// Drops what is still to come of the request of a client to which its whole response was sent.
+/// Reads and drops the rest of the request of a client that was sent its whole response.
 fn drop_rest<L: Stream>(client: &mut Client<L>) -> Serviced
     requires { IsSentWhole client.old }
     ensures is { (start : L) → IsOf (stream_of L.held L.taken L.failed) start client.old → IsOf (stream_of L.held L.taken L.failed) start client.new }
@@ -360,64 +303,24 @@ fn send_more<L: Stream>(client: &mut Client<L>) -> Serviced
     }
 }
 
-/// Returns how many bytes are still to come of a request that is processed now.
-fn unread_at(listener: Listener, got: &[u8]) -> usize {
-    match listener {
-        Listener::Clients => body_to_come(got),
-        Listener::Orders => 0,
-    }
-}
-
-/// Processes a complete request, from the bytes that were received alone, and sends as much of the response as the stream accepts
-/// now.
-fn respond<L: Stream, A: SideJobs, S: Alter>(
+/// Sends one its response, as much of it as it accepts now.
+fn begin_answer<L: Stream>(
     alloc: Global,
-    server_settings: ServerSettings<'_>,
-    now: u64,
-    side_jobs: &A,
     client: Client<L>,
-    office: &mut Office<S>,
-    kept: &mut ServerMemory,
+    answer: PendingResponse,
+    unread: usize,
 ) -> (Client<L>, Serviced)
-    requires fresh { HasTaken (L.taken client.stream) [] }
-    requires whole { client.listener ≡ Listener.Orders → HasCameWhole client.got.items }
+    requires { IsSent (stream_of L.held L.taken L.failed) client.stream answer.bytes.items answer.sent }
     ensures is { (start : L) → IsOf (stream_of L.held L.taken L.failed) start result.0 }
     ensures same { IsSameClient client result.0 }
-    ensures turn { (exchange : Exchange) × (exchange.listener ≡ client.listener) × (exchange.number ≡ client.number) × (exchange.moment ≡ now) × (exchange.got ≡ client.got.items)
-        × ServesExchange (settings_in server_settings.entry) (state S.Store) (served_office office.old (memory_entry kept.old)) exchange (served_office office.new (memory_entry kept.new))
-        × (answer_of result.0 ≡ Some exchange.answer) }
+    ensures his { answer_of result.0 ≡ Some answer.bytes.items }
     ensures leaves { (why : CloseReason) → result.1 ≡ Serviced.Leaves why → EndsFor (stream_of L.held L.taken L.failed) why result.0 }
     ensures apart { result.1 ≢ Serviced.Waits }
 {
-    let Client {
-        listener,
-        stream,
-        number,
-        since,
-        got,
-        ..
-    } = client;
-    let unread = unread_at(listener, got.as_slice());
-    let (stream, answer) = answer_to(
-        alloc,
-        server_settings,
-        now,
-        side_jobs,
-        listener,
-        got.as_slice(),
-        stream,
-        office,
-        kept,
-    );
-    let mut client = Client {
-        listener,
-        stream,
-        number,
-        since,
-        got: Vec::new(alloc),
-        answer: Some(answer),
-        unread,
-    };
+    let mut client = client;
+    client.got = Vec::new(alloc);
+    client.answer = Some(answer);
+    client.unread = unread;
     match send_more(&mut client) {
         Serviced::Waits => (client, Serviced::Served),
         Serviced::Served => (client, Serviced::Served),
@@ -425,17 +328,95 @@ fn respond<L: Stream, A: SideJobs, S: Alter>(
     }
 }
 
-/// Services a connection at a moment, in milliseconds of a clock, as far as its stream allows now. It receives more of the request.
-/// Once that is complete, it processes the request, or responds that the client must wait because of wrong codes. Then it sends the
-/// response. Returns the connection, and the outcome.
+/// Services a client without a response: receives its request and, once that is complete, processes it.
+fn attend_client<L: Stream, A: SideJobs, S: Alter>(
+    server_settings: ServerSettings<'_, A>,
+    now: u64,
+    client: Client<L>,
+    office: &mut Office<S>,
+    kept: &mut ServerMemory,
+) -> (Client<L>, Serviced)
+    requires listener { client.listener ≡ Listener.Clients }
+    requires fresh { HasTaken (L.taken client.stream) [] }
+    requires unanswered { client.answer ≡ None }
+    ensures is { (start : L) → IsOf (stream_of L.held L.taken L.failed) start client → IsOf (stream_of L.held L.taken L.failed) start result.0 }
+    ensures same { IsSameClient client result.0 }
+    ensures turn { Services (settings_in server_settings.entry) (stream_of L.held L.taken L.failed) (state S.Store) now result.1 client result.0
+        (served_office office.old (memory_entry kept.old)) (served_office office.new (memory_entry kept.new)) }
+    ensures leaves { (why : CloseReason) → result.1 ≡ Serviced.Leaves why → EndsFor (stream_of L.held L.taken L.failed) why result.0 }
+{
+    let mut client = client;
+    match hear_request(&mut client, server_settings.http, &kept.routes) {
+        Ok(Some(parsed)) => {
+            let got = client.got.as_slice();
+            let unread = parsed.body_to_come(got.len());
+            let due = Due {
+                parsed,
+                got,
+                moment: now,
+            };
+            let answer = answer_client(server_settings, due, office, kept);
+            begin_answer(kept.alloc, client, answer, unread)
+        }
+        Ok(None) => (client, Serviced::Waits),
+        Err(why) => (client, Serviced::Leaves(why)),
+    }
+}
+
+/// Services an order without a response: receives its message and, once that is complete, processes it.
+fn attend_order<L: Stream, A: SideJobs, S: Alter>(
+    server_settings: ServerSettings<'_, A>,
+    now: u64,
+    client: Client<L>,
+    office: &mut Office<S>,
+    kept: &mut ServerMemory,
+) -> (Client<L>, Serviced)
+    requires listener { client.listener ≡ Listener.Orders }
+    requires fresh { HasTaken (L.taken client.stream) [] }
+    requires unanswered { client.answer ≡ None }
+    ensures is { (start : L) → IsOf (stream_of L.held L.taken L.failed) start client → IsOf (stream_of L.held L.taken L.failed) start result.0 }
+    ensures same { IsSameClient client result.0 }
+    ensures turn { Services (settings_in server_settings.entry) (stream_of L.held L.taken L.failed) (state S.Store) now result.1 client result.0
+        (served_office office.old (memory_entry kept.old)) (served_office office.new (memory_entry kept.new)) }
+    ensures leaves { (why : CloseReason) → result.1 ≡ Serviced.Leaves why → EndsFor (stream_of L.held L.taken L.failed) why result.0 }
+{
+    let mut client = client;
+    match receive_message(&mut client) {
+        Ok(true) => {
+            kept.reads.empty();
+            let Client {
+                listener,
+                stream,
+                number,
+                since,
+                got,
+                ..
+            } = client;
+            let (stream, answer) = answer_order(kept.alloc, server_settings, got.as_slice(), stream, office);
+            let client = Client {
+                listener,
+                stream,
+                number,
+                since,
+                got,
+                answer: None,
+                unread: 0,
+            };
+            begin_answer(kept.alloc, client, answer, 0)
+        }
+        Ok(false) => (client, Serviced::Waits),
+        Err(why) => (client, Serviced::Leaves(why)),
+    }
+}
+
+/// Services a connection at a moment, in milliseconds of a clock, as far as its stream allows now. Receives more of its request,
+/// processes the request once it is complete, and sends more of its response. Returns the connection and the outcome.
 ///
-/// What is received of a connection are its own bytes, from the first one on, and its response is the one to exactly these. No
+/// The bytes that are received are the connection's own, from the first one on, and the response is the one to exactly these. No
 /// other connection is touched.
 pub fn service<L: Stream, A: SideJobs, S: Alter>(
-    alloc: Global,
-    server_settings: ServerSettings<'_>,
+    server_settings: ServerSettings<'_, A>,
     now: u64,
-    side_jobs: &A,
     client: Client<L>,
     office: &mut Office<S>,
     kept: &mut ServerMemory,
@@ -452,9 +433,8 @@ pub fn service<L: Stream, A: SideJobs, S: Alter>(
         let told = send_more(&mut client);
         return (client, told);
     }
-    match receive(alloc, server_settings.http, &mut client) {
-        Ok(true) => respond(alloc, server_settings, now, side_jobs, client, office, kept),
-        Ok(false) => (client, Serviced::Waits),
-        Err(why) => (client, Serviced::Leaves(why)),
+    match client.listener {
+        Listener::Clients => attend_client(server_settings, now, client, office, kept),
+        Listener::Orders => attend_order(server_settings, now, client, office, kept),
     }
 }

@@ -1,6 +1,6 @@
 //! The server: connections are accepted, serviced side by side, and their requests are processed one after the other.
 
-ghost use Rattle.std.specs.Prelude.{◌≡◌, ◌≤◌, ◌*◌, ◌<◌, ℕ, Bool, List, [], IfSome, Ok, OnOk, Result, Some, is_some, length, map, true};
+ghost use Rattle.std.specs.Prelude.{◌≡◌, ◌≤◌, ◌*◌, ◌<◌, ⊤, ℕ, Bool, List, [], IfSome, Ok, OnOk, Result, Some, is_some, length, map, true};
 ghost use Rattle.std.specs.Duration.{as_nanos};
 ghost use Rattle.std.specs.List.{insert};
 ghost use Rattle.sqlite.specs.State.{HasCleanDisk};
@@ -18,24 +18,22 @@ ghost use Rattle.server.specs.Servicing.{HasExchanges, HasSentNothing, LooksAtGa
 ghost use Rattle.server.specs.Exchanges.{Exchange};
 ghost use Rattle.server.specs.Servers.{GoesOn, IsCalled, IsEndedBy, IsNumbered, IsRound, IsUnfailed, ServesConnections, ServesOn};
 
+use crate::side_jobs::SideJobs;
+use crate::servicing::{Serviced, service};
 use crate::blind::servers_answer_as_seen;
 use crate::serve_error::ServeError;
 use crate::server_memory::ServerMemory;
 use crate::server_settings::ServerSettings;
-use crate::servicing::{Serviced, service};
-use crate::side_jobs::SideJobs;
-use connections::closing::{
-    TIMEOUT, close_all, close_timed_out, evict_if_full, evict_one, keep_within,
-};
+use connections::closing::{TIMEOUT, close_all, keep_within, close_timed_out, evict_if_full, evict_one};
 use connections::table::{longest_waiting, place_of_number};
 use connections::{AcceptOutcome, Client, CloseReason, ConnectionTable, Network};
 use office::Office;
 use sqlite::Alter;
-use std::alloc::Global;
+use std::alloc::{AllocError, Global};
 use std::time::Duration;
 use votes::Broken;
 
-/// How long the next look at the network may be put off, in milliseconds, while a connection may be pending that no event reports.
+/// How long the next wait may be, in milliseconds, while a connection may be pending that no event reports.
 const LOOK: u64 = 1_000;
 
 /// The most connections that are accepted before the open ones are serviced.
@@ -44,11 +42,8 @@ const ACCEPTS_PER_ROUND: usize = 64;
 /// The most rounds of serving.
 const ROUNDS: u64 = u64::MAX;
 
-/// Returns the time of the clock if there is a gate, at which wrong codes count; and 0 if there is none.
-fn moment_at_gate<D: Network>(
-    network: &mut D,
-    server_settings: ServerSettings<'_>,
-) -> Result<u64, Broken>
+/// Returns the time of the clock if there is a gate, and so a limit on wrong codes; and otherwise 0.
+fn moment_at_gate<D: Network, A>(network: &mut D, server_settings: ServerSettings<'_, A>) -> Result<u64, Broken>
     ensures { LooksAtGate (is_some (settings_in server_settings.entry).clients.gate) result (D.known network.old) (D.known network.new) }
 {
     match server_settings.http.gate {
@@ -57,14 +52,11 @@ fn moment_at_gate<D: Network>(
     }
 }
 
-/// Services an open connection at a moment. Returns it, and why it is to be closed, if it is. Its time limit begins again once it
-/// has its response: however long processing took, it has all of its time.
-fn service_now<D: Network, A: SideJobs, S: Alter>(
-    alloc: Global,
+/// Services an open connection at a moment. Returns the connection, and why it is to be closed, if it is. Its time limit begins
+/// again once its request was processed, however long that took. If the clock fails at the gate, the connection isn't serviced.
+fn service_one<D: Network, A: SideJobs, S: Alter>(
     network: &mut D,
-    server_settings: ServerSettings<'_>,
-    now: u64,
-    side_jobs: &A,
+    server_settings: ServerSettings<'_, A>,
     client: Client<D::Stream>,
     office: &mut Office<S>,
     kept: &mut ServerMemory,
@@ -72,19 +64,14 @@ fn service_now<D: Network, A: SideJobs, S: Alter>(
     requires untold { HasSentNothing (stream_of D.Stream.held D.Stream.taken D.Stream.failed) client }
     ensures is { (start : D.Stream) → IsOf (stream_of D.Stream.held D.Stream.taken D.Stream.failed) start client → IsOf (stream_of D.Stream.held D.Stream.taken D.Stream.failed) start result.0 }
     ensures same { (result.0.listener ≡ client.listener) × (result.0.number ≡ client.number) }
-    ensures went { (exchanges : List Exchange) × HasExchanges (settings_in server_settings.entry) (stream_of D.Stream.held D.Stream.taken D.Stream.failed) (state S.Store) now exchanges client result.0
-        (served_office office.old (memory_entry kept.old)) (served_office office.new (memory_entry kept.new))
-        × IsServiceOutcome (stream_of D.Stream.held D.Stream.taken D.Stream.failed) (map response_at exchanges) client result.0 result.1 (D.known network.old) (D.known network.new) }
+    ensures went { WasServiced (is_some (settings_in server_settings.entry).clients.gate) (settings_in server_settings.entry) (stream_of D.Stream.held D.Stream.taken D.Stream.failed)
+        (state S.Store) result.1
+        (D.known network.old) (D.known network.new) client result.0 (served_office office.old (memory_entry kept.old)) (served_office office.new (memory_entry kept.new)) }
 {
-    let (mut client, serviced) = service(
-        alloc,
-        server_settings,
-        now,
-        side_jobs,
-        client,
-        office,
-        kept,
-    );
+    let Ok(now) = moment_at_gate(network, server_settings) else {
+        return (client, Err(Broken));
+    };
+    let (mut client, serviced) = service(server_settings, now, client, office, kept);
     match serviced {
         Serviced::Waits => (client, Ok(None)),
         Serviced::Served => match network.now() {
@@ -98,45 +85,10 @@ fn service_now<D: Network, A: SideJobs, S: Alter>(
     }
 }
 
-/// Services an open connection. Returns it, and why it is to be closed, if it is. If the clock fails at the gate, the connection
-/// isn't serviced.
-fn service_one<D: Network, A: SideJobs, S: Alter>(
-    alloc: Global,
-    network: &mut D,
-    server_settings: ServerSettings<'_>,
-    side_jobs: &A,
-    client: Client<D::Stream>,
-    office: &mut Office<S>,
-    kept: &mut ServerMemory,
-) -> (Client<D::Stream>, Result<Option<CloseReason>, Broken>)
-    requires untold { HasSentNothing (stream_of D.Stream.held D.Stream.taken D.Stream.failed) client }
-    ensures is { (start : D.Stream) → IsOf (stream_of D.Stream.held D.Stream.taken D.Stream.failed) start client → IsOf (stream_of D.Stream.held D.Stream.taken D.Stream.failed) start result.0 }
-    ensures same { (result.0.listener ≡ client.listener) × (result.0.number ≡ client.number) }
-    ensures went { WasServiced (is_some (settings_in server_settings.entry).clients.gate) (settings_in server_settings.entry) (stream_of D.Stream.held D.Stream.taken D.Stream.failed)
-        (state S.Store) result.1
-        (D.known network.old) (D.known network.new) client result.0 (served_office office.old (memory_entry kept.old)) (served_office office.new (memory_entry kept.new)) }
-{
-    match moment_at_gate(network, server_settings) {
-        Ok(now) => service_now(
-            alloc,
-            network,
-            server_settings,
-            now,
-            side_jobs,
-            client,
-            office,
-            kept,
-        ),
-        Err(Broken) => (client, Err(Broken)),
-    }
-}
-
-/// Services the connection at a place. It is closed if it is done or lost. If the clock fails, it stays where it was.
+/// The one at a place goes on. If it is done or lost, it leaves. If the clock fails, it stays where it was.
 fn service_at<D: Network, A: SideJobs, S: Alter>(
-    alloc: Global,
     network: &mut D,
-    server_settings: ServerSettings<'_>,
-    side_jobs: &A,
+    server_settings: ServerSettings<'_, A>,
     table: &mut ConnectionTable<D::Stream>,
     place: usize,
     office: &mut Office<S>,
@@ -154,15 +106,7 @@ fn service_at<D: Network, A: SideJobs, S: Alter>(
     ensures called { IsCalled result (D.known network.old) (D.known network.new) }
 {
     let client = table.remove_at(place);
-    let (client, next) = service_one(
-        alloc,
-        network,
-        server_settings,
-        side_jobs,
-        client,
-        office,
-        kept,
-    );
+    let (client, next) = service_one(network, server_settings, client, office, kept);
     let reason = match next {
         Ok(reason) => reason,
         Err(Broken) => {
@@ -183,12 +127,10 @@ fn service_at<D: Network, A: SideJobs, S: Alter>(
     }
 }
 
-/// Services the connection with a number, if it is open.
+/// The one with a number goes on, if it is in.
 fn service_numbered<D: Network, A: SideJobs, S: Alter>(
-    alloc: Global,
     network: &mut D,
-    server_settings: ServerSettings<'_>,
-    side_jobs: &A,
+    server_settings: ServerSettings<'_, A>,
     table: &mut ConnectionTable<D::Stream>,
     number: u64,
     office: &mut Office<S>,
@@ -205,26 +147,15 @@ fn service_numbered<D: Network, A: SideJobs, S: Alter>(
     ensures called { IsCalled result (D.known network.old) (D.known network.new) }
 {
     match place_of_number(table.clients.as_slice(), number) {
-        Some(place) => service_at(
-            alloc,
-            network,
-            server_settings,
-            side_jobs,
-            table,
-            place,
-            office,
-            kept,
-        ),
+        Some(place) => service_at(network, server_settings, table, place, office, kept),
         None => Ok(()),
     }
 }
 
 /// Services each connection that is ready, in the order in which the network reports them.
 fn service_ready<D: Network, A: SideJobs, S: Alter>(
-    alloc: Global,
     network: &mut D,
-    server_settings: ServerSettings<'_>,
-    side_jobs: &A,
+    server_settings: ServerSettings<'_, A>,
     table: &mut ConnectionTable<D::Stream>,
     office: &mut Office<S>,
     kept: &mut ServerMemory,
@@ -243,22 +174,13 @@ fn service_ready<D: Network, A: SideJobs, S: Alter>(
         let Some(number) = network.next_ready() else {
             return Ok(());
         };
-        service_numbered(
-            alloc,
-            network,
-            server_settings,
-            side_jobs,
-            table,
-            number,
-            office,
-            kept,
-        )?;
+        service_numbered(network, server_settings, table, number, office, kept)?;
     }
     Ok(())
 }
 
 /// Accepts the next pending connection, if there is room, or room can be made: an order, or a client unless all clients were
-/// accepted. If none was accepted, it returns how long the next look at the network may be put off, in milliseconds.
+/// accepted. If none was accepted, returns how long the next wait may be, in milliseconds.
 fn accept_one<D: Network>(
     alloc: Global,
     network: &mut D,
@@ -299,7 +221,7 @@ fn accept_one<D: Network>(
     }
 }
 
-/// Accepts pending connections, and returns how long the next look at the network may be put off, in milliseconds.
+/// Accepts pending connections, and returns how long the next wait may be, in milliseconds.
 fn accept_pending<D: Network>(
     alloc: Global,
     network: &mut D,
@@ -324,7 +246,7 @@ fn accept_pending<D: Network>(
     0
 }
 
-/// Returns how long the next look may be put off: at most for this long, and no longer than until the first time limit is over.
+/// Returns how long the next wait may be: at most this long, and no longer than until the first time limit is over.
 fn pause<L>(table: &ConnectionTable<L>, look: u64, now: u64) -> Duration
     ensures { as_nanos result ≤ look * 1_000_000 }
 {
@@ -337,41 +259,48 @@ fn pause<L>(table: &ConnectionTable<L>, look: u64, now: u64) -> Duration
     }
 }
 
-/// One round: the open connections are serviced, those that are timed out are closed, more are accepted, and it waits until a
-/// connection is ready. Returns whether all clients were accepted, and all connections are closed.
-fn serve_round<D: Network, A: SideJobs, S: Alter>(
-    alloc: Global,
-    network: &mut D,
-    server_settings: ServerSettings<'_>,
-    side_jobs: &A,
+/// The settings of a server, and the most clients to accept.
+struct Serving<'a, A> {
+    server_settings: ServerSettings<'a, A>,
     most: u64,
+}
+
+impl<A> Clone for Serving<'_, A> {
+    ghost is_clone = { λ x y. y ≡ x };
+
+    ghost is_infallible = { λ _. ⊤ };
+
+    fn clone(&self) -> Result<Self, AllocError> {
+        Ok(*self)
+    }
+}
+
+impl<A> Copy for Serving<'_, A> {}
+
+/// Serves one round: services the connections that are ready, closes those that are timed out, accepts pending ones, and waits
+/// for events. Returns whether all clients were accepted and all connections are closed.
+fn serve_round<D: Network, A: SideJobs, S: Alter>(
+    network: &mut D,
+    serving: Serving<'_, A>,
     table: &mut ConnectionTable<D::Stream>,
     office: &mut Office<S>,
     kept: &mut ServerMemory,
 ) -> Result<bool, Broken>
-    requires sound { IsSound (settings_in server_settings) (stream_of D.Stream.held D.Stream.taken D.Stream.failed) table.old }
+    requires sound { IsSound (settings_in serving.server_settings) (stream_of D.Stream.held D.Stream.taken D.Stream.failed) table.old }
     requires within { IsWithin table.old }
-    ensures goes_on { ServesOn (settings_in server_settings.entry) (stream_of D.Stream.held D.Stream.taken D.Stream.failed) (state S.Store) (D.known network.old)
+    ensures goes_on { ServesOn (settings_in serving.entry.server_settings) (stream_of D.Stream.held D.Stream.taken D.Stream.failed) (state S.Store) (D.known network.old)
         (D.known network.new) table.old table.new
         (served_office office.old (memory_entry kept.old)) (served_office office.new (memory_entry kept.new)) }
-    ensures few { table.old.counted ≤ most → table.new.counted ≤ most }
+    ensures few { table.old.counted ≤ serving.entry.most → table.new.counted ≤ serving.entry.most }
     ensures within { OnOk result (IsWithin table.new) }
-    ensures all { result ≡ Ok true → (most ≤ table.new.counted) × (table.new.clients.items ≡ []) }
+    ensures all { result ≡ Ok true → (serving.entry.most ≤ table.new.counted) × (table.new.clients.items ≡ []) }
     ensures round { IsRound result (D.known network.old) (D.known network.new) }
 {
-    service_ready(
-        alloc,
-        network,
-        server_settings,
-        side_jobs,
-        table,
-        office,
-        kept,
-    )?;
+    service_ready(network, serving.server_settings, table, office, kept)?;
     let now = network.now()?;
     close_timed_out(network, table, now);
-    let look = accept_pending(alloc, network, table, most, now);
-    if table.counted >= most && table.clients.is_empty() {
+    let look = accept_pending(kept.alloc, network, table, serving.most, now);
+    if table.counted >= serving.most && table.clients.is_empty() {
         return Ok(true);
     }
     network.wait(pause(table, look, now))?;
@@ -380,36 +309,24 @@ fn serve_round<D: Network, A: SideJobs, S: Alter>(
 
 /// Serves until all clients were accepted, and all connections are closed.
 fn serve_rounds<D: Network, A: SideJobs, S: Alter>(
-    alloc: Global,
     network: &mut D,
-    server_settings: ServerSettings<'_>,
-    side_jobs: &A,
-    most: u64,
+    serving: Serving<'_, A>,
     table: &mut ConnectionTable<D::Stream>,
     office: &mut Office<S>,
     kept: &mut ServerMemory,
 ) -> Result<(), ServeError>
-    requires sound { IsSound (settings_in server_settings) (stream_of D.Stream.held D.Stream.taken D.Stream.failed) table.old }
+    requires sound { IsSound (settings_in serving.server_settings) (stream_of D.Stream.held D.Stream.taken D.Stream.failed) table.old }
     requires within { IsWithin table.old }
-    ensures goes_on { ServesOn (settings_in server_settings.entry) (stream_of D.Stream.held D.Stream.taken D.Stream.failed) (state S.Store) (D.known network.old)
+    ensures goes_on { ServesOn (settings_in serving.entry.server_settings) (stream_of D.Stream.held D.Stream.taken D.Stream.failed) (state S.Store) (D.known network.old)
         (D.known network.new) table.old table.new
         (served_office office.old (memory_entry kept.old)) (served_office office.new (memory_entry kept.new)) }
-    ensures few { table.old.counted ≤ most → table.new.counted ≤ most }
-    ensures all { OnOk result (most ≤ table.new.counted) }
+    ensures few { table.old.counted ≤ serving.entry.most → table.new.counted ≤ serving.entry.most }
+    ensures all { OnOk result (serving.entry.most ≤ table.new.counted) }
     ensures none { OnOk result (table.new.clients.items ≡ []) }
     ensures ended { IsEndedBy (D.known network.old) (D.known network.new) result }
 {
     for round in 0..ROUNDS {
-        match serve_round(
-            alloc,
-            network,
-            server_settings,
-            side_jobs,
-            most,
-            table,
-            office,
-            kept,
-        ) {
+        match serve_round(network, serving, table, office, kept) {
             Ok(true) => return Ok(()),
             Ok(false) => {}
             Err(Broken) => return Err(ServeError::Network),
@@ -422,34 +339,34 @@ fn serve_rounds<D: Network, A: SideJobs, S: Alter>(
 /// clients were accepted and all connections are closed, or without end if no number is given. Orders are accepted too, before
 /// clients, and don't count.
 ///
-/// Requests are received side by side, and responses are sent side by side. A request is processed once it is complete: a client's
-/// as a whole, and an order's as a whole, in the same office. At most 512 connections are open at once, with 64 MiB of their
-/// requests and responses. If there are more, the next one stays pending, and the client that has waited longest is closed for it,
-/// provided that it has waited for a second. A connection has half a minute to send its request, and half a minute more to accept
-/// its response. One that is closed early gets no response. One that can't be accepted now is accepted later.
+/// Requests are received side by side, and responses are sent side by side. A request is processed once it is complete: a
+/// client's as a whole, and an order's as a whole, in the same office. At most 512 connections are open at once, with 64 MiB of
+/// their requests and responses. If there are more, the next one stays pending, and the client that has waited longest is closed
+/// for it, provided that it has waited for a second. A connection has half a minute to send its request, and half a minute more
+/// to accept its response. One that is closed early gets no response. One that can't be accepted now is accepted later.
 ///
-/// At the gate a request is let in by its clerk's code, whatever wrong codes came. Once 6,000 wrong codes came within a minute, a
-/// request with a wrong code must wait for the rest of that minute. The moments are those that the clock shows.
+/// At the gate a request with its clerk's code is let in, however many wrong codes were sent. Once 6,000 wrong codes were sent
+/// within a minute, a request with a wrong code must wait for the rest of that minute. The moments are those that the clock
+/// shows.
 ///
-/// What is received of a connection are its own bytes, from the first one on, and what it is sent is the response to exactly these.
-/// Nothing changes an open office but clerks' keyings, at most one for each client, and the requests of orders. Whatever a stop
-/// leaves is the state after the requests that were answered, and at most one more. Each is answered as the office's machine says
-/// at the state at which it is processed. A closed office stays as it is.
+/// What is received of a connection are its own bytes, from the first one on, and what it is sent is the response to exactly
+/// these. Nothing changes an open office but clerks' keyings, at most one for each client, and the requests of orders. Whatever a
+/// stop leaves is the state after the requests that were answered, and at most one more. Each is answered as the office's machine
+/// says at the state at which it is processed. A closed office stays as it is.
 ///
-/// By the network's clock a connection is closed as timed out only once its half minute is over, counted from when it was accepted
-/// or its request was processed. It is closed to make room only while the table is full, or if the system has no room for one more.
-/// The connections that are open as serving ends are closed last, and none is open after an end without a failure.
+/// By the network's clock a connection is closed as timed out only once its half minute is over, counted from when it was
+/// accepted or its request was processed. It is closed to make room only while the table is full, or if the system has no room
+/// for one more. The connections that are open as serving ends are closed last, and none is open after an end without a failure.
 ///
 /// What each clerk sees of the office determines what is sent under that clerk's number, up to a fault, and except for the
 /// responses to wait and that the file is gone.
 ///
-/// The error says why serving ended early: the network or its clock failed, the table couldn't be allocated, or there were as many
-/// rounds as there are numbers. What was answered before stands. The connections that are open then are closed.
+/// The error says why serving ended early: the network or its clock failed, the table couldn't be allocated, or there were as
+/// many rounds as there are numbers. What was answered before remains valid. The connections that are open then are closed.
 pub fn serve_connections<D: Network, A: SideJobs, S: Alter>(
     alloc: Global,
     network: &mut D,
-    server_settings: ServerSettings<'_>,
-    side_jobs: &A,
+    server_settings: ServerSettings<'_, A>,
     connections: Option<u64>,
     office: &mut Office<S>,
 ) -> Result<(), ServeError>
@@ -466,17 +383,11 @@ pub fn serve_connections<D: Network, A: SideJobs, S: Alter>(
     let Ok(mut table) = ConnectionTable::new(alloc) else {
         return Err(ServeError::Memory);
     };
-    let mut kept = ServerMemory::new(alloc);
-    let ended = serve_rounds(
-        alloc,
-        network,
-        server_settings,
-        side_jobs,
-        most,
-        &mut table,
-        office,
-        &mut kept,
-    );
+    let Ok(mut kept) = ServerMemory::new(alloc) else {
+        return Err(ServeError::Memory);
+    };
+    let serving = Serving { server_settings, most };
+    let ended = serve_rounds(network, serving, &mut table, office, &mut kept);
     close_all(network, &mut table);
     ended
 }

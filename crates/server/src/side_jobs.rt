@@ -12,18 +12,25 @@ use office::Office;
 use sqlite::Alter;
 use votes::Sink;
 
-/// Copies an open office to a new file, and prints its journal. The office continues, and is only read; the program decides which
-/// files these are.
+/// The destination of a copy: a path, as seen from a folder.
+#[derive(Clone, Copy)]
+pub struct Destination<'a> {
+    pub folder: &'a str,
+    pub path: &'a str,
+}
+
+/// Copies an open office to a new file, and prints its journal. The office stays open and is only read. The program that
+/// implements this chooses the files.
 pub trait SideJobs {
-    /// Returns whether the file of the office is still there, whole, and no other in its place. Nothing can be promised of a file.
+    /// Returns whether the file of the office is still there, whole, and no other is in its place. Nothing guarantees this of a
+    /// file.
     fn is_whole(&self) -> bool;
 
-    /// Copies the office to the file at a path, as seen from a folder, and prints how much the copy has.
+    /// Copies the office to a new file, and prints how much the copy has.
     fn copy<S: Alter, O: Sink, E: Sink>(
         &self,
         office: &mut Office<S>,
-        folder: &str,
-        path: &str,
+        to: Destination<'_>,
         out: &mut O,
         err: &mut E,
     ) -> u8

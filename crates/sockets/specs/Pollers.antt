@@ -65,6 +65,6 @@ is_known_waiting waiting.Somebody = true
 abbrev pub has_pending : Poller → Bool
 has_pending poller = is_known_waiting poller.waiting
 
--- nothing is known of sockets: neither which connections came and were closed, nor how many calls failed, nor what the clock showed
+-- nothing is known of sockets: neither which connections were accepted and closed, nor how many calls failed, nor what the clock showed
 abbrev pub unknown : {L : Type 0} → NetworkEntry L
 unknown = record { came = None; left = None; failed = None; waits = None; events = None }

@@ -46,8 +46,8 @@ fn is_out_of_room(error: &io::Error) -> bool
 
 /// Returns what an error of a listener means.
 ///
-/// No connection is pending (EAGAIN); the system has no room for one more connection, and closing one makes some; or, for any other
-/// error, such as ECONNABORTED, the next connection failed.
+/// No connection is pending (EAGAIN); the system has no room for one more connection, and closing one makes some; or, for any
+/// other error, such as ECONNABORTED, the next connection failed.
 pub(crate) fn outcome_of_error(error: &io::Error) -> AcceptOutcome<Socket>
     ensures { result ≡ outcome_of error.now }
 {

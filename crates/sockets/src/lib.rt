@@ -2,17 +2,17 @@
 //!
 //! [`Loopback`](loopback) listens on both loopback addresses, a [`Socket`](socket) is one connection, and [`Poller`](poller)
 //! reports which connections are ready and whether another is pending. Nothing guarantees what a socket reads or accepts, which
-//! address is bound, or what the system reports ([`SocketNetwork`](socket_network) adds a clock). So a connection that is reported
-//! as ready may have nothing to read, and a call on it then returns at once.
+//! address is bound, or what the system reports ([`SocketNetwork`](socket_network) adds a clock). So a connection that is
+//! reported as ready may have nothing to read, and a call on it then returns at once.
 #![tactic(auto)]
 
-mod accept_error;
-mod loopback;
-mod poller;
-mod socket;
 mod socket_network;
+mod loopback;
+mod accept_error;
+mod socket;
+mod poller;
 
-pub use loopback::Loopback;
-pub use poller::Poller;
-pub use socket::Socket;
 pub use socket_network::SocketNetwork;
+pub use loopback::Loopback;
+pub use socket::Socket;
+pub use poller::Poller;

@@ -66,8 +66,8 @@ impl Loopback {
 
     /// Binds a port at both addresses. Fails if one of them is taken.
     ///
-    /// A browser that opens `http://localhost` may try either, and would send a clerk's code to whoever holds the other one. A
-    /// socket at [::1] accepts no connection over IPv4, so it needs no option.
+    /// A browser that opens `http://localhost` may try either, and would send a clerk's code to any program that holds the other
+    /// one. A socket at [::1] accepts no connection over IPv4, so it needs no option.
     pub fn bind(net: &impl Net, port: u16) -> io::Result<Loopback> {
         let ipv4 = TcpListener::bind(net, SocketAddr::from((Ipv4Addr::LOCALHOST, port)))?;
         let ipv6 = TcpListener::bind(net, SocketAddr::from((Ipv6Addr::LOCALHOST, port)));

@@ -7,8 +7,8 @@ ghost use Rattle.connections.specs.Tables.{IsWanted};
 ghost use Rattle.sockets.specs.Pollers.{ComesByListener, IsAtListener, IsWatched, clients_of, has_pending, orders_of, other_address};
 ghost use Rattle.sockets.specs.declared.poller.Waiting.{Waiting};
 
-use crate::accept_error::outcome_of_error;
 use crate::loopback::{Address, Loopback};
+use crate::accept_error::outcome_of_error;
 use crate::socket::Socket;
 use connections::{AcceptOutcome, Accepted, Listener};
 use mio::event::Source;
@@ -67,11 +67,7 @@ pub struct Poller {
 }
 
 /// Registers a listener, if there is one.
-fn watch_listener<S: Source + Drop>(
-    poll: &Poll,
-    listener: Option<S>,
-    token: usize,
-) -> io::Result<Option<S>>
+fn watch_listener<S: Source + Drop>(poll: &Poll, listener: Option<S>, token: usize) -> io::Result<Option<S>>
     ensures { IfOk result (IsWatched S.keeps listener) }
 {
     match listener {
@@ -172,8 +168,8 @@ impl Poller {
         }
     }
 
-    /// Returns the next client at either address. The addresses take turns, so that a crowd at one of them doesn't shut out the
-    /// other.
+    /// Returns the next client at either address. The addresses take turns, so that many clients at one of them don't shut out
+    /// those at the other.
     fn next_client(&mut self, number: u64) -> AcceptOutcome<Socket>
         ensures at_door { IsAtListener Listener.Clients result }
         ensures in_turn { self.new.next ≡ other_address self.old.next }
@@ -214,7 +210,8 @@ impl Poller {
     }
 
     /// Notes what the listeners returned, and returns it. The system reports that it is full before it looks whether a connection
-    /// is pending. So unless an event reported one, the result is that none is pending, and the next wait tells whether that is so.
+    /// is pending. So unless an event reported one, the result is that none is pending, and the next wait tells whether that is
+    /// so.
     fn noted(&mut self, outcome: AcceptOutcome<Socket>, clients_too: bool) -> AcceptOutcome<Socket>
         ensures same { (result ≡ outcome) ⊎ ((outcome ≡ AcceptOutcome.Full) × (result ≡ AcceptOutcome.Nobody)) }
         ensures seen { self.old.waiting ≡ Waiting.Somebody → result ≡ outcome }

@@ -2,14 +2,14 @@
 
 ghost use Rattle.std.specs.Prelude.{◌≡◌, ◌+◌, ◌-◌, ◌^◌, ◌<◌};
 
-use super::clients::{Evening, LimitedWriter, Port, TestNetwork, joined, pages_of};
+use super::clients::{TestNetwork, Evening, Port, LimitedWriter, joined, pages_of};
 use super::loads::loads;
 use codes::Codes;
 use desk::perform::perform;
 use desk::{Failure, Folder, Order, copy_office, order, tell_failure, tell_words};
+use server::{SideJobs, Destination, ServeError, FileNumbers, ServerSettings, serve_connections};
 use office::{Answer, Office, Run, Stop, Work};
 use register::Request;
-use server::{FileNumbers, ServeError, ServerSettings, SideJobs, serve_connections};
 use sqlite::{Alter, Connection};
 use std::alloc::{AllocError, Global};
 use std::test::Fail;
@@ -230,8 +230,8 @@ fn work<S: Alter + Drop>(
     Ok((StepPrinted::quietly(alloc, text), conn))
 }
 
-/// The file that is served, no proxy, and no codes.
-pub const SERVER_SETTINGS: ServerSettings<'static> = ServerSettings {
+/// The file that is served, no proxy, and no codes; and nothing beside the office.
+pub const SERVER_SETTINGS: ServerSettings<'static, Unaided> = ServerSettings {
     http: HttpSettings {
         origin: None,
         gate: None,
@@ -240,6 +240,7 @@ pub const SERVER_SETTINGS: ServerSettings<'static> = ServerSettings {
         device: 7,
         inode: 12,
     },
+    side_jobs: &Unaided,
 };
 
 /// The codes of an evening, if they are asked for; and the wrong ones that came before, which are none.
@@ -254,7 +255,7 @@ fn codes_of(alloc: Global, evening: Evening<'_>) -> Result<Option<Codes>, Fail> 
 }
 
 /// What the office is served by, with these codes.
-fn terms_of(held: &Option<Codes>) -> ServerSettings<'_> {
+fn terms_of(held: &Option<Codes>) -> ServerSettings<'_, Unaided> {
     let gate = match held {
         Some(codes) => Some(Gate {
             codes,
@@ -268,12 +269,13 @@ fn terms_of(held: &Option<Codes>) -> ServerSettings<'_> {
     ServerSettings {
         http: HttpSettings { origin: None, gate },
         file: SERVER_SETTINGS.file,
+        side_jobs: SERVER_SETTINGS.side_jobs,
     }
 }
 
 /// An office that has nothing beside it: no copy and no journal can be made.
 #[derive(Clone, Copy)]
-struct Unaided;
+pub struct Unaided;
 
 impl SideJobs for Unaided {
     fn is_whole(&self) -> bool {
@@ -283,8 +285,7 @@ impl SideJobs for Unaided {
     fn copy<S: Alter, O: Sink, E: Sink>(
         &self,
         _office: &mut Office<S>,
-        _folder: &str,
-        _path: &str,
+        _to: Destination<'_>,
         _out: &mut O,
         err: &mut E,
     ) -> u8 {
@@ -330,7 +331,6 @@ fn serve<S: Alter + Drop>(
             alloc,
             &mut coming,
             terms_of(&held),
-            &Unaided,
             evening.connections,
             &mut office,
         )
@@ -358,14 +358,7 @@ fn listen<S: Alter + Drop>(
     };
     let most = Some(port.connections);
     let served = match port.network.try_borrow_mut() {
-        Ok(mut network) => serve_connections(
-            alloc,
-            &mut *network,
-            SERVER_SETTINGS,
-            &Unaided,
-            most,
-            &mut office,
-        ),
+        Ok(mut network) => serve_connections(alloc, &mut *network, SERVER_SETTINGS, most, &mut office),
         Err(_) => Err(ServeError::Network),
     };
     let conn = office.into_connection();

@@ -11,7 +11,7 @@ pub mod LengthLemmas
 pub mod RequestLemmas
 pub mod GateLemmas
 pub mod AuthenticationLemmas
-pub mod CompletenessLemmas
+pub mod ParsedLemmas
 pub mod ReplyLemmas
 pub mod ResponseLemmas
 pub mod OutcomeLemmas

@@ -1,9 +1,9 @@
 -- What a request asks, from what was read of it.
-use Rattle.std.proofs.Common.{◌≡◌, ◌∙◌, ◌≤◌, subst, List, ◌++◌, Option, Some, None, Result, Ok, Err, drop, inl, inr, length, map, refl, sym, ap, take, arith, append_assoc, ℕ}
+use Rattle.std.proofs.Common.{◌≡◌, ◌∙◌, ◌≤◌, ◌-◌, subst, List, ◌++◌, Option, Some, None, Result, Ok, Err, drop, inl, inr, length, map, refl, sym, ap, take, arith, append_assoc, ℕ}
 use Rattle.std.specs.Prelude.{IfErr, IfOk, IfSome}
 use Rattle.std.specs.Io.KnownBytes.{Consumes}
 use Rattle.std.proofs.KnownBytes.{Consumes-trans}
-use Rattle.std.proofs.lemmas.List.{length-append, length-map, length-take}
+use Rattle.std.proofs.lemmas.List.{length-append, length-drop, length-map, length-take, take_all}
 use Rattle.httparse.specs.Grammar.{RequestHead, print_request}
 use Rattle.httparse.specs.Spans.{IsRequestAt, IsRequestOf, header_bytes, name_and_value, span_bytes}
 use Rattle.httparse.specs.declared.spans.HeaderSpan.{HeaderSpan}
@@ -13,8 +13,12 @@ use Rattle.wire.specs.Requests.{HttpRequestEntry, Asks, AsksOneThing, DeniesFore
 use Rattle.wire.specs.Gates.{HttpSettingsEntry}
 use Rattle.wire.specs.Heads.{BeginsWith, HasNoHead}
 use Rattle.wire.specs.Lengths.{NamedValue, body_length}
+use Rattle.wire.specs.Parsing.{Says}
 use Rattle.wire.specs.declared.request.HttpRequest.{HttpRequest}
+use Rattle.wire.specs.declared.request_error.RequestError.{RequestError}
 use Rattle.wire.specs.declared.request_error.RequestError.TheVariants.{BadRequest}
+use Rattle.wire.specs.declared.parsed.Head.{Head}
+use Rattle.wire.specs.declared.target.Target.{Target}
 use Rattle.wire.specs.declared.read_failure.ReadFailure.{ReadFailure}
 use Rattle.wire.specs.declared.read_failure.ReadFailure.TheVariants.{Broken, Memory}
 
@@ -92,14 +96,6 @@ module _ (settings : HttpSettingsEntry) (got : List ℕ) (headers : List HeaderS
       (subst (λ p. MissesBytes (wanted settings fields head.method p) (body_length fields) behind) there.path
       (subst (λ m. MissesBytes (wanted settings fields m (span_bytes got spans.path)) (body_length fields) behind) there.method completeness_of))
 
-  -- and the other way round
-  pub MissesFound-of : (head : RequestHead) → IsRequestAt got headers spans head → (behind : List ℕ) → MissesBehind settings head behind → MissesFound settings got headers spans behind
-  MissesFound-of head there behind completeness_of =
-      let fields = map (header_bytes got) (take spans.headers headers) in
-      subst (λ m. MissesBytes (wanted settings fields m (span_bytes got spans.path)) (body_length fields) behind) (sym there.method)
-      (subst (λ p. MissesBytes (wanted settings fields head.method p) (body_length fields) behind) (sym there.path)
-      (subst (λ (f : List NamedValue). MissesBytes (wanted settings f head.method head.target) (body_length f) behind) (sym there.fields) completeness_of))
-
   -- bytes that begin with what was read don't say what is asked, where what was found in that lacks more
   pub IsWanting-found : (bytes left : List ℕ) → IsRequestOf got headers spans → length got ≤ 8192 → length headers ≡ 32 → bytes ≡ got ++ left
       → MissesFound settings got headers spans (drop spans.len got ++ left) → IsWanting settings bytes
@@ -114,3 +110,34 @@ FailsAfter-behind settings old mid new got headers spans found (Ok asked) fits p
 FailsAfter-behind settings old mid new got headers spans found (Err Memory) fits places took after = tt
 FailsAfter-behind settings old mid new got headers spans found (Err Broken) fits places took (more, then, completeness_of) =
     (got ++ more, Consumes-trans old mid new got more took then, IsWanting-found settings got headers spans (got ++ more) more found fits places refl completeness_of)
+
+-- ---- by what its head says that was parsed
+
+-- what follows a head, as a part of what was read
+pub rest_of : (n : ℕ) (got : List ℕ) → take (length got - n) (drop n got) ≡ drop n got
+rest_of n got = take_all (length got - n) (drop n got) (omega (arith, length-drop n got))
+
+module _ (settings : HttpSettingsEntry) (got : List ℕ) (headers : List HeaderSpan) (spans : RequestSpans) (head : Head) where
+  -- the head says what was found
+  abbrev pub SaysFound : Type 0
+  SaysFound = Says settings (map (header_bytes got) (take spans.headers headers)) (span_bytes got spans.method) (span_bytes got spans.path) spans.len head
+
+  pub Asks-said : {E : Type 0} (old mid : Option (List ℕ)) → IsRequestOf got headers spans → SaysFound → (r : Result HttpRequest E) → length got ≤ 8192 → length headers ≡ 32 → Consumes old mid got
+      → (behind : List ℕ) → behind ≡ drop spans.len got → IfSome mid (λ left. IfOk r (λ asked. http_request_entry asked ≡ asked_of settings.gate head.wanted head.body (behind ++ left))) → IfSome old (λ bytes. IfOk r (λ asked. Asks settings bytes (http_request_entry asked)))
+  Asks-said old mid found says r fits places took behind there is =
+      let fields = map (header_bytes got) (take spans.headers headers) in
+      let target = wanted settings fields (span_bytes got spans.method) (span_bytes got spans.path) in
+      Asks-head settings old mid got headers spans found r fits places took
+      (subst (λ b. IfSome mid (λ left. IfOk r (λ asked. http_request_entry asked ≡ asked_of settings.gate target b (drop spans.len got ++ left)))) says.body
+      (subst (λ (t : Result Target RequestError). IfSome mid (λ left. IfOk r (λ asked. http_request_entry asked ≡ asked_of settings.gate t head.body (drop spans.len got ++ left)))) says.wanted
+      (subst (λ (xs : List ℕ). IfSome mid (λ left. IfOk r (λ asked. http_request_entry asked ≡ asked_of settings.gate head.wanted head.body (xs ++ left)))) there is)))
+
+  pub FailsAfter-said : (old mid new : Option (List ℕ)) → IsRequestOf got headers spans → SaysFound → (r : Result HttpRequest ReadFailure) → length got ≤ 8192 → length headers ≡ 32 → Consumes old mid got
+      → (behind : List ℕ) → behind ≡ drop spans.len got → IfErr r (FailsAfter mid new (λ more. MissesBytes head.wanted head.body (behind ++ more))) → IfErr r (FailsAfter old new (IsWanting settings))
+  FailsAfter-said old mid new found says r fits places took behind there after =
+      let fields = map (header_bytes got) (take spans.headers headers) in
+      let target = wanted settings fields (span_bytes got spans.method) (span_bytes got spans.path) in
+      FailsAfter-behind settings old mid new got headers spans found r fits places took
+      (subst (λ b. IfErr r (FailsAfter mid new (λ more. MissesBytes target b (drop spans.len got ++ more)))) says.body
+      (subst (λ (t : Result Target RequestError). IfErr r (FailsAfter mid new (λ more. MissesBytes t head.body (drop spans.len got ++ more)))) says.wanted
+      (subst (λ (xs : List ℕ). IfErr r (FailsAfter mid new (λ more. MissesBytes head.wanted head.body (xs ++ more)))) there after)))

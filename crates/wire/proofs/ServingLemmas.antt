@@ -1,20 +1,18 @@
 -- What a connection tells and leaves.
-use Rattle.std.proofs.Common.{ℕ, Bool, List, Option, inl, refl}
+use Rattle.std.proofs.Common.{◌≡◌, ℕ, Bool, List, Option, inl, inr, refl, subst}
 use Rattle.std.specs.Prelude.{IfSome}
 use Rattle.sqlite.specs.State.{State}
 use Rattle.register.specs.Offices.{OfficeState}
 use Rattle.wire.specs.Requests.{HttpRequestEntry, Asks, ShowEntry}
+use Rattle.office.specs.Answers.{IsOpenAt}
 use Rattle.wire.specs.Gates.{HttpSettingsEntry}
-use Rattle.wire.specs.Serving.{IsDeniedAlike, IsPut, IsServed, IsShownAlike, OnAnswered, OnReadFailed, OnWriteFailed, Readies, ReadiesFor, Serves}
+use Rattle.wire.specs.Responses.{fault_response}
+use Rattle.wire.specs.Serving.{EndsWith, IsDeniedAlike, IsPut, IsServed, IsShownAlike, OnAnswered, OnReadFailed, OnWriteFailed, Readies, ReadiesClosed, ReadiesFor, Serves, ServesClosed, closed_response}
+use Rattle.wire.specs.Told.{IsTold, IsWritten}
 use Rattle.wire.specs.declared.request_error.RequestError.{RequestError}
 use Rattle.wire.specs.declared.response.Response.{Response}
 use Rattle.wire.specs.declared.serving.Served.{Served}
 use Rattle.wire.specs.declared.serving.Served.TheVariants.{Answered, ReadFailed, WriteFailed}
-
--- what was asked was answered
-pub ReadiesFor-asked : (settings : HttpSettingsEntry) (bytes : Option (List ℕ)) (s : OfficeState) (asked : HttpRequestEntry) (response : Response) (closed : Bool) (st : State) → IfSome bytes (λ xs. Asks settings xs asked)
-    → Readies s asked response closed st → ReadiesFor settings bytes s response closed st
-ReadiesFor-asked settings bytes s asked response closed st asks ready = inl (record { asked = asked; asks = asks; readies = ready })
 
 -- what is denied is answered without a look at the state
 pub IsDeniedAlike-all : (why : RequestError) → IsDeniedAlike why
@@ -29,18 +27,50 @@ pub IsServed-put : (IsReady : Response → Type 0) (old new : Option (List ℕ))
     → IsServed IsReady old new served
 IsServed-put IsReady old new response served ready put = record { response = response; ready = ready; put = put }
 
--- the answer that was ready was put
-pub Serves-put : (settings : HttpSettingsEntry) (bytes old new : Option (List ℕ)) (s : OfficeState) (response : Response) (served : Served) (closed : Bool) (st : State) → ReadiesFor settings bytes s response closed st
-    → IsPut old new response served → Serves settings bytes old new s served closed st
-Serves-put settings bytes old new s response (Answered status) closed st ready put = record { response = response; ready = ready; put = put }
-Serves-put settings bytes old new s response ReadFailed closed st ready put = absurd put
-Serves-put settings bytes old new s response WriteFailed closed st ready put = record { response = response; ready = ready; put = put }
-
 -- what was put was no failure of the reader
-pub put-read : (old new : Option (List ℕ)) (response : Response) (served : Served) (P : Type 0) → IsPut old new response served → OnReadFailed served P
-put-read old new response (Answered status) P put = tt
-put-read old new response ReadFailed P put = absurd put
-put-read old new response WriteFailed P put = tt
+pub put-apart : (old new : Option (List ℕ)) (response : Response) (served : Served) → IsPut old new response served → served ≡ ReadFailed → ⊥
+put-apart old new response served put is = subst (λ (e : Served). IsPut old new response e) is put
+
+pub unread : (served : Served) (P : Type 0) → (served ≡ ReadFailed → ⊥) → OnReadFailed served P
+unread (Answered status) P apart = tt
+unread ReadFailed P apart = absurd (apart refl)
+unread WriteFailed P apart = tt
+
+-- what was ready in one way was in another
+ready-too : (P Q : Response → Type 0) (old new : Option (List ℕ)) (served : Served) → ((response : Response) → P response → Q response) → IsServed P old new served → IsServed Q old new served
+ready-too P Q old new served so it = record { response = it.response; ready = so it.response it.ready; put = it.put }
+
+-- an answer that was ready was put
+ends-put : (IsReady : Response → Type 0) (ReadFailure : Type 0) (old new : Option (List ℕ)) (served : Served) → IsServed IsReady old new served → EndsWith IsReady ReadFailure old new served
+ends-put IsReady ReadFailure old new (Answered status) it = it
+ends-put IsReady ReadFailure old new ReadFailed it = absurd it.put
+ends-put IsReady ReadFailure old new WriteFailed it = it
+
+-- what was asked was answered
+pub Serves-asked : (settings : HttpSettingsEntry) (bytes old new : Option (List ℕ)) (s : OfficeState) (asked : HttpRequestEntry) (served : Served) (closed : Bool) (st : State) → IfSome bytes (λ xs. Asks settings xs asked)
+    → IsServed (λ response. Readies s asked response closed st) old new served → Serves settings bytes old new s served closed st
+Serves-asked settings bytes old new s asked served closed st asks it =
+    ends-put _ _ old new served
+    (ready-too (λ response. Readies s asked response closed st) (λ response. ReadiesFor settings bytes s response closed st) old new served
+    (λ response ready. inl (record { asked = asked; asks = asks; readies = ready })) it)
+
+-- memory ran out for it
+pub Serves-memory : (settings : HttpSettingsEntry) (bytes old new : Option (List ℕ)) (s : OfficeState) (served : Served) (closed : Bool) (st : State) → IsOpenAt s closed st
+    → IsServed (IsWritten (fault_response 101)) old new served → Serves settings bytes old new s served closed st
+Serves-memory settings bytes old new s served closed st open_at it =
+    ends-put _ _ old new served
+    (ready-too (IsWritten (fault_response 101)) (λ response. ReadiesFor settings bytes s response closed st) old new served (λ response ready. inr (ready, open_at)) it)
+
+-- the same where the office is closed
+pub ServesClosed-asked : (settings : HttpSettingsEntry) (bytes old new : Option (List ℕ)) (asked : HttpRequestEntry) (served : Served) → IfSome bytes (λ xs. Asks settings xs asked)
+    → IsServed (IsTold (closed_response asked)) old new served → ServesClosed settings bytes old new served
+ServesClosed-asked settings bytes old new asked served asks it =
+    ends-put _ _ old new served
+    (ready-too (IsTold (closed_response asked)) (ReadiesClosed settings bytes) old new served (λ response ready. inl (record { asked = asked; asks = asks; tells = ready })) it)
+
+pub ServesClosed-memory : (settings : HttpSettingsEntry) (bytes old new : Option (List ℕ)) (served : Served) → IsServed (IsWritten (fault_response 101)) old new served → ServesClosed settings bytes old new served
+ServesClosed-memory settings bytes old new served it =
+    ends-put _ _ old new served (ready-too (IsWritten (fault_response 101)) (ReadiesClosed settings bytes) old new served (λ response ready. inr ready) it)
 
 -- what holds however the writing ended, and what holds where the answer was written whole
 pub OnAnswered-both : (served : Served) (P Q : Type 0) → P → OnAnswered served Q → OnAnswered served (P × Q)

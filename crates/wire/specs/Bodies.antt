@@ -6,13 +6,13 @@ use Rattle.serde_json.specs.Find.{as_array, as_number, as_object, as_str, as_u64
 use Rattle.serde_json.specs.Read.{read}
 use Rattle.wire.specs.declared.body.KeyingBody.{KeyingBody}
 
--- what a body has: the id of the keying, its round, and the marks text of each paper
+-- the content of a body: the id of the keying, its round, and the marks text of each paper
 pub record KeyingEntry : Type 0 where
   pub id : List ℕ
   pub round : ℕ
   pub papers : List (List ℕ)
 
--- what a body has that was parsed
+-- the content of a parsed body
 abbrev pub body_entry : KeyingBody → KeyingEntry
 body_entry body = record { id = string_bytes body.id; round = body.round; papers = map string_bytes body.papers.items }
 
@@ -38,12 +38,12 @@ key_members (member a id (member b papers no_members)) = None
 key_members (member a id no_members) = None
 key_members no_members = None
 
--- the keying that three values give
+-- the keying made of three values
 abbrev pub said_by : Data × Data × Data → Option KeyingEntry
 said_by (id, papers, round) =
     option_and_then (λ i. option_and_then (λ ps. option_map (λ r. record { id = i; round = r; papers = ps }) (round_in round)) (papers_in papers)) (as_str id)
 
--- the keying that a value gives
+-- the keying in a value
 abbrev pub keying_in : Data → Option KeyingEntry
 keying_in value = option_and_then said_by (option_and_then key_members (as_object value))
 
@@ -55,6 +55,6 @@ body_in n behind = if nat_le n (length behind) then Some (take n behind) else No
 abbrev pub json_in : List ℕ → Option Data
 json_in text = if is_utf8 text then read text else None
 
--- the keying that a body gives
+-- the keying in a body
 abbrev pub keying_of : List ℕ → Option KeyingEntry
 keying_of body = option_and_then keying_in (json_in body)

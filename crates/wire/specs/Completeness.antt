@@ -1,4 +1,4 @@
--- Whether a request is complete of which some bytes came.
+-- Whether the bytes that were received of a request are a complete request.
 use Rattle.std.specs.Prelude.{◌<◌, ◌++◌, List, length, ℕ}
 use Rattle.wire.specs.Requests.{HttpRequestEntry, Asks, IsWanting}
 use Rattle.wire.specs.Gates.{HttpSettingsEntry}
@@ -9,11 +9,11 @@ use Rattle.wire.specs.declared.completeness.Completeness.TheVariants.{Complete, 
 abbrev pub IsWhole : HttpSettingsEntry → List ℕ → Type 0
 IsWhole settings got = (more : List ℕ) (asked : HttpRequestEntry) → Asks settings got asked → Asks settings (got ++ more) asked
 
--- whatever follows them, fewer bytes than so many in all don't say yet what is asked
+-- fewer bytes than this in all don't say yet what is asked, whatever follows these
 abbrev pub IsShortOf : HttpSettingsEntry → List ℕ → ℕ → Type 0
 IsShortOf settings got least = (more : List ℕ) → length (got ++ more) < least → IsWanting settings (got ++ more)
 
--- They are complete; or they, and any fewer than so many bytes in all, don't say yet what is asked.
+-- The bytes are a complete request; or they don't say yet what is asked, nor do any that begin with them and are fewer than this in all.
 abbrev pub IsCompletenessOf : HttpSettingsEntry → List ℕ → Completeness → Type 0
 IsCompletenessOf settings got Complete = IsWhole settings got
 IsCompletenessOf settings got (AtLeast least) = IsWanting settings got × (length got < least) × IsShortOf settings got least

@@ -30,7 +30,7 @@ pub record PageEntry : Type 0 where
 abbrev pub page_entry : Page → PageEntry
 page_entry page = record { text = page.text.now; policy = page.policy.now }
 
--- a gate, which asks for clerks' codes: who holds them, and the page
+-- a gate, which requires clerks' codes: their holders, and the page
 pub record GateEntry : Type 0 where
   pub holders : List Holder
   pub page : PageEntry
@@ -46,36 +46,36 @@ pub record HttpSettingsEntry : Type 0 where
 abbrev pub settings_entry : HttpSettings → HttpSettingsEntry
 settings_entry settings = record { origin = given_by settings.origin; gate = option_map gate_entry settings.gate }
 
--- neither of them
+-- empty settings: neither of them
 abbrev pub given_nothing : HttpSettingsEntry
 given_nothing = record { origin = None; gate = None }
 
 -- ---- the clerk of a target
 
--- the number before a slash, of so many bytes
+-- the number in the first n bytes, if a slash follows them
 abbrev pub number_before : ℕ → List ℕ → Option ℕ
 number_before n text = if slice_index text n == 47 then number_in (take n text) else None
 
--- the clerk whose number is in a target such as `/clerks/4/..`, whether something is served there or not
+-- the clerk whose number is in a target such as `/clerks/4/..`, whether or not anything is served there
 abbrev pub clerk_under : List ℕ → Option ℕ
 clerk_under target =
     if starts_with nat_eq target (codes "/clerks/") then number_before (prefix_len is_ascii_digit (drop 8 target)) (drop 8 target) else None
 
--- the clerk of what may be read, if it is for a clerk
+-- the clerk of a resource, if it is one clerk's
 abbrev pub reader_of : Resource → Option ℕ
 reader_of (what.Work clerk) = Some clerk
 reader_of (what.Candidates clerk batch) = Some clerk
 reader_of (what.Sheet ward) = None
 reader_of (what.Declaration ward) = None
 
--- the candidates of a batch are served at a gate only
+-- the candidates of a batch are served only at a gate
 abbrev pub reading_needs_gate : Resource → Bool
 reading_needs_gate (what.Work clerk) = false
 reading_needs_gate (what.Candidates clerk batch) = true
 reading_needs_gate (what.Sheet ward) = false
 reading_needs_gate (what.Declaration ward) = false
 
--- and so are the page, and signing out
+-- so are the page, and signing out
 abbrev pub needs_gate : Target → Bool
 needs_gate (target.Keying clerk batch) = false
 needs_gate (target.Page clerk) = true
@@ -108,7 +108,7 @@ kept_out (Some gate) (Some clerk) fields = kept_out_by gate.holders clerk (sent_
 
 -- ---- authentication
 
--- under which clerk's number, and whether with a wrong code
+-- the clerk under whose number a request asks, and whether its code is wrong
 pub record AuthenticationEntry : Type 0 where
   pub clerk : ℕ
   pub is_wrong : Bool

@@ -10,7 +10,7 @@ most_head_bytes = 8192
 abbrev pub most_header_fields : ℕ
 most_header_fields = 32
 
--- the bytes begin with a head as `httparse` reads it, which is short enough and has few enough headers; others follow it
+-- the bytes begin with a head as `httparse` reads it, which is short enough and has few enough headers; the rest follows it
 pub record BeginsWith (bytes : List ℕ) (head : RequestHead) (behind : List ℕ) : Type 0 where
   pub is_head : IsRequestHead head
   pub parts : bytes ≡ print_request head ++ behind
@@ -27,6 +27,6 @@ pub record IsHeadWanting (got : List ℕ) : Type 0 where
   pub may : MayBecomeRequest got
   pub short : length got < most_head_bytes
 
--- no bytes begin with two heads
+-- the bytes begin with at most one head
 abbrev pub HasOneHead : List ℕ → Type 0
 HasOneHead bytes = (one two : RequestHead) (behind_one behind_two : List ℕ) → BeginsWith bytes one behind_one → BeginsWith bytes two behind_two → (one ≡ two) × (behind_one ≡ behind_two)

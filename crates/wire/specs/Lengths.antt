@@ -1,10 +1,9 @@
--- The length of a request's body, by its header fields.
-use Rattle.std.specs.Prelude.{◌&&◌, ◌∷◌, Bool, List, [], None, Option, Some, Result, Ok, Err, codes, filter, if◌then◌else◌, length, map, nat_le, nat_lt, not, ℕ}
+-- How long the body of a request is, by its header fields.
+use Rattle.std.specs.Prelude.{◌∷◌, List, [], None, Option, Some, Result, Ok, Err, codes, filter, if◌then◌else◌, length, map, nat_le, nat_lt, not, ℕ}
 use Rattle.std.specs.Borrow.{Bor}
-use Rattle.std.specs.Char.{is_ascii_digit}
-use Rattle.std.specs.List.{list_all}
 use Rattle.std.specs.Str.{str_eq_ignore_ascii_case}
 use Rattle.std.specs.Str.Parse.{digits_value}
+use Rattle.origins.specs.Origins.{are_digits}
 use Rattle.wire.specs.declared.request_error.RequestError.{RequestError}
 use Rattle.wire.specs.declared.request_error.RequestError.TheVariants.{BadRequest, TooLarge}
 
@@ -16,20 +15,16 @@ most_body_bytes = 1048576
 abbrev pub NamedValue : Type 0
 NamedValue = List ℕ × List ℕ
 
--- the values of the fields with a name, whatever the case of its letters
+-- the values of the fields with this name, ignoring the case of letters
 abbrev pub values_of : List ℕ → List NamedValue → List (List ℕ)
 values_of name fields = map (λ (f : NamedValue). f.1) (filter (λ (f : NamedValue). str_eq_ignore_ascii_case f.0 name) fields)
 
--- the value that was found, in a list
+-- the value that was found, as a list
 abbrev pub value_listed : Option (Bor (List ℕ)) → List (List ℕ)
 value_listed None = []
 value_listed (Some value) = value.now ∷ []
 
--- at least one digit, and nothing but digits
-abbrev pub are_digits : List ℕ → Bool
-are_digits text = nat_lt 0 (length text) && list_all is_ascii_digit text
-
--- the length that a text gives, up to the greatest
+-- the length that a text says, up to the limit
 abbrev pub length_in : List ℕ → Result ℕ RequestError
 length_in text =
     if not (are_digits text) then Err BadRequest else (
@@ -41,7 +36,7 @@ told_length [] = Ok 0
 told_length (text ∷ []) = length_in text
 told_length (text ∷ other ∷ others) = Err BadRequest
 
--- the length of the body, for which there is no transfer coding
+-- the length of the body; a transfer coding is an error
 abbrev pub body_length : List NamedValue → Result ℕ RequestError
 body_length fields =
     if nat_lt 0 (length (values_of (codes "transfer-encoding") fields)) then Err BadRequest else told_length (values_of (codes "content-length") fields)

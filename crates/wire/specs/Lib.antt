@@ -1,4 +1,4 @@
--- What requests ask, and the bytes of their answers.
+-- What requests ask, and the bytes of the responses.
 pub mod Heads
 pub mod Targets
 pub mod Lengths
@@ -7,6 +7,7 @@ pub mod Bodies
 pub mod Gates
 pub mod Requests
 pub mod Completeness
+pub mod Parsing
 pub mod Replies
 pub mod Responses
 pub mod Told

@@ -27,7 +27,7 @@ use Rattle.wire.specs.Lengths.{NamedValue, body_length}
 use Rattle.wire.specs.Origins.{is_foreign}
 use Rattle.wire.specs.Targets.{named_by}
 
--- what is shown to a clerk whatever the state is: the clerk's page; or that the clerk is signed out, and the browser is to forget the code
+-- what is shown to a clerk, independently of the state: the clerk's page; or that the clerk is signed out, and the browser is to forget the code
 pub data ShowEntry : Type 0 where
   page : PageEntry → ShowEntry
   has_left : ShowEntry
@@ -43,7 +43,7 @@ pub data HttpRequestEntry : Type 0 where
   keying : ℕ → ℕ → KeyingEntry → HttpRequestEntry
   reading : Resource → HttpRequestEntry
 
--- what is asked, as it was read
+-- what a request asks that was read
 abbrev pub http_request_entry : HttpRequest → HttpRequestEntry
 http_request_entry (Denied why) = denied why
 http_request_entry (Shown clerk show) = shown clerk (show_entry show)
@@ -55,12 +55,12 @@ abbrev pub IsUnread : ℕ → ℕ → ReadFailure → Type 0
 IsUnread old new Broken = new ≡ old + 1
 IsUnread old new Memory = new ≡ old
 
--- a verb as it is written
+-- the name of a method
 abbrev pub verb_text : Verb → List ℕ
 verb_text Get = codes "GET"
 verb_text Post = codes "POST"
 
--- the only verb for a target
+-- the only method for a target
 abbrev pub verb_of : Target → Verb
 verb_of (target.Keying clerk batch) = Post
 verb_of (target.Page clerk) = Get
@@ -77,7 +77,7 @@ abbrev pub asked_with : ℕ → ℕ → Result ℕ RequestError → List ℕ →
 asked_with clerk batch (Ok n) behind = asked_in clerk batch (option_and_then keying_of (body_in n behind))
 asked_with clerk batch (Err why) behind = denied why
 
--- what is asked for there, if the verb is the right one
+-- what is asked for there, if the method is the right one
 abbrev pub asked_for : List ℕ → Option Target → Result Target RequestError
 asked_for method None = Err NotFound
 asked_for method (Some there) = if bytes_eq method (verb_text (verb_of there)) then Ok there else Err (MethodNotAllowed (verb_of there))
@@ -104,7 +104,7 @@ abbrev pub page_at : Option GateEntry → ℕ → HttpRequestEntry
 page_at None clerk = denied NotFound
 page_at (Some gate) clerk = shown clerk (page gate.page)
 
--- what is asked of it; except for a keying, neither the length of a body nor any byte after the head counts
+-- what is asked of a target; except for a keying, neither the length of a body nor any byte after the head counts
 abbrev pub asked_of : Option GateEntry → Result Target RequestError → Result ℕ RequestError → List ℕ → HttpRequestEntry
 asked_of gate (Ok (target.Keying clerk batch)) size behind = asked_with clerk batch size behind
 asked_of gate (Ok (target.Page clerk)) size behind = page_at gate clerk
@@ -117,7 +117,7 @@ abbrev pub asked_by : HttpSettingsEntry → RequestHead → List ℕ → HttpReq
 asked_by settings head behind =
     asked_of settings.gate (wanted settings (map name_and_value head.fields) head.method head.target) (body_length (map name_and_value head.fields)) behind
 
--- the same for a head that was found in what was read, and for what is left
+-- the same for a head that was found in what was read, and for the bytes that follow
 abbrev pub asked_at : HttpSettingsEntry → List ℕ → List HeaderSpan → RequestSpans → List ℕ → HttpRequestEntry
 asked_at settings got headers spans left =
     asked_of settings.gate (wanted settings (map (header_bytes got) (take spans.headers headers)) (span_bytes got spans.method) (span_bytes got spans.path))
@@ -128,7 +128,7 @@ abbrev pub Asks : HttpSettingsEntry → List ℕ → HttpRequestEntry → Type 0
 Asks settings bytes asked =
     (HasNoHead bytes × (asked ≡ denied BadRequest)) ⊎ ((head : RequestHead) × (behind : List ℕ) × BeginsWith bytes head behind × (asked ≡ asked_by settings head behind))
 
--- the same bytes ask one thing
+-- the same bytes ask only one thing
 abbrev pub AsksOneThing : HttpSettingsEntry → List ℕ → Type 0
 AsksOneThing settings bytes = (one two : HttpRequestEntry) → Asks settings bytes one → Asks settings bytes two → one ≡ two
 
@@ -164,7 +164,7 @@ AsksByHolder settings bytes =
     (head : RequestHead) (behind : List ℕ) → BeginsWith bytes head behind → (asked : HttpRequestEntry) → Asks settings bytes asked
     → (clerk : ℕ) → clerk_asked asked ≡ Some clerk → (gate : GateEntry) → settings.gate ≡ Some gate → HoldsCode gate clerk (map name_and_value head.fields)
 
--- ---- what doesn't say yet what is asked
+-- ---- requests that aren't complete
 
 -- fewer bytes follow the head than the length of its body
 abbrev pub MissesBody : Result ℕ RequestError → List ℕ → Type 0
@@ -189,7 +189,7 @@ MissesFound settings got headers spans behind =
     MissesBytes (wanted settings (map (header_bytes got) (take spans.headers headers)) (span_bytes got spans.method) (span_bytes got spans.path))
     (body_length (map (header_bytes got) (take spans.headers headers))) behind
 
--- the same for the bytes that were read with the head, and for what was read then
+-- the same for the bytes that were read with the head, and for those that were read after them
 abbrev pub MissesAt : HttpSettingsEntry → List ℕ → List HeaderSpan → RequestSpans → List ℕ → Type 0
 MissesAt settings got headers spans more = MissesFound settings got headers spans (drop spans.len got ++ more)
 

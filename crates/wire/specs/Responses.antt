@@ -91,26 +91,26 @@ json_response status body = record { status = status; more = nothing; content = 
 abbrev pub text_response : List ℕ → ResponseEntry
 text_response text = record { status = 200; more = nothing; content = Text; body = text }
 
--- that a clerk's code is asked for
+-- a clerk's code is required
 abbrev pub unauthorized_response : ℕ → ResponseEntry
 unauthorized_response clerk = record { status = 401; more = asks_code clerk; content = Json; body = codes "{\"error\":\"unauthorized\"}" }
 
--- the clerk whose code is asked for, if the error is about one's
+-- the clerk whose code is missing or wrong, if that is the error
 abbrev pub clerk_kept_out : RequestError → Option ℕ
 clerk_kept_out (Unauthorized clerk) = Some clerk
 clerk_kept_out (WrongCode clerk) = Some clerk
 clerk_kept_out other = None
 
--- that the client must wait
+-- the client must wait
 abbrev pub waits_response : ResponseEntry
 waits_response = record { status = 429; more = waits; content = Json; body = codes "{\"error\":\"too many wrong codes\"}" }
 
--- what is shown to a clerk whatever the state is
+-- what is shown to a clerk, independently of the state
 abbrev pub shown_response : ShowEntry → ResponseEntry
 shown_response (page its) = record { status = 200; more = guards its.policy; content = Html; body = its.text }
 shown_response has_left = record { status = 200; more = forgets; content = Json; body = codes "{\"left\":true}" }
 
--- why a request is rejected
+-- a request is rejected
 abbrev pub denied_response : RequestError → ResponseEntry
 denied_response BadRequest = json_response 400 (codes "{\"error\":\"bad request\"}")
 denied_response Forbidden = json_response 403 (codes "{\"error\":\"forbidden\"}")

@@ -103,7 +103,7 @@ FaultLeaves s (reading what) f closed st = IsKeptOpen s f closed st ⊎ IsClosed
 FaultLeaves s (keying clerk batch entry) f closed st =
     (outcome : Outcome) × IsOutcome s clerk batch entry outcome × (IsKeptOpen s f closed st ⊎ IsClosedIn s outcome f closed st)
 
--- the response to what is asked and what it leaves, or the fault that the office met
+-- the response to what is asked and what it leaves, or the fault of the office
 abbrev pub Leaves : OfficeState → HttpRequestEntry → ResponseEntry → Bool → State → Type 0
 Leaves s asked answer closed st =
     IsAnswered s asked answer closed st ⊎ ((f : Fault) × (answer ≡ fault_response (fault_number f)) × FaultLeaves s asked f closed st)
@@ -139,7 +139,7 @@ TellsFor settings bytes s sent response = ((asked : HttpRequestEntry) × IfSome 
 
 -- ---- a closed office
 
--- Its response to what is asked. What is rejected is rejected, what is shown whatever the state is is shown, and everything else meets the fault that the office is closed.
+-- Its response to what is asked. What is rejected is rejected, what is shown at any state is shown, and everything else gets the fault that the office is closed.
 abbrev pub closed_response : HttpRequestEntry → ResponseEntry
 closed_response (denied why) = denied_response why
 closed_response (shown clerk show) = shown_response show
@@ -151,7 +151,7 @@ abbrev pub IsDeniedAlike : RequestError → Type 0
 IsDeniedAlike why =
     (s t next : OfficeState) (answer : ResponseEntry) → IsAnswer s (denied why) next answer → (next ≡ s) × IsAnswer t (denied why) t answer × (answer ≡ closed_response (denied why))
 
--- the same for what is shown whatever the state is
+-- the same for what is shown at any state
 abbrev pub IsShownAlike : ShowEntry → Type 0
 IsShownAlike show =
     (clerk : ℕ) (s t next : OfficeState) (answer : ResponseEntry) → IsAnswer s (shown clerk show) next answer
@@ -197,11 +197,11 @@ EndsWith IsReady ReadFailure old new (Answered status) = IsServed IsReady old ne
 EndsWith IsReady ReadFailure old new ReadFailed = ReadFailure
 EndsWith IsReady ReadFailure old new WriteFailed = IsServed IsReady old new WriteFailed
 
--- what each end of a connection gives and leaves; if the reader failed, the office was sent nothing
+-- what each outcome of a connection writes and leaves; if the reader failed, the office was sent nothing
 abbrev pub Serves : HttpSettingsEntry → Option (List ℕ) → Option (List ℕ) → Option (List ℕ) → OfficeState → Served → Bool → State → Type 0
 Serves settings bytes old new s served closed st = EndsWith (λ response. ReadiesFor settings bytes s response closed st) (IsOpenAt s closed st) old new served
 
--- what each end of a connection gives if the office is closed; if the reader failed, nothing was written
+-- what each outcome of a connection writes if the office is closed; if the reader failed, nothing was written
 abbrev pub ServesClosed : HttpSettingsEntry → Option (List ℕ) → Option (List ℕ) → Option (List ℕ) → Served → Type 0
 ServesClosed settings bytes old new served = EndsWith (ReadiesClosed settings bytes) (new ≡ old) old new served
 

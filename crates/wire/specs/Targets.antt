@@ -26,7 +26,7 @@ abbrev pub is_number : List ℕ → Bool
 is_number [] = false
 is_number (b ∷ bs) = not (b == 48) && (nat_le (length (b ∷ bs)) most_digits && list_all is_ascii_digit (b ∷ bs))
 
--- the number that a parameter gives
+-- the number in a parameter, if it has one
 abbrev pub number_in : List ℕ → Option ℕ
 number_in text = if is_number text then Some (digits_value 10 text) else None
 
@@ -56,11 +56,11 @@ Taken = List (List ℕ × List ℕ)
 abbrev pub taken_by : Params → Taken
 taken_by params = walk params.pattern.now params.text.now params.path.now params.names.now 0 0
 
--- the number that the parameter with a name gives
+-- the number in the parameter with this name
 abbrev pub parameter : List ℕ → Taken → Option ℕ
 parameter name taken = option_and_then number_in (named name taken)
 
--- what a target names, by where its route leads and by its parameters
+-- what a target names, by its route and its parameters
 abbrev pub named_at : RouteTarget → Taken → Option Target
 named_at place.Keying taken =
     option_and_then (λ clerk. option_map (λ batch. Keying clerk batch) (parameter (codes "b") taken)) (parameter (codes "c") taken)
@@ -72,7 +72,7 @@ named_at place.Work taken = option_map (λ clerk. Resource (Work clerk)) (parame
 named_at place.Sheet taken = option_map (λ ward. Resource (Sheet ward)) (parameter (codes "w") taken)
 named_at place.Declaration taken = option_map (λ ward. Resource (Declaration ward)) (parameter (codes "w") taken)
 
--- the route of a target; the routes are ASCII, and so is every target of theirs
+-- the route of a target; the routes are ASCII, and so is every target that matches one
 abbrev pub route_of : List ℕ → Option (RouteOf RouteTarget)
 route_of target = if list_all is_ascii target then first office_routes target else None
 
@@ -94,6 +94,6 @@ IsTargetOf (Resource (Work clerk)) target = (c : List ℕ) × (target ≡ codes 
 IsTargetOf (Resource (Sheet ward)) target = (w : List ℕ) × (target ≡ codes "/wards/" ++ (w ++ codes "/sheet")) × (number_in w ≡ Some ward)
 IsTargetOf (Resource (Declaration ward)) target = (w : List ℕ) × (target ≡ codes "/wards/" ++ (w ++ codes "/result")) × (number_in w ≡ Some ward)
 
--- a target names exactly that of which it is the path, and so no other target names it
+-- a target names exactly what it is the path of, and so no other target names that
 abbrev pub NamesItsOwn : List ℕ → Type 0
 NamesItsOwn target = (there : Target) → (named_by target ≡ Some there) ↔ IsTargetOf there target

@@ -1,20 +1,20 @@
--- What a response that is ready to be written says.
+-- What a response says that is ready to be written.
 use Rattle.std.specs.Prelude.{◌≡◌, ◌⊎◌, List, string_bytes, ℕ}
 use Rattle.wire.specs.Responses.{ResponseEntry, fault_response, response_bytes}
 use Rattle.wire.specs.declared.response.Bytes.{Bytes}
 use Rattle.wire.specs.declared.response.Bytes.TheVariants.{Fixed, Made}
 use Rattle.wire.specs.declared.response.Response.{Response}
 
--- its bytes
+-- the bytes of a response
 abbrev pub told_bytes : Bytes → List ℕ
 told_bytes (Fixed text) = text.now
 told_bytes (Made text) = string_bytes text
 
--- it is this response
+-- a response is this one
 pub record IsWritten (entry : ResponseEntry) (response : Response) : Type 0 where
   pub status : response.status ≡ entry.status
   pub bytes : told_bytes response.bytes ≡ response_bytes entry
 
--- it is this response, or the one that memory is out
+-- a response is this one, or the out-of-memory response
 abbrev pub IsTold : ResponseEntry → Response → Type 0
 IsTold entry response = IsWritten entry response ⊎ IsWritten (fault_response 101) response

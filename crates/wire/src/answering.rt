@@ -1,4 +1,4 @@
-//! What the office is asked, and the response.
+//! What the office is asked for a request, and the response.
 
 ghost use Rattle.std.specs.Prelude.{◌≡◌, false, map, true, string_bytes};
 ghost use Rattle.register.specs.Standings.{paper_entry, work_entry};
@@ -13,9 +13,9 @@ ghost use Rattle.wire.specs.Responses.{fault_response, reply_response, text_resp
 ghost use Rattle.wire.specs.Serving.{IsReadTold, Readies, closed_response, paper_response, refused_for, told_response, work_response};
 ghost use Rattle.wire.specs.Told.{IsTold};
 
+use crate::request::{HttpRequest, Keying};
 use crate::bodies::{fault_body, refusal_body, reply_body};
 use crate::candidates::paper_body;
-use crate::request::{HttpRequest, Keying};
 use crate::response::{Content, Response};
 use crate::target::Resource;
 use crate::work::work_body;
@@ -91,7 +91,7 @@ fn answer_keying<S: Alter>(alloc: Global, office: &mut Office<S>, keying: Keying
     }
 }
 
-/// Returns the response with a text of a ward, or why there is none.
+/// Returns the response with a ward's stage sheet or declaration, or with the refusal or fault.
 fn answer_text(alloc: Global, told: Result<String, Stop>) -> Response
     ensures { IsReadTold text_response string_bytes told result }
 {
@@ -102,7 +102,7 @@ fn answer_text(alloc: Global, told: Result<String, Stop>) -> Response
     }
 }
 
-/// Returns the response with the work of a clerk, or why there is none.
+/// Returns the response with a clerk's work, or with the refusal or fault.
 fn answer_work(alloc: Global, clerk: u32, told: Result<Vec<Work>, Stop>) -> Response
     ensures { IsReadTold (work_response clerk) (λ work. map work_entry work.items) told result }
 {
@@ -116,7 +116,7 @@ fn answer_work(alloc: Global, clerk: u32, told: Result<Vec<Work>, Stop>) -> Resp
     }
 }
 
-/// Returns the response that names the candidates of a batch, or why there is none.
+/// Returns the response with the candidates of a batch, or with the refusal or fault.
 fn answer_paper(alloc: Global, batch: u32, told: Result<BallotPaper, Stop>) -> Response
     ensures { IsReadTold (paper_response batch) paper_entry told result }
 {
@@ -130,7 +130,7 @@ fn answer_paper(alloc: Global, batch: u32, told: Result<BallotPaper, Stop>) -> R
     }
 }
 
-/// Reads from the office, and returns the response.
+/// Reads a resource from the office, and returns the response.
 fn answer_reading<S: Alter>(alloc: Global, office: &mut Office<S>, what: Resource) -> Response
     ensures answers { HasCleanDisk (state S.Store office.new.held) → office.old.closed ≡ false → (s : OfficeState) → IsAt s (state S.Store office.old.held)
         → Readies s (reading what) result office.new.closed (state S.Store office.new.held) }
@@ -148,12 +148,8 @@ fn answer_reading<S: Alter>(alloc: Global, office: &mut Office<S>, what: Resourc
     }
 }
 
-/// Asks the office what a request asks, and returns the response.
-pub(crate) fn answer<S: Alter>(
-    alloc: Global,
-    office: &mut Office<S>,
-    asked: HttpRequest<'_>,
-) -> Response
+/// Processes a request in the office, and returns the response.
+pub(crate) fn answer<S: Alter>(alloc: Global, office: &mut Office<S>, asked: HttpRequest<'_>) -> Response
     ensures answers { HasCleanDisk (state S.Store office.new.held) → office.old.closed ≡ false → (s : OfficeState) → IsAt s (state S.Store office.old.held)
         → Readies s (http_request_entry asked.entry) result office.new.closed (state S.Store office.new.held) }
     ensures closed { office.old.closed ≡ true → office.new ≡ office.old }

@@ -1,27 +1,25 @@
-//! Whose code came with a request, at the gate.
+//! Authentication of a request at the gate, by the code that it has.
 
-ghost use Rattle.std.specs.Prelude.{◌≡◌, ◌≤◌, length, map, option_map};
+ghost use Rattle.std.specs.Prelude.{◌≡◌, ◌≤◌, List, length, map, option_map};
 ghost use Rattle.std.specs.Char.{is_ascii_digit};
 ghost use Rattle.std.specs.List.{All, prefix_len};
 ghost use Rattle.httparse.specs.Spans.{IsHeaderWithin, header_bytes};
 ghost use Rattle.codes.specs.Codes.{holders_of};
-ghost use Rattle.wire.specs.Gates.{IsAuthentication, clerk_under, gate_entry, settings_entry, is_wrong_code, kept_out, kept_out_by, authentication_at, authentication_entry, sent_codes};
+ghost use Rattle.wire.specs.Gates.{clerk_under, gate_entry, is_wrong_code, kept_out, kept_out_by, authentication_by, authentication_entry, sent_codes};
+ghost use Rattle.wire.specs.Lengths.{NamedValue};
 
-use crate::digits::number_in;
-use crate::head::{MAX_HEAD_BYTES, MAX_HEADERS};
-use crate::length::value_of;
-use crate::origin::is_foreign;
 use crate::request_error::RequestError;
-use crate::settings::{Gate, HttpSettings};
+use crate::digits::number_in;
+use crate::settings::Gate;
+use crate::length::value_of;
 use codes::Codes;
-use httparse::Status;
-use httparse::spans::{EMPTY_HEADER_SPAN, HeaderSpan, parse_request};
+use httparse::spans::HeaderSpan;
 use std::str;
 
-/// The beginning of a target that belongs to a clerk.
+/// The prefix of every target that belongs to a clerk.
 const CLERKS: &[u8] = b"/clerks/";
 
-/// A request under a clerk's number, and whether a wrong code came with it.
+/// The clerk under whose number a request asks, and whether the request has a wrong code.
 #[derive(Clone, Copy)]
 pub struct Authentication {
     pub clerk: u32,
@@ -43,7 +41,7 @@ fn digits_length(text: &[u8]) -> usize
     length
 }
 
-/// Returns the clerk whose number is in a target, whether something is served there or not.
+/// Returns the clerk whose number is in a target, whether or not anything is served there.
 pub(crate) fn clerk_under(target: &[u8]) -> Option<u32>
     ensures { result ≡ clerk_under target.now }
 {
@@ -61,13 +59,9 @@ pub(crate) fn clerk_under(target: &[u8]) -> Option<u32>
     }
 }
 
-/// Returns why authentication of a clerk failed, by the header fields, whose names and values are in a buffer.
-fn kept_out_by(
-    held: &Codes,
-    clerk: u32,
-    buffer: &[u8],
-    headers: &[HeaderSpan],
-) -> Option<RequestError>
+/// Returns why authentication of a clerk failed, by the header fields, whose names and values are in a buffer; `None` if it
+/// succeeded.
+fn kept_out_by(held: &Codes, clerk: u32, buffer: &[u8], headers: &[HeaderSpan]) -> Option<RequestError>
     requires { All (IsHeaderWithin (length buffer.now)) headers.now }
     ensures { result ≡ kept_out_by (holders_of held.now) clerk (sent_codes (map (header_bytes buffer.now) headers.now)) }
 {
@@ -84,7 +78,7 @@ fn kept_out_by(
     }
 }
 
-/// Returns why authentication failed at the gate, by the clerk whose number is in the target.
+/// Returns why authentication failed at the gate, by the clerk whose number is in the target, if one is.
 pub(crate) fn kept_out(
     gate: Option<Gate<'_>>,
     clerk: Option<u32>,
@@ -114,41 +108,21 @@ fn is_wrong_code(why: Option<RequestError>) -> bool
     }
 }
 
-/// Returns the authentication of a request with these header fields and this target.
-fn authentication_at(
-    settings: HttpSettings<'_>,
-    buffer: &[u8],
-    headers: &[HeaderSpan],
-    target: &[u8],
+/// Returns the authentication of a request at a gate, by the clerk whose number is in its target, and by why authentication
+/// failed.
+pub(crate) fn authentication_by(
+    gate: Option<Gate<'_>>,
+    clerk: Option<u32>,
+    why: Option<RequestError>,
 ) -> Option<Authentication>
-    requires { All (IsHeaderWithin (length buffer.now)) headers.now }
-    ensures { option_map authentication_entry result ≡ authentication_at (settings_entry settings.entry) (map (header_bytes buffer.now) headers.now) target.now }
+    ensures { (fields : List NamedValue) → why ≡ kept_out (option_map gate_entry gate.entry) clerk fields
+        → option_map authentication_entry result ≡ authentication_by (option_map gate_entry gate.entry) clerk fields }
 {
-    if is_foreign(settings.origin, buffer, headers) {
-        return None;
-    }
-    let gate = settings.gate?;
-    let clerk = clerk_under(target)?;
-    let why = kept_out_by(gate.codes, clerk, buffer, headers);
-    Some(Authentication {
-        clerk,
-        is_wrong: is_wrong_code(why),
-    })
-}
-
-/// Returns the authentication of a request by its head alone, whatever its method is, and whether anything is served at its target.
-/// There is none without a gate. Allocates nothing.
-pub fn authentication_of(settings: HttpSettings<'_>, got: &[u8]) -> Option<Authentication>
-    ensures { IsAuthentication (settings_entry settings.entry) got.now (option_map authentication_entry result) }
-{
-    let mut headers = [EMPTY_HEADER_SPAN; MAX_HEADERS];
-    let front = &got[..got.len().min(MAX_HEAD_BYTES)];
-    match parse_request(front, &mut headers) {
-        Ok(Status::Complete(spans)) => {
-            let headers = &headers[..spans.headers];
-            authentication_at(settings, front, headers, spans.path.of(front))
-        }
-        Ok(Status::Partial) => None,
-        Err(_) => None,
+    match (gate, clerk) {
+        (Some(_), Some(clerk)) => Some(Authentication {
+            clerk,
+            is_wrong: is_wrong_code(why),
+        }),
+        _ => None,
     }
 }

@@ -40,7 +40,7 @@ fn fill<R: Source>(reader: &mut R, room: &mut [u8]) -> Result<bool, Broken>
     Ok(true)
 }
 
-/// Returns a buffer of some size that begins with some bytes.
+/// Returns a buffer of this size that begins with these bytes.
 fn buffer_from(alloc: Global, front: &[u8], size: usize) -> Result<Vec<u8>, AllocError>
     requires { length front.now ≤ size }
     ensures size { IfOk result (λ buffer. vec_len buffer ≡ size) }
@@ -52,8 +52,8 @@ fn buffer_from(alloc: Global, front: &[u8], size: usize) -> Result<Vec<u8>, Allo
     Ok(buffer)
 }
 
-/// Reads a body of some size, of which the bytes that were read after the head are the first. Returns `None` if the source ends
-/// before the body does.
+/// Reads a body of this size, which begins with the bytes that were already read after the head. Returns `None` if the source
+/// ends before the body does.
 ///
 /// `Broken` comes only from the source, which counts one failure more, and only while the body isn't complete.
 pub(crate) fn read_body<R: Source>(
@@ -77,7 +77,7 @@ pub(crate) fn read_body<R: Source>(
     }
 }
 
-/// Returns the text of a value, if it is one.
+/// Returns the text of a value, if the value is a text.
 fn text_in(value: Value) -> Option<String>
     ensures { option_map string_bytes result ≡ as_str (view value) }
 {
@@ -87,7 +87,7 @@ fn text_in(value: Value) -> Option<String>
     }
 }
 
-/// Returns the round that a value gives.
+/// Returns the round in a value, if the value is a number of 32 bits.
 fn round_in(value: &Value) -> Option<u32>
     ensures { result ≡ round_in (view value.now) }
 {
@@ -95,7 +95,7 @@ fn round_in(value: &Value) -> Option<u32>
     u32::try_from(round).ok()
 }
 
-/// Returns the texts of a list of values, if each is one.
+/// Returns the texts in a list of values, if all of them are texts.
 fn texts_in(alloc: Global, values: Vec<Value>) -> Result<Option<Vec<String>>, AllocError>
     ensures { IfOk result (λ found. option_map (λ texts. map string_bytes texts.items) found ≡ texts_in (items_view values.items)) }
 {
@@ -109,7 +109,7 @@ fn texts_in(alloc: Global, values: Vec<Value>) -> Result<Option<Vec<String>>, Al
     Ok(Some(texts))
 }
 
-/// Returns the papers that a value gives.
+/// Returns the papers in a value, if the value is a list of texts.
 fn papers_in(alloc: Global, value: Value) -> Result<Option<Vec<String>>, AllocError>
     ensures { IfOk result (λ found. option_map (λ texts. map string_bytes texts.items) found ≡ papers_in (view value)) }
 {
@@ -119,7 +119,7 @@ fn papers_in(alloc: Global, value: Value) -> Result<Option<Vec<String>>, AllocEr
     }
 }
 
-/// Returns the values of the members `id`, `papers` and `round`, if an object has exactly these.
+/// Returns the values of the members `id`, `papers` and `round`, if an object has exactly these members.
 fn key_members(mut members: Map<String, Value>) -> Option<(Value, Value, Value)>
     ensures { option_map (λ found. (view found.0, view found.1, view found.2)) result ≡ key_members (members_view members.entries) }
 {
@@ -136,7 +136,7 @@ fn key_members(mut members: Map<String, Value>) -> Option<(Value, Value, Value)>
     }
 }
 
-/// Returns the keying that three values give.
+/// Returns the keying made of three values, if each of them has its type.
 fn said_by(
     alloc: Global,
     id: Value,

@@ -1,10 +1,10 @@
 //! Whether a request is complete.
 
-/// Whether a request of which some bytes came is complete.
+/// Whether the bytes that were received of a request are a complete request.
 #[derive(Clone, Copy, PartialEq, Eq)]
 pub enum Completeness {
-    /// It is complete: the bytes ask the same whatever follows them.
+    /// Nothing: what they ask, they ask whatever follows.
     Complete,
-    /// It needs at least so many bytes in all.
+    /// Bytes: fewer than so many in all are never enough.
     AtLeast(usize),
 }

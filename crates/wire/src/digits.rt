@@ -1,4 +1,4 @@
-//! Numbers that are written in digits.
+//! Decimal numbers.
 
 ghost use Rattle.std.specs.Prelude.{◌≡◌, ◌+◌, ◌<◌, true, length, min};
 ghost use Rattle.std.specs.Char.{is_ascii_digit};
@@ -28,7 +28,7 @@ pub(crate) fn number_in(text: &str) -> Option<u32>
     text.parse().ok()
 }
 
-/// Returns the number that some digits make, or `most` if it is greater.
+/// Returns the value of some digits, or `most` if the value is greater.
 pub(crate) fn capped_value(digits: &[u8], most: u32) -> u64
     requires { list_all is_ascii_digit digits.now ≡ true }
     ensures { result ≡ min (digits_value 10 digits.now) most }

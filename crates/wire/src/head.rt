@@ -16,8 +16,8 @@ pub const MAX_HEAD_BYTES: usize = 8192;
 /// The most headers that a head may have.
 pub const MAX_HEADERS: usize = 32;
 
-/// Where a head is in the buffer into which it was read, and how much of the buffer is filled: with the head, and with bytes after
-/// it.
+/// The spans of a head in the buffer into which it was read, and how much of the buffer is filled: with the head, and with the
+/// bytes after it.
 #[derive(Clone, Copy)]
 pub(crate) struct Front {
     pub spans: RequestSpans,

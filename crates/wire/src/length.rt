@@ -6,14 +6,14 @@ ghost use Rattle.std.specs.Str.{str_eq_ignore_ascii_case};
 ghost use Rattle.httparse.specs.Spans.{IsHeaderWithin, header_bytes};
 ghost use Rattle.wire.specs.Lengths.{body_length, length_in, value_listed, values_of};
 
-use crate::digits::{all_digits, capped_value};
 use crate::request_error::RequestError;
+use crate::digits::{all_digits, capped_value};
 use httparse::spans::HeaderSpan;
 
 /// The most bytes that a body may have.
 pub const MAX_BODY_BYTES: u32 = 1_048_576;
 
-/// Parses a length, up to the greatest.
+/// Parses the length of a body; `TooLarge` if it is over the limit.
 fn length_in(text: &[u8]) -> Result<usize, RequestError>
     ensures is { result ≡ length_in text.now }
     ensures fits { IfOk result (λ length. length ≤ MAX_BODY_BYTES) }
@@ -28,14 +28,14 @@ fn length_in(text: &[u8]) -> Result<usize, RequestError>
     Ok(length as usize)
 }
 
-/// Returns whether a header's name is another, whatever the case of their letters.
+/// Returns whether two header names are equal, ignoring the case of letters.
 pub(crate) fn is_named(name: &[u8], other: &[u8]) -> bool
     ensures { result ≡ str_eq_ignore_ascii_case name.now other.now }
 {
     name.eq_ignore_ascii_case(other)
 }
 
-/// Returns the value of the header with a name, if there is one; `BadRequest` if there are several.
+/// Returns the value of the header with this name, if there is one; `BadRequest` if there are several.
 pub(crate) fn value_of<'b>(
     buffer: &'b [u8],
     headers: &[HeaderSpan],
@@ -57,8 +57,8 @@ pub(crate) fn value_of<'b>(
     Ok(found)
 }
 
-/// Returns the length of a body, by the header fields, whose names and values are in a buffer. It is an error if there is a
-/// transfer coding, or more than one length; without a length it is 0.
+/// Returns the length of a body by the header fields, whose names and values are in a buffer. Without a length it is 0. A
+/// transfer coding is an error, and so is more than one length.
 pub(crate) fn body_length(buffer: &[u8], headers: &[HeaderSpan]) -> Result<usize, RequestError>
     requires { All (IsHeaderWithin (length buffer.now)) headers.now }
     ensures is { result ≡ body_length (map (header_bytes buffer.now) headers.now) }

@@ -1,46 +1,50 @@
 //! Keying and reading over HTTP, one request for each connection.
 //!
-//! [`serve_one`] reads a request, asks the office, and writes the response. It serves `POST /clerks/{c}/batches/{b}/keying`, `GET
-//! /clerks/{c}/work`, `GET /wards/{w}/sheet` and `GET /wards/{w}/result`; and at a gate `GET /clerks/{c}/`, `GET /clerks/{c}/leave`
-//! and `GET /clerks/{c}/batches/{b}/candidates`. [`read_request`] returns what is asked, [`HttpRequest`], or why it is rejected
-//! before the office is asked, [`RequestError`]. [`completeness_of`] says whether a request is complete.
+//! Seven routes are served: `POST /clerks/{c}/batches/{b}/keying`, `GET /clerks/{c}/work`, `GET /wards/{w}/sheet` and
+//! `GET /wards/{w}/result`; and with codes also `GET /clerks/{c}/`, `GET /clerks/{c}/leave` and
+//! `GET /clerks/{c}/batches/{b}/candidates`. [`Routes`] has these seven, and a server makes it once.
 //!
-//! [`HttpSettings`] are the settings. A page from elsewhere in a browser of this machine can't ask anything: each request with a
-//! header that shows one is rejected. [`Origin`] is that of pages that come through a proxy in front. At a [`Gate`] whatever is
-//! under a clerk's number needs that clerk's code. [`authentication_of`] says whose number that is, and whether a wrong code came.
-//! [`write_wait_response`] responds to a client that must wait because of wrong codes.
+//! [`parse`] parses the head of a request once. What it returns, [`Parsed`], says whether bytes are still lacking ([`Completeness`]), and
+//! under whose number the request asks ([`Authentication`]). With the bytes it says what is asked, [`HttpRequest`], or why that is denied before the
+//! office is asked, [`RequestError`]. [`respond`] asks the office, and writes the response. [`serve_one`] serves one connection from any
+//! reader: it reads what is asked ([`read_request`]) by the same head.
 //!
-//! `specs/Requests.antt` defines what bytes ask, and `specs/Completeness.antt` when they are complete. `specs/Gates.antt` defines
-//! what a gate lets in under a clerk's number, and `specs/Origins.antt` what shows that a page from elsewhere sent the bytes.
-//! `specs/Targets.antt` defines the targets, and `specs/Responses.antt` the bytes of a response. `specs/Serving.antt` defines the
-//! response at a state of the office, and what each end of a connection leaves.
+//! [`HttpSettings`] are the settings of HTTP: the [`Origin`] of pages that come through a proxy, and the [`Gate`], if any.
+//! [`plain`] serves a connection without either. A request with a header which shows that a page from elsewhere sent it is
+//! rejected. At a gate, everything under a clerk's number requires that clerk's code. [`write_wait_response`] writes the response
+//! to a rate-limited client.
+//!
+//! `specs/Requests.antt` defines what the bytes of a client ask, `specs/Completeness.antt` when they are a complete request, and
+//! `specs/Parsing.antt` what a parsed head says of them. `specs/Gates.antt` defines authentication, and `specs/Origins.antt`
+//! which headers show that a page from elsewhere sent the request. `specs/Targets.antt` defines what a target names, and
+//! `specs/Responses.antt` the bytes of a response. `specs/Serving.antt` defines the response at a state of the office, and what
+//! each outcome of a connection leaves.
 //!
 //! ```text
-//! match serve_one(alloc, settings, &mut reader, &mut writer, &mut office) {
-//!     Served::Answered(status) => ..,
-//!     Served::ReadFailed => ..,       // the office wasn't asked
-//!     Served::WriteFailed => ..,      // what the office answered stands
+//! let parsed = parse(given, &routes, got);
+//! match parsed.lacks(got.len()) {
+//!     Lacks::AtLeast(wanted) => ..,     // more is to come
+//!     Lacks::Complete => respond(alloc, parsed.asked(alloc, given, got)?, &mut writer, &mut office),
 //! }
 //! ```
 #![tactic(auto)]
 
 pub mod request_error;
-// what is asked: the head, what its target names, and the body
-mod authentication;
-mod body;
-mod completeness;
-mod digits;
-mod head;
-mod incomplete;
-mod length;
-pub mod origin;
-pub mod plain;
-mod read_failure;
+// requests: the head, what its target names, and the body
 pub mod request;
-mod rest;
+mod body;
+mod digits;
 pub mod settings;
+mod head;
+mod authentication;
+mod completeness;
+mod length;
+mod origin;
+pub mod parsed;
+pub mod plain;
 pub mod target;
-// the response
+mod read_failure;
+// responses
 mod bodies;
 mod candidates;
 mod response;
@@ -49,14 +53,14 @@ mod work;
 mod answering;
 mod serving;
 
-pub use authentication::{Authentication, authentication_of};
-pub use completeness::Completeness;
-pub use incomplete::completeness_of;
-pub use origin::Origin;
-pub use read_failure::ReadFailure;
 pub use request::{HttpRequest, Keying, read_request};
 pub use request_error::{RequestError, Verb};
-pub use rest::body_to_come;
-pub use serving::{Served, serve_one, write_gone_response, write_wait_response};
 pub use settings::{Gate, HttpSettings, Page, Show};
-pub use target::Resource;
+pub use head::MAX_HEAD_BYTES;
+pub use authentication::Authentication;
+pub use completeness::Completeness;
+pub use origins::Origin;
+pub use parsed::{Head, Parsed, parse};
+pub use serving::{Served, respond, serve_one, write_gone_response, tell_no_memory, write_wait_response};
+pub use target::{Resource, Routes};
+pub use read_failure::ReadFailure;

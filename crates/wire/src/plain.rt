@@ -1,4 +1,4 @@
-//! One connection to an office that was given nothing for its clients: no origin, and no codes.
+//! One connection to an office without settings for its clients: no origin, and no codes.
 
 ghost use Rattle.std.specs.Prelude.{◌≡◌, ◌+◌, ◌-◌, ◌^◌, ◌<◌, true, false};
 ghost use Rattle.sqlite.specs.State.{HasCleanDisk};
@@ -9,15 +9,16 @@ ghost use Rattle.wire.specs.Requests.{HasRead, IsWanting};
 ghost use Rattle.wire.specs.Gates.{given_nothing};
 ghost use Rattle.wire.specs.Serving.{OnAnswered, OnReadFailed, OnWriteFailed, Serves, ServesClosed};
 
-use crate::serving::Served;
 use crate::settings::HttpSettings;
+use crate::serving::Served;
 use office::Office;
 use sqlite::Alter;
 use std::alloc::Global;
 use votes::{Sink, Source};
 
-/// Serves one connection: reads a request, hands it on to the office, and writes the response. It is [`serve_one`](crate::serve_one)
-/// with nothing given: requests of pages on other machines are denied, and a clerk is known by number alone.
+/// Serves one connection: reads a request, processes it in the office, and writes the response. It is
+/// [`serve_one`](crate::serve_one) without settings: requests of pages on other machines are rejected, and a clerk is known by
+/// number alone.
 pub fn serve_one<R: Source, W: Sink, S: Alter>(
     alloc: Global,
     reader: &mut R,

@@ -1,26 +1,22 @@
 //! What a request asks.
 
-ghost use Rattle.std.specs.Prelude.{◌≡◌, ◌≢◌, ◌-◌, ◌^◌, ◌<◌, ◌++◌, IfErr, IfOk, IfSome, List, Ok, OnOk, Option, length, map, option_map, take, ℕ};
-ghost use Rattle.wire.specs.Requests.{Asks, AsksByHolder, AsksOneThing, ShowEntry, DeniesForeign, FailsAfter, IsUnread, IsWanting, MissesAt};
-ghost use Rattle.wire.specs.Requests.{MissesBody, TakesOwn, asked_at, http_request_entry, asked_for, asked_with, page_at, verb_of, verb_text, wanted};
+ghost use Rattle.std.specs.Prelude.{◌≡◌, ◌≢◌, ◌-◌, ◌^◌, ◌<◌, ◌++◌, IfErr, IfOk, IfSome, List, Ok, OnOk, option_map, ℕ};
+ghost use Rattle.wire.specs.Requests.{Asks, AsksByHolder, AsksOneThing, ShowEntry, DeniesForeign, FailsAfter, IsUnread, IsWanting};
+ghost use Rattle.wire.specs.Requests.{MissesBytes, TakesOwn, http_request_entry, asked_for, asked_of, page_at, verb_of, verb_text};
 ghost use Rattle.wire.specs.Gates.{GateEntry, HttpSettingsEntry, gate_entry, settings_entry, needs_gate, reading_needs_gate, served_at};
 ghost use Rattle.wire.specs.Targets.{NamesItsOwn, named_by};
 ghost use Rattle.wire.specs.Serving.{IsDeniedAlike, IsShownAlike};
 ghost use Rattle.wire.specs.declared.request_error.RequestError.{RequestError};
-ghost use Rattle.httparse.specs.Spans.{IsHeaderWithin, IsRequestWithin, header_bytes, span_bytes};
-ghost use Rattle.std.specs.List.{All};
 
-use crate::authentication::{clerk_under, kept_out};
-use crate::body::{KeyingBody, keying_of, read_body};
-use crate::head::{MAX_HEAD_BYTES, MAX_HEADERS, read_head};
-use crate::length::body_length;
-use crate::origin::is_foreign;
-use crate::read_failure::ReadFailure;
+use crate::body::read_body;
 use crate::request_error::{RequestError, Verb};
 use crate::settings::{Gate, HttpSettings, Show};
-use crate::target::{Resource, Target, named_by};
-use httparse::spans::{EMPTY_HEADER_SPAN, HeaderSpan, RequestSpans};
-use std::alloc::{AllocError, Global};
+use crate::head::{MAX_HEAD_BYTES, MAX_HEADERS, read_head};
+use crate::parsed::Head;
+use crate::target::{Resource, Routes, Target};
+use crate::read_failure::ReadFailure;
+use httparse::spans::EMPTY_HEADER_SPAN;
+use std::alloc::Global;
 use votes::Source;
 
 /// A clerk's keying of a batch in a round: its id, and the marks text of each paper. Clerk and batch have 1 to 5 digits, and the
@@ -37,18 +33,18 @@ pub struct Keying {
 /// What a request asks.
 #[derive(Drop)]
 pub enum HttpRequest<'a> {
-    /// Nothing that the office could be asked.
+    /// Nothing: the request is rejected before the office is asked.
     Denied(RequestError),
-    /// To be shown something for a clerk, whatever the office's state is.
+    /// To show a clerk something that doesn't depend on the office's state.
     Shown(u32, Show<'a>),
     /// To keep a clerk's keying.
     Keying(Keying),
-    /// To read something.
+    /// To read a resource.
     Resource(Resource),
 }
 
 impl Verb {
-    /// Returns the verb as it is written.
+    /// Returns the name of the method.
     pub(crate) fn text(self) -> &'static str
         ensures { result.now ≡ verb_text self }
     {
@@ -60,7 +56,7 @@ impl Verb {
 }
 
 impl Resource {
-    /// Returns whether it is served at a gate only.
+    /// Returns whether it is served only at a gate.
     fn needs_gate(&self) -> bool
         ensures { result ≡ reading_needs_gate self.now }
     {
@@ -74,7 +70,7 @@ impl Resource {
 }
 
 impl Target {
-    /// Returns the only verb for the target.
+    /// Returns the only method for the target.
     pub(crate) fn verb(&self) -> Verb
         ensures { result ≡ verb_of self.now }
     {
@@ -84,7 +80,7 @@ impl Target {
         }
     }
 
-    /// Returns whether it is served at a gate only.
+    /// Returns whether it is served only at a gate.
     fn needs_gate(&self) -> bool
         ensures { result ≡ needs_gate self.now }
     {
@@ -97,59 +93,19 @@ impl Target {
     }
 }
 
-/// Reads a clerk's keying of a batch, after the head and some of the bytes that follow it were read.
-fn read_keying<'a, R: Source>(
-    alloc: Global,
-    reader: &mut R,
-    size: Result<usize, RequestError>,
-    behind: &[u8],
-    clerk: u32,
-    batch: u32,
-) -> Result<HttpRequest<'a>, ReadFailure>
-    requires { R.failed reader.old < 2 ^ 64 - 1 }
-    ensures asks { IfSome (R.held reader.old) (λ left. IfOk result (λ asked. http_request_entry asked ≡ asked_with clerk batch size (behind.now ++ left))) }
-    ensures ok { OnOk result (R.failed reader.new ≡ R.failed reader.old) }
-    ensures err { IfErr result (IsUnread (R.failed reader.old) (R.failed reader.new)) }
-    ensures wanting { IfErr result (FailsAfter (R.held reader.old) (R.held reader.new) (λ got. MissesBody size (behind.now ++ got))) }
+/// Returns what a target names, if that is served with this gate or without one.
+pub(crate) fn served_at(gate: Option<Gate<'_>>, routes: &Routes, target: &[u8]) -> Option<Target>
+    ensures { result ≡ served_at (option_map gate_entry gate.entry) (named_by target.now) }
 {
-    let size = match size {
-        Ok(size) => size,
-        Err(why) => return Ok(HttpRequest::Denied(why)),
-    };
-    let Some(body) = read_body(alloc, reader, behind, size)? else {
-        return Ok(HttpRequest::Denied(RequestError::BadRequest));
-    };
-    match keying_of(alloc, &body)? {
-        Some(KeyingBody { id, round, papers }) => Ok(HttpRequest::Keying(Keying {
-            clerk,
-            batch,
-            id,
-            round,
-            papers,
-        })),
-        None => Ok(HttpRequest::Denied(RequestError::BadRequest)),
-    }
-}
-
-/// Returns what a target names that is served, at the gate or without one. The only error is a failed allocation.
-fn served_at(
-    alloc: Global,
-    gate: Option<Gate<'_>>,
-    target: &[u8],
-) -> Result<Option<Target>, AllocError>
-    ensures { IfOk result (λ found. found ≡ served_at (option_map gate_entry gate.entry) (named_by target.now)) }
-{
-    let Some(there) = named_by(alloc, target)? else {
-        return Ok(None);
-    };
+    let there = routes.named_by(target)?;
     if gate.is_none() && there.needs_gate() {
-        return Ok(None);
+        return None;
     }
-    Ok(Some(there))
+    Some(there)
 }
 
-/// Returns what is asked for there, if the verb is the right one.
-fn asked_for(method: &[u8], there: Option<Target>) -> Result<Target, RequestError>
+/// Returns what is asked for, if the method is the target's own; and otherwise why the request is rejected.
+pub(crate) fn asked_for(method: &[u8], there: Option<Target>) -> Result<Target, RequestError>
     ensures { result ≡ asked_for method.now there }
 {
     let Some(there) = there else {
@@ -163,31 +119,8 @@ fn asked_for(method: &[u8], there: Option<Target>) -> Result<Target, RequestErro
     }
 }
 
-/// Returns what is asked for: what a target names, if the verb is the right one, no page from elsewhere asks, and the gate lets the
-/// request in; or why it is rejected. The only error is a failed allocation.
-pub(crate) fn wanted(
-    alloc: Global,
-    settings: HttpSettings<'_>,
-    read: &[u8],
-    headers: &[HeaderSpan],
-    method: &[u8],
-    target: &[u8],
-) -> Result<Result<Target, RequestError>, AllocError>
-    requires { All (IsHeaderWithin (length read.now)) headers.now }
-    ensures { IfOk result (λ found. found ≡ wanted (settings_entry settings.entry) (map (header_bytes read.now) headers.now) method.now target.now) }
-{
-    if is_foreign(settings.origin, read, headers) {
-        return Ok(Err(RequestError::Forbidden));
-    }
-    if let Some(why) = kept_out(settings.gate, clerk_under(target), read, headers) {
-        return Ok(Err(why));
-    }
-    let there = served_at(alloc, settings.gate, target)?;
-    Ok(asked_for(method, there))
-}
-
-/// Returns the page of a gate, for a clerk.
-fn page_at<'a>(gate: Option<Gate<'a>>, clerk: u32) -> HttpRequest<'a>
+/// Returns the page of a gate, for a clerk; without a gate the request is rejected.
+pub(crate) fn page_at<'a>(gate: Option<Gate<'a>>, clerk: u32) -> HttpRequest<'a>
     ensures { http_request_entry result ≡ page_at (option_map gate_entry gate.entry) clerk }
 {
     match gate {
@@ -196,45 +129,32 @@ fn page_at<'a>(gate: Option<Gate<'a>>, clerk: u32) -> HttpRequest<'a>
     }
 }
 
-/// Reads what a request asks, after the head and some of the bytes that follow it were read.
+/// Reads the rest of a request whose head was parsed and is followed by these bytes, and returns what the request asks.
 fn read_behind<'a, R: Source>(
     alloc: Global,
     settings: HttpSettings<'a>,
     reader: &mut R,
-    read: &[u8],
-    headers: &[HeaderSpan],
-    spans: RequestSpans,
+    head: &Head,
+    behind: &[u8],
 ) -> Result<HttpRequest<'a>, ReadFailure>
-    requires within { IsRequestWithin read.now headers.now spans }
-    requires failures { R.failed reader.old < 2 ^ 64 - 1 }
-    ensures asks { IfSome (R.held reader.old) (λ left. IfOk result (λ asked. http_request_entry asked ≡ asked_at (settings_entry settings.entry) read.now headers.now spans left)) }
+    requires { R.failed reader.old < 2 ^ 64 - 1 }
+    ensures asks { IfSome (R.held reader.old) (λ left. IfOk result (λ asked. http_request_entry asked ≡ asked_of (settings_entry settings.entry).gate head.now.wanted head.now.body
+        (behind.now ++ left))) }
     ensures ok { OnOk result (R.failed reader.new ≡ R.failed reader.old) }
     ensures err { IfErr result (IsUnread (R.failed reader.old) (R.failed reader.new)) }
-    ensures wanting { IfErr result (FailsAfter (R.held reader.old) (R.held reader.new) (MissesAt (settings_entry settings.entry) read.now headers.now spans)) }
-    ensures untouched { ((clerk batch : ℕ) → wanted (settings_entry settings.entry) (map (header_bytes read.now) (take spans.headers headers.now))
-        (span_bytes read.now spans.method) (span_bytes read.now spans.path) ≢ Ok (Target.Keying clerk batch)) → reader.new ≡ reader.old }
+    ensures wanting { IfErr result (FailsAfter (R.held reader.old) (R.held reader.new) (λ got. MissesBytes head.now.wanted head.now.body (behind.now ++ got))) }
+    ensures untouched { ((clerk batch : ℕ) → head.now.wanted ≢ Ok (Target.Keying clerk batch)) → reader.new ≡ reader.old }
 {
-    let headers = &headers[..spans.headers];
-    match wanted(
-        alloc,
-        settings,
-        read,
-        headers,
-        spans.method.of(read),
-        spans.path.of(read),
-    )? {
-        Ok(Target::Keying { clerk, batch }) => {
-            let size = body_length(read, headers);
-            read_keying(alloc, reader, size, &read[spans.len..], clerk, batch)
-        }
-        Ok(Target::Page { clerk }) => Ok(page_at(settings.gate, clerk)),
-        Ok(Target::Leave { clerk }) => Ok(HttpRequest::Shown(clerk, Show::Left)),
-        Ok(Target::Resource(what)) => Ok(HttpRequest::Resource(what)),
-        Err(why) => Ok(HttpRequest::Denied(why)),
+    let (Ok(Target::Keying { .. }), Ok(size)) = (head.wanted, head.body) else {
+        return Ok(head.asked_with(alloc, settings, behind)?);
+    };
+    match read_body(alloc, reader, behind, size)? {
+        Some(body) => Ok(head.asked_with(alloc, settings, &body)?),
+        None => Ok(HttpRequest::Denied(RequestError::BadRequest)),
     }
 }
 
-/// Reads what a request asks.
+/// Reads a request, and returns what it asks.
 fn read_from_head<'a, R: Source>(
     alloc: Global,
     settings: HttpSettings<'a>,
@@ -251,30 +171,27 @@ fn read_from_head<'a, R: Source>(
     let Some(front) = read_head(reader, &mut buffer, &mut headers)? else {
         return Ok(HttpRequest::Denied(RequestError::BadRequest));
     };
-    read_behind(
-        alloc,
-        settings,
-        reader,
-        &buffer[..front.filled],
-        &headers,
-        front.spans,
-    )
+    let routes = Routes::new(alloc)?;
+    let read = &buffer[..front.filled];
+    let head = Head::found(settings, &routes, read, &headers, front.spans);
+    read_behind(alloc, settings, reader, &head, &read[front.spans.len..])
 }
 
-/// Reads what a request asks, by the settings: the origin of pages that come through a proxy, and the gate, if any.
+/// Reads a request, and returns what it asks, by the settings: the origin of pages that come through a proxy, and the gate, if
+/// any.
 ///
 /// A request with a header which shows that a page from elsewhere sent it, or that it came by a foreign name, is `Forbidden`,
-/// whatever else it asks. At a gate a request whose target begins with a clerk's number, such as `/clerks/4/`, is let in only with
-/// that clerk's code. Otherwise it is `Unauthorized`, or a `WrongCode`, whatever else it asks. So what is asked under a clerk's
-/// number is asked by the holder of that clerk's code. Every other request needs no such check. The response to a rejected request
-/// is the same at every state of the office, and so is what is `Shown`.
+/// whatever else it asks. At a gate a request whose target begins with a clerk's number, such as `/clerks/4/`, is let in only
+/// with that clerk's code. Otherwise it is `Unauthorized`, or a `WrongCode`, whatever else it asks. So what is asked under a
+/// clerk's number is asked by the holder of that clerk's code. Every other request needs no such check. The response to a
+/// rejected request is the same at every state of the office, and so is what is `Shown`.
 ///
-/// `Broken` comes only from the source, which then counts one failure more. It comes only while what was read doesn't say yet what
-/// is asked. Once it does, nothing more is read, because the client may wait for its response. Some of the bytes after the request
-/// may have been read.
+/// `Broken` comes only from the source, which then counts one failure more. It comes only while what was read doesn't say yet
+/// what is asked. Once it does, nothing more is read, because the client may wait for its response. Some of the bytes that follow
+/// the request may have been read.
 ///
-/// What is asked for depends only on the target, which names exactly that of which it is the path. It is one of the seven of this
-/// crate, with numbers of 1 to 5 digits in it, the first not 0. Any other target names nothing.
+/// What is asked for depends only on the target, which names exactly what it is the path of. That is one of the seven routes of
+/// this crate, with numbers of 1 to 5 digits in it, the first not 0. Any other target names nothing.
 pub fn read_request<'a, R: Source>(
     alloc: Global,
     settings: HttpSettings<'a>,

@@ -10,7 +10,7 @@ pub enum Verb {
 /// Why a request is rejected before the office is asked.
 #[derive(Clone, Copy, Debug, PartialEq, Eq)]
 pub enum RequestError {
-    /// Its head can't be read, the length of its body can't be known, or the body is no keying.
+    /// Its head can't be read, the length of its body isn't known, or the body isn't a keying.
     BadRequest,
     /// A page from elsewhere sent it, or it came by a foreign name.
     Forbidden,

@@ -12,7 +12,7 @@ use crate::settings::{Page, Show};
 use http::StatusCode;
 use std::alloc::{AllocError, Global};
 
-/// The kind of text that a body is, for its media type.
+/// The media type of a body.
 #[derive(Clone, Copy)]
 pub(crate) enum Content {
     Text,
@@ -20,7 +20,7 @@ pub(crate) enum Content {
     Html,
 }
 
-/// The bytes of a response; constant ones need no memory.
+/// The bytes of a response; constant ones need no allocation.
 #[derive(Drop)]
 pub(crate) enum Bytes {
     Fixed(&'static str),
@@ -28,7 +28,7 @@ pub(crate) enum Bytes {
 }
 
 impl Bytes {
-    /// Returns the bytes as they are written.
+    /// Returns the bytes to write.
     pub(crate) fn as_slice(&self) -> &[u8]
         ensures { result.now ≡ told_bytes self.now }
     {
@@ -65,7 +65,7 @@ const ONLY_POST: &str =
 const TOO_LARGE: &str =
     "HTTP/1.1 413 Payload Too Large\r\nContent-Type: application/json\r\nContent-Length: 21\r\nConnection: close\r\n\r\n{\"error\":\"too large\"}";
 
-/// The response that a client must wait.
+/// The response to a client that must wait.
 const WAITS: &str =
     "HTTP/1.1 429 Too Many Requests\r\nContent-Type: application/json\r\nContent-Length: 32\r\nRetry-After: 60\r\nConnection: close\r\n\r\n{\"error\":\"too many wrong codes\"}";
 
@@ -80,11 +80,11 @@ const LEFT: &str =
 /// The response to a request without a code, or with a wrong one.
 const NO_CODE: &str = "{\"error\":\"unauthorized\"}";
 
-/// The response when an allocation failed, and none is left to write another.
+/// The response after a failed allocation; it is constant, so it needs none itself.
 const NO_MEMORY: &str =
     "HTTP/1.1 503 Service Unavailable\r\nContent-Type: application/json\r\nContent-Length: 13\r\nConnection: close\r\n\r\n{\"fault\":101}";
 
-/// The response to a request by another method than the one that is served.
+/// Returns the response to a request with another method than the one that is served.
 fn only_text(allowed: Verb) -> &'static str
     ensures { result.now ≡ response_bytes (denied_response (RequestError.MethodNotAllowed allowed)) }
 {
@@ -94,7 +94,7 @@ fn only_text(allowed: Verb) -> &'static str
     }
 }
 
-/// Returns the clerk whose code is asked for, if the error is about one's.
+/// Returns the clerk whose code is missing or wrong, if that is the error.
 fn clerk_kept_out(why: RequestError) -> Option<u32>
     ensures { result ≡ clerk_kept_out why }
 {
@@ -105,7 +105,7 @@ fn clerk_kept_out(why: RequestError) -> Option<u32>
     }
 }
 
-/// Returns the response to a rejected request, which is constant if no clerk's code is asked for.
+/// Returns the response to a rejected request, which is constant unless a clerk's code is required.
 pub(crate) fn denied_text(why: RequestError) -> &'static str
     requires { clerk_kept_out why ≡ None }
     ensures { result.now ≡ response_bytes (denied_response why) }
@@ -156,26 +156,8 @@ fn phrase(status: StatusCode) -> &'static str
     }
 }
 
-#[tactic(auto, unfolding(crate::specs::Responses::lines_and_body))]
-/// Returns the lines of a response, with further header lines, an empty line, and the body.
-fn lines_and_body(
-    alloc: Global,
-    code: u16,
-    phrase: &str,
-    media_type: &str,
-    size: usize,
-    beside: &str,
-    body: &str,
-) -> Result<String, AllocError>
-    ensures { IfOk result (λ text. string_bytes text ≡ lines_and_body code phrase.now media_type.now size beside.now body.now) }
-{
-    format!(in alloc;
-        "HTTP/1.1 {code} {phrase}\r\nContent-Type: {media_type}\r\nContent-Length: {size}\r\n{beside}Connection: close\r\n\r\n{body}"
-    )
-}
-
 #[tactic(auto, unfolding(crate::specs::Responses::code_line))]
-/// Returns the line that asks for a clerk's code.
+/// Returns the header line that asks for a clerk's code.
 fn code_line(alloc: Global, clerk: u32) -> Result<String, AllocError>
     ensures { IfOk result (λ text. string_bytes text ≡ code_line clerk) }
 {
@@ -183,7 +165,7 @@ fn code_line(alloc: Global, clerk: u32) -> Result<String, AllocError>
 }
 
 #[tactic(auto, unfolding(crate::specs::Responses::guard_lines))]
-/// Returns the lines that guard a page.
+/// Returns the header lines that restrict what a browser lets a page do.
 fn guard_lines(alloc: Global, policy: &str) -> Result<String, AllocError>
     ensures { IfOk result (λ text. string_bytes text ≡ guard_lines policy.now) }
 {
@@ -195,7 +177,8 @@ Cache-Control: no-store\r\n"
     )
 }
 
-/// Returns a response with a status, further header lines, and a body. The only error is a failed allocation.
+#[tactic(auto, unfolding(crate::specs::Responses::lines_and_body))]
+/// Returns a response with a status, further header lines, an empty line, and a body. The only error is a failed allocation.
 fn response_with(
     alloc: Global,
     status: StatusCode,
@@ -205,15 +188,10 @@ fn response_with(
 ) -> Result<String, AllocError>
     ensures { IfOk result (λ text. string_bytes text ≡ lines_and_body status (phrase status) (media_type content) (length body.now) beside.now body.now) }
 {
-    let (phrase, media_type) = (phrase(status), media_type(content));
-    lines_and_body(
-        alloc,
-        status.as_u16(),
-        phrase,
-        media_type,
-        body.len(),
-        beside,
-        body,
+    let (code, phrase) = (status.as_u16(), phrase(status));
+    let (media_type, size) = (media_type(content), body.len());
+    format!(in alloc;
+        "HTTP/1.1 {code} {phrase}\r\nContent-Type: {media_type}\r\nContent-Length: {size}\r\n{beside}Connection: close\r\n\r\n{body}"
     )
 }
 
@@ -258,7 +236,7 @@ fn page_response_text(alloc: Global, page: Page<'_>) -> Result<String, AllocErro
 }
 
 impl Response {
-    /// Returns a response of a status by its text, or the one that says that memory is out.
+    /// Returns the response with this status and text, or the out-of-memory response if the text couldn't be allocated.
     fn of_text(status: u16, text: Result<String, AllocError>) -> Response
         ensures told { IfOk text (λ made. (result.status ≡ status) × (told_bytes result.bytes ≡ string_bytes made)) }
         ensures memory { OnErr text (IsWritten (fault_response 101) result) }
@@ -272,7 +250,8 @@ impl Response {
         }
     }
 
-    /// Returns the response to a rejected request; or the one that says that memory is out, if a clerk's code is asked for.
+    /// Returns the response to a rejected request, or the out-of-memory response if a clerk's code is required and the allocation
+    /// fails.
     pub(crate) fn denied(alloc: Global, why: RequestError) -> Response
         ensures { IsTold (denied_response why) result }
     {
@@ -295,7 +274,7 @@ impl Response {
         }
     }
 
-    /// Returns the response that shows something to a clerk, whatever the state is; or the one that says that memory is out.
+    /// Returns the response that shows something to a clerk, or the out-of-memory response if the allocation fails.
     pub(crate) fn shown(alloc: Global, show: Show<'_>) -> Response
         ensures { IsTold (shown_response (show_entry show.entry)) result }
     {
@@ -305,7 +284,7 @@ impl Response {
         }
     }
 
-    /// Returns the response that a client must wait.
+    /// Returns the response to a client that must wait.
     pub(crate) fn waits() -> Response
         ensures { IsWritten waits_response result }
     {
@@ -325,7 +304,7 @@ impl Response {
         }
     }
 
-    /// Returns the response when memory is out.
+    /// Returns the out-of-memory response.
     pub(crate) fn no_memory() -> Response
         ensures { IsWritten (fault_response 101) result }
     {
@@ -335,7 +314,7 @@ impl Response {
         }
     }
 
-    /// Returns a response with a status and a body, or the one that says that memory is out.
+    /// Returns a response with a status and a body, or the out-of-memory response if an allocation failed.
     pub(crate) fn made(
         alloc: Global,
         status: StatusCode,

@@ -1,27 +1,27 @@
-//! One connection: a request is read, the office is asked, and the response is written.
+//! One connection: a request is read and processed in the office, and the response is written.
 
-ghost use Rattle.std.specs.Prelude.{◌≡◌, ◌+◌, ◌-◌, ◌^◌, ◌<◌, false, true, IfOk, OnErr, OnOk};
+ghost use Rattle.std.specs.Prelude.{◌≡◌, ◌≢◌, ◌+◌, ◌-◌, ◌^◌, ◌<◌, false, true};
 ghost use Rattle.sqlite.specs.State.{HasCleanDisk};
 ghost use Rattle.sqlite.specs.Held.{state};
 ghost use Rattle.register.specs.Offices.{OfficeState};
 ghost use Rattle.store.specs.Offices.{IsAt};
-ghost use Rattle.wire.specs.Requests.{HasRead, IsWanting};
+ghost use Rattle.wire.specs.Requests.{HasRead, IsWanting, http_request_entry};
 ghost use Rattle.wire.specs.Gates.{settings_entry};
 ghost use Rattle.wire.specs.Responses.{fault_response, waits_response};
-ghost use Rattle.wire.specs.Told.{IsWritten};
-ghost use Rattle.wire.specs.Serving.{IsPut, IsServed, OnAnswered, OnReadFailed, OnWriteFailed, ReadiesClosed, ReadiesFor, Serves, ServesClosed};
+ghost use Rattle.wire.specs.Told.{IsTold, IsWritten};
+ghost use Rattle.wire.specs.Serving.{IsPut, IsServed, OnAnswered, OnReadFailed, OnWriteFailed, Readies, Serves, ServesClosed, closed_response};
 
 use crate::answering::answer;
-use crate::read_failure::ReadFailure;
-use crate::request::read_request;
-use crate::response::Response;
+use crate::request::{HttpRequest, read_request};
 use crate::settings::HttpSettings;
+use crate::response::Response;
+use crate::read_failure::ReadFailure;
 use office::Office;
 use sqlite::Alter;
 use std::alloc::Global;
-use votes::{Broken, Sink, Source, put_all};
+use votes::{Sink, Source, put_all};
 
-/// How a connection ended.
+/// How serving a connection ended.
 #[derive(Clone, Copy, Debug, PartialEq, Eq)]
 pub enum Served {
     /// A response with this status was written whole.
@@ -30,31 +30,6 @@ pub enum Served {
     ReadFailed,
     /// The writer failed: a beginning of the response was written.
     WriteFailed,
-}
-
-/// Returns the response to what a client asks, for which the office is asked.
-fn response_to<R: Source, S: Alter>(
-    alloc: Global,
-    settings: HttpSettings<'_>,
-    reader: &mut R,
-    office: &mut Office<S>,
-) -> Result<Response, Broken>
-    requires { R.failed reader.old < 2 ^ 64 - 1 }
-    ensures answers { HasCleanDisk (state S.Store office.new.held) → office.old.closed ≡ false → (s : OfficeState) → IsAt s (state S.Store office.old.held)
-        → IfOk result (λ response. ReadiesFor (settings_entry settings.entry) (R.held reader.old) s response office.new.closed (state S.Store office.new.held)) }
-    ensures read { OnOk result (R.failed reader.new ≡ R.failed reader.old) }
-    ensures failed { OnErr result (R.failed reader.new ≡ R.failed reader.old + 1) }
-    ensures wanting { OnErr result (HasRead (R.held reader.old) (R.held reader.new) (IsWanting (settings_entry settings.entry))) }
-    ensures unasked { OnErr result (office.new ≡ office.old) }
-    ensures closed { office.old.closed ≡ true → office.new ≡ office.old }
-    ensures closed_told { office.old.closed ≡ true → IfOk result (λ response. ReadiesClosed (settings_entry settings.entry) (R.held reader.old) response) }
-    ensures clean { HasCleanDisk (state S.Store office.new.held) → HasCleanDisk (state S.Store office.old.held) }
-{
-    match read_request(alloc, settings, reader) {
-        Ok(asked) => Ok(answer(alloc, office, asked)),
-        Err(ReadFailure::Memory) => Ok(Response::no_memory()),
-        Err(ReadFailure::Broken) => Err(Broken),
-    }
 }
 
 /// Writes a response.
@@ -70,7 +45,7 @@ fn put<W: Sink>(writer: &mut W, response: &Response) -> Served
     }
 }
 
-/// Writes that the client must wait: wrong codes came under the number for which it asks.
+/// Writes that the client must wait, because the limit of wrong codes is reached.
 ///
 /// `WriteFailed` comes only from the writer, which counts one failure more: a beginning of the response was written.
 pub fn write_wait_response<W: Sink>(writer: &mut W) -> Served
@@ -94,20 +69,56 @@ pub fn write_gone_response<W: Sink>(writer: &mut W) -> Served
     put(writer, &Response::gone())
 }
 
-/// Serves one connection: reads a request, asks the office, and writes the response.
+/// Writes that an allocation failed (101).
 ///
-/// `Answered`: the response to what the reader's bytes ask was written whole, the office is at the state after it, and neither the
-/// reader nor the writer failed. After a fault of the office the response is that fault (503). The office is then as it was; or it
-/// is closed, and a stop leaves the state before the request or, of an accepted one, the state after it. The response is 101 (503)
-/// if an allocation failed: for the request, which then wasn't sent to the office; for the response, and then the office is at the
-/// state after the request; or in the office, like any fault.
+/// `WriteFailed` comes only from the writer, which counts one failure more: a beginning of the response was written.
+pub fn tell_no_memory<W: Sink>(writer: &mut W) -> Served
+    requires { W.failed writer.old < 2 ^ 64 - 1 }
+    ensures told { IsServed (IsWritten (fault_response 101)) (W.taken writer.old) (W.taken writer.new) result }
+    ensures answered { OnAnswered result (W.failed writer.new ≡ W.failed writer.old) }
+    ensures write_failed { OnWriteFailed result (W.failed writer.new ≡ W.failed writer.old + 1) }
+{
+    put(writer, &Response::no_memory())
+}
+
+/// Processes a request in the office, and writes the response.
+///
+/// `WriteFailed` comes only from the writer, which counts one failure more: a beginning of the response was written, and the
+/// office's answer remains valid. A closed office stays as it is.
+pub fn respond<W: Sink, S: Alter>(
+    alloc: Global,
+    asked: HttpRequest<'_>,
+    writer: &mut W,
+    office: &mut Office<S>,
+) -> Served
+    requires { W.failed writer.old < 2 ^ 64 - 1 }
+    ensures served { HasCleanDisk (state S.Store office.new.held) → office.old.closed ≡ false → (s : OfficeState) → IsAt s (state S.Store office.old.held)
+        → IsServed (λ response. Readies s (http_request_entry asked.entry) response office.new.closed (state S.Store office.new.held)) (W.taken writer.old) (W.taken writer.new) result }
+    ensures put { result ≢ Served.ReadFailed }
+    ensures answered { OnAnswered result (W.failed writer.new ≡ W.failed writer.old) }
+    ensures write_failed { OnWriteFailed result (W.failed writer.new ≡ W.failed writer.old + 1) }
+    ensures closed { office.old.closed ≡ true → office.new ≡ office.old }
+    ensures closed_served { office.old.closed ≡ true → IsServed (IsTold (closed_response (http_request_entry asked.entry))) (W.taken writer.old) (W.taken writer.new) result }
+    ensures clean { HasCleanDisk (state S.Store office.new.held) → HasCleanDisk (state S.Store office.old.held) }
+{
+    let response = answer(alloc, office, asked);
+    put(writer, &response)
+}
+
+/// Serves one connection: reads a request, processes it in the office, and writes the response.
+///
+/// `Answered`: the response to what the reader's bytes ask was written whole, the office is at the state after it, and neither
+/// the reader nor the writer failed. After a fault of the office the response is that fault (503). The office is then as it was;
+/// or it is closed, and a stop leaves the state before the request or, of an accepted one, the state after it. The response is
+/// 101 (503) if an allocation failed: for the request, which then wasn't sent to the office; for the response, and then the
+/// office is at the state after the request; or in the office, like any fault.
 ///
 /// `ReadFailed` comes only from the reader, which counts one failure more, and only while what was read doesn't say yet what is
 /// asked. A failed read gets no response: nothing was written, and the office is as it was. `WriteFailed` comes only from the
 /// writer, which counts one failure more, while the reader counts none. A beginning of the response was written, the write isn't
-/// repeated, and what the office answered stands. A closed office answers that it is closed, 104 (503), if it is asked anything,
-/// and stays as it is. The response to a rejected request, such as one of a page from elsewhere, is the same at every state, and so
-/// is a page that is shown.
+/// repeated, and the office's answer remains valid. A closed office, if it is asked anything, answers that it is closed, 104
+/// (503), and stays as it is. The response to a rejected request, such as one of a page from elsewhere, is the same at every
+/// state, and so is a page that is shown.
 pub fn serve_one<R: Source, W: Sink, S: Alter>(
     alloc: Global,
     settings: HttpSettings<'_>,
@@ -127,8 +138,9 @@ pub fn serve_one<R: Source, W: Sink, S: Alter>(
     ensures closed_served { office.old.closed ≡ true → ServesClosed (settings_entry settings.entry) (R.held reader.old) (W.taken writer.old) (W.taken writer.new) result }
     ensures clean { HasCleanDisk (state S.Store office.new.held) → HasCleanDisk (state S.Store office.old.held) }
 {
-    match response_to(alloc, settings, reader, office) {
-        Ok(response) => put(writer, &response),
-        Err(Broken) => Served::ReadFailed,
+    match read_request(alloc, settings, reader) {
+        Ok(asked) => respond(alloc, asked, writer, office),
+        Err(ReadFailure::Memory) => tell_no_memory(writer),
+        Err(ReadFailure::Broken) => Served::ReadFailed,
     }
 }

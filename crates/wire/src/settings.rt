@@ -1,7 +1,7 @@
 //! The settings of HTTP.
 
-use crate::origin::Origin;
 use codes::Codes;
+use origins::Origin;
 
 /// The page on which clerks key, and its policy, which says what a browser lets it do.
 #[derive(Clone, Copy)]
@@ -10,7 +10,7 @@ pub struct Page<'a> {
     pub policy: &'a str,
 }
 
-/// The gate, which asks for clerks' codes: the codes, and the page.
+/// The gate, which requires clerks' codes: the codes, and the page.
 #[derive(Clone, Copy)]
 pub struct Gate<'a> {
     pub codes: &'a Codes,
@@ -24,7 +24,7 @@ pub struct HttpSettings<'a> {
     pub gate: Option<Gate<'a>>,
 }
 
-/// What is shown to a clerk whatever the office's state is.
+/// What is shown to a clerk, independently of the office's state.
 #[derive(Clone, Copy)]
 pub enum Show<'a> {
     /// The page on which the clerk keys.

@@ -9,7 +9,7 @@ use matchit::{InsertError, Params, Router};
 use std::alloc::{AllocError, Global};
 use std::str;
 
-/// What may be read.
+/// A resource that can be read.
 #[derive(Clone, Copy, Debug, PartialEq, Eq)]
 pub enum Resource {
     /// The batches that a clerk is to key.
@@ -25,13 +25,13 @@ pub enum Resource {
 /// What a target names.
 #[derive(Clone, Copy)]
 pub(crate) enum Target {
-    /// A clerk's keying of a batch, which is sent.
+    /// A clerk's keying of a batch, to be sent.
     Keying { clerk: u32, batch: u32 },
     /// The page on which a clerk keys.
     Page { clerk: u32 },
-    /// That a clerk signs out.
+    /// The signing out of a clerk.
     Leave { clerk: u32 },
-    /// What may be read.
+    /// A resource that can be read.
     Resource(Resource),
 }
 
@@ -54,10 +54,7 @@ fn office_router(alloc: Global) -> Result<Router<RouteTarget>, InsertError>
     let mut router = Router::new(alloc);
     router.insert("/clerks/{c}/batches/{b}/keying", RouteTarget::Keying)?;
     router.insert("/clerks/{c}/work", RouteTarget::Work)?;
-    router.insert(
-        "/clerks/{c}/batches/{b}/candidates",
-        RouteTarget::Candidates,
-    )?;
+    router.insert("/clerks/{c}/batches/{b}/candidates", RouteTarget::Candidates)?;
     router.insert("/clerks/{c}/", RouteTarget::Page)?;
     router.insert("/clerks/{c}/leave", RouteTarget::Leave)?;
     router.insert("/wards/{w}/sheet", RouteTarget::Sheet)?;
@@ -65,7 +62,7 @@ fn office_router(alloc: Global) -> Result<Router<RouteTarget>, InsertError>
     Ok(router)
 }
 
-/// Returns the number that a parameter has.
+/// Returns the number in a parameter, if it has one.
 fn parameter(params: &Params<'_, '_>, name: &str) -> Option<u32>
     requires { AllText (taken_by params.now) }
     ensures { result ≡ parameter name.now (taken_by params.now) }
@@ -73,7 +70,7 @@ fn parameter(params: &Params<'_, '_>, name: &str) -> Option<u32>
     number_in(params.get(name)?)
 }
 
-/// Returns what a target names, by where its route leads and by its parameters.
+/// Returns what a target names, by its route and its parameters.
 fn named_at(place: RouteTarget, params: &Params<'_, '_>) -> Option<Target>
     requires { AllText (taken_by params.now) }
     ensures { result ≡ named_at place (taken_by params.now) }
@@ -112,21 +109,35 @@ fn named_at(place: RouteTarget, params: &Params<'_, '_>) -> Option<Target>
     }
 }
 
-/// Returns what a target names, if anything is served there. The only error is a failed allocation.
-pub(crate) fn named_by(alloc: Global, target: &[u8]) -> Result<Option<Target>, AllocError>
-    ensures { IfOk result (λ found. found ≡ named_by target.now) }
-{
-    if !target.is_ascii() {
-        return Ok(None);
+/// The seven routes. A server makes them once.
+#[derive(Drop)]
+pub struct Routes {
+    router: Router<RouteTarget>,
+    pub ghost seven: { router ≡ office_routes },
+}
+
+impl Routes {
+    /// Returns the routes. The only error is a failed allocation.
+    pub fn new(alloc: Global) -> Result<Routes, AllocError> {
+        match office_router(alloc) {
+            Ok(router) => Ok(Routes { router }),
+            Err(_) => Err(AllocError),
+        }
     }
-    let Ok(text) = str::from_utf8(target) else {
-        return Ok(None);
-    };
-    let Ok(router) = office_router(alloc) else {
-        return Err(AllocError);
-    };
-    let Ok(found) = router.at(text) else {
-        return Ok(None);
-    };
-    Ok(named_at(*found.value, &found.params))
+
+    /// Returns what a target names, if anything is served there. Allocates nothing.
+    pub(crate) fn named_by(&self, target: &[u8]) -> Option<Target>
+        ensures { result ≡ named_by target.now }
+    {
+        if !target.is_ascii() {
+            return None;
+        }
+        let Ok(text) = str::from_utf8(target) else {
+            return None;
+        };
+        match self.router.at(text) {
+            Ok(found) => named_at(*found.value, &found.params),
+            Err(_) => None,
+        }
+    }
 }

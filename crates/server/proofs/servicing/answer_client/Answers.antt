@@ -11,28 +11,29 @@ use Rattle.server.proofs.servicing.answer_client.Goals as goal
 
 pub returns-then-must_wait-clause-meets : goal.returns-then-must_wait-clause-meets
 returns-then-must_wait-clause-meets g c = λ number. inl (inl (record {
-  authentication = option_map authentication_entry c.authentication_of-authentication.result;
-  is = c.authentication_of-authentication.ensures;
-  waits = sym {b = must_wait (option_map authentication_entry c.authentication_of-authentication.result) c.args.moment.now (limit_entry c.args.kept.now.limit)} c.must_wait.ensures ∙ c.if-must_wait.true;
-  told = c.wait_response.ensures.told (record { listener = Clients; number = number; moment = c.args.moment.now; got = c.args.got.now; answer = c.wait_response.result.bytes.items }) refl;
+  authentication = option_map authentication_entry c.authentication-authentication.result;
+  is = c.authentication-authentication.ensures (settings_entry c.args.server_settings.http) c.args.due.got.now c.requires;
+  waits = sym {b = must_wait (option_map authentication_entry c.authentication-authentication.result) c.args.due.moment (limit_entry c.args.kept.now.limit)} c.must_wait.ensures ∙ c.if-must_wait.true;
+  told = c.wait_response.ensures.told (record { listener = Clients; number = number; moment = c.args.due.moment; got = c.args.due.got.now; answer = c.wait_response.result.bytes.items }) refl;
   stays = refl;
 }))
 
-pub returns-then-not-is_reading-clause-meets : goal.returns-then-not-is_reading-clause-meets
-returns-then-not-is_reading-clause-meets g c = λ number. inl (inr (record {
-  told = c.gone_response.ensures.told (record { listener = Clients; number = number; moment = c.args.moment.now; got = c.args.got.now; answer = c.gone_response.result.bytes.items }) refl;
+pub returns-then-not-is_whole-clause-meets : goal.returns-then-not-is_whole-clause-meets
+returns-then-not-is_whole-clause-meets g c = λ number. inl (inr (record {
+  told = c.gone_response.ensures.told (record { listener = Clients; number = number; moment = c.args.due.moment; got = c.args.due.got.now; answer = c.gone_response.result.bytes.items }) refl;
   stays = refl;
 }))
 
 pub returns-clause-meets : goal.returns-clause-meets
 returns-clause-meets g c = λ number.
-    let authentication = option_map authentication_entry c.authentication_of-authentication.result in
-    let exchange : Exchange = record { listener = Clients; number = number; moment = c.args.moment.now; got = c.args.got.now; answer = c.answered-answer.result.bytes.items } in
+    let authentication = option_map authentication_entry c.authentication-authentication.result in
+    let answered = c.answer_request-answer in
+    let exchange : Exchange = record { listener = Clients; number = number; moment = c.args.due.moment; got = c.args.due.got.now; answer = answered.result.bytes.items } in
     inr (record {
       authentication = authentication;
-      is = c.authentication_of-authentication.ensures;
-      free = sym {b = must_wait authentication c.args.moment.now (limit_entry c.args.kept.now.limit)} c.must_wait.ensures ∙ c.if-must_wait.false;
-      serves = noted_still (settings_entry c.args.settings) (state g.S.Store) (served_office c.args.office.now (memory_entry c.args.kept.now)) exchange c.answered-answer.new.office (memory_entry c.answered-answer.new.kept)
-          (memory_entry c.note.new.self) c.note.ensures.reads (c.answered-answer.ensures.served number c.args.moment.now);
-      noted = c.note.ensures.limit ∙ ap (limit_after authentication c.args.moment.now) c.answered-answer.ensures.limit;
+      is = c.authentication-authentication.ensures (settings_entry c.args.server_settings.http) c.args.due.got.now c.requires;
+      free = sym {b = must_wait authentication c.args.due.moment (limit_entry c.args.kept.now.limit)} c.must_wait.ensures ∙ c.if-must_wait.false;
+      serves = noted_still (settings_entry c.args.server_settings.http) (state g.S.Store) (served_office c.args.office.now (memory_entry c.args.kept.now)) exchange answered.new.office (memory_entry answered.new.kept)
+          (memory_entry c.note.new.self) c.note.ensures.reads (answered.ensures.served number c.args.due.moment);
+      noted = c.note.ensures.limit ∙ ap (limit_after authentication c.args.due.moment) answered.ensures.limit;
     })

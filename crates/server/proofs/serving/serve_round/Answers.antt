@@ -17,7 +17,7 @@ accept_pending-look-requires g c =
 
 pub returns-then-is_empty-clause-goes_on : goal.returns-then-is_empty-clause-goes_on
 returns-then-is_empty-clause-goes_on g c =
-    let settings = settings_in c.args.server_settings in
+    let settings = settings_in c.args.serving.server_settings in
     let stream = stream_of g.D.Stream.Stream.held g.D.Stream.Stream.taken g.D.Stream.Stream.failed in
     let known = g.D.Network.known in
     let at = served_office c.args.office.now (memory_entry c.args.kept.now) in
@@ -29,7 +29,7 @@ returns-then-is_empty-clause-goes_on g c =
 
 pub returns-in_err-wait-clause-goes_on : goal.returns-in_err-wait-clause-goes_on
 returns-in_err-wait-clause-goes_on g c =
-    let settings = settings_in c.args.server_settings in
+    let settings = settings_in c.args.serving.server_settings in
     let stream = stream_of g.D.Stream.Stream.held g.D.Stream.Stream.taken g.D.Stream.Stream.failed in
     let known = g.D.Network.known in
     let at = served_office c.args.office.now (memory_entry c.args.kept.now) in
@@ -42,7 +42,7 @@ returns-in_err-wait-clause-goes_on g c =
 
 pub returns-clause-goes_on : goal.returns-clause-goes_on
 returns-clause-goes_on g c =
-    let settings = settings_in c.args.server_settings in
+    let settings = settings_in c.args.serving.server_settings in
     let stream = stream_of g.D.Stream.Stream.held g.D.Stream.Stream.taken g.D.Stream.Stream.failed in
     let known = g.D.Network.known in
     let at = served_office c.args.office.now (memory_entry c.args.kept.now) in
@@ -55,7 +55,7 @@ returns-clause-goes_on g c =
 
 pub returns-in_err-now-clause-goes_on : goal.returns-in_err-now-clause-goes_on
 returns-in_err-now-clause-goes_on g c =
-    let settings = settings_in c.args.server_settings in
+    let settings = settings_in c.args.serving.server_settings in
     let stream = stream_of g.D.Stream.Stream.held g.D.Stream.Stream.taken g.D.Stream.Stream.failed in
     let known = g.D.Network.known in
     let at = served_office c.args.office.now (memory_entry c.args.kept.now) in

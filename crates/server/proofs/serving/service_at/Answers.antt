@@ -1,17 +1,18 @@
 -- Why `service_at` keeps its promise.
-use Rattle.std.proofs.Common.{◌∙◌, None, Option, Some, ap, is_some, map, subst}
-use Rattle.std.specs.Prelude.{Err, Ok, Result}
+use Rattle.std.proofs.Common.{◌∙◌, List, None, Option, Some, ap, is_some, map, subst, sym}
+use Rattle.std.specs.Prelude.{Ok, Result}
 use Rattle.sqlite.specs.Held.{state}
 use Rattle.votes.specs.declared.streams.Broken.{Broken}
 use Rattle.connections.specs.Closing.{IsClosedForBytes}
 use Rattle.connections.specs.Streams.{stream_of}
 use Rattle.connections.specs.Tables.{NetworkEntry, with_removed}
+use Rattle.connections.specs.declared.client.Client.{Client}
 use Rattle.connections.specs.declared.removed.Removed.{Removed}
 use Rattle.connections.specs.declared.removed.CloseReason.{CloseReason}
 use Rattle.server.specs.Reads.{served_office, memory_entry}
 use Rattle.server.specs.Settings.{settings_in}
 use Rattle.server.specs.Servicing.{WasServiced, response_at}
-use Rattle.connections.proofs.BoundLemmas.{few_back, within_again}
+use Rattle.connections.proofs.BoundLemmas.{IsWithinOf, few_back, one_less, place_left, within_again}
 use Rattle.connections.proofs.ClosingLemmas.{bytes_outs}
 use Rattle.server.proofs.ServerLemmas.{called_in_vain, called_well, serves_leaves, serves_stays, serves_stops, serves_then, serves_within, unfailed_leavers, untold_at}
 use Rattle.server.proofs.serving.service_at.Goals as goal
@@ -117,3 +118,17 @@ returns-in-None-clause-within g c =
     let back = c.put_back_at-in-None in
     let few = few_back c.args.table.now.clients.items out.new.self.clients.items back.new.self.clients.items c.args.place c.service_one-client.result.0 c.requires.place c.requires.within.0 out.ensures.clients back.ensures.clients in
     within_again IsClosedForBytes bytes_outs (known c.service_one-client.new.network) (known c.keep_within.new.network) back.new.self c.keep_within.new.table few c.keep_within.ensures.go (c.keep_within.ensures.within few)
+
+-- while it is out, there is a place for it
+pub put_back_at-requires-clause-place : goal.put_back_at-requires-clause-place
+put_back_at-requires-clause-place g c =
+    (place_left c.args.table.now.clients.items c.remove_at-client.new.self.clients.items c.args.place c.requires.place c.requires.within.0 c.remove_at-client.ensures.clients).1
+
+pub put_back_at-requires-in-None-clause-place : goal.put_back_at-requires-in-None-clause-place
+put_back_at-requires-in-None-clause-place g c =
+    (place_left c.args.table.now.clients.items c.remove_at-client.new.self.clients.items c.args.place c.requires.place c.requires.within.0 c.remove_at-client.ensures.clients).1
+
+pub returns-in-Some-clause-within : goal.returns-in-Some-clause-within
+returns-in-Some-clause-within g c =
+    let out = c.remove_at-client in
+    subst (λ (clients : List (Client _)). IsWithinOf clients) (sym out.ensures.clients) (one_less c.args.table.now.clients.items c.args.place out.result c.requires.place c.requires.within)

@@ -1,5 +1,5 @@
 -- Why `service_numbered` keeps its promise.
-use Rattle.std.proofs.Common.{List, get_or, subst}
+use Rattle.std.proofs.Common.{List, subst}
 use Rattle.sqlite.specs.Held.{state}
 use Rattle.connections.specs.Streams.{stream_of}
 use Rattle.connections.specs.declared.client.Client.{Client}

@@ -1,5 +1,5 @@
 -- Why `service_ready` keeps its promise.
-use Rattle.std.proofs.Common.{◌∙◌, None, Ok, Option, Some, ap, refl, ℕ}
+use Rattle.std.proofs.Common.{◌∙◌, Ok, Option, ap, refl, ℕ}
 use Rattle.sqlite.specs.Held.{state}
 use Rattle.connections.specs.Streams.{stream_of}
 use Rattle.connections.specs.Tables.{after_ready}

@@ -1,0 +1,258 @@
+//! A parsed request: its head is parsed once, and everything but the text of the body is decided from the result.
+
+ghost use Rattle.std.specs.Prelude.{◌≡◌, ◌≤◌, ◌++◌, IfOk, IfSome, List, ℕ, length, map, option_map, take};
+ghost use Rattle.httparse.specs.Spans.{IsRequestWithin, header_bytes, span_bytes};
+ghost use Rattle.wire.specs.Requests.{Asks, http_request_entry, asked_of, asked_with, reading};
+ghost use Rattle.wire.specs.Gates.{HttpSettingsEntry, IsAuthentication, settings_entry, authentication_entry};
+ghost use Rattle.wire.specs.Completeness.{IsCompletenessOf};
+ghost use Rattle.wire.specs.Parsing.{IsParsed, Says, needed, read_in};
+
+use crate::request::{HttpRequest, Keying, asked_for, page_at, served_at};
+use crate::body::{KeyingBody, keying_of};
+use crate::request_error::RequestError;
+use crate::settings::{HttpSettings, Show};
+use crate::head::{MAX_HEAD_BYTES, MAX_HEADERS};
+use crate::authentication::{Authentication, clerk_under, kept_out, authentication_by};
+use crate::completeness::Completeness;
+use crate::length::{MAX_BODY_BYTES, body_length};
+use crate::origin::is_foreign;
+use crate::target::{Resource, Routes, Target};
+use httparse::Status;
+use httparse::spans::{EMPTY_HEADER_SPAN, HeaderSpan, RequestSpans, parse_request};
+use std::alloc::{AllocError, Global};
+
+/// A parsed head.
+#[derive(Clone, Copy)]
+pub struct Head {
+    /// What is asked for, or why the request is rejected.
+    pub(crate) wanted: Result<Target, RequestError>,
+    /// The authentication; `None` if the request needs no code, or comes from elsewhere.
+    pub(crate) authentication: Option<Authentication>,
+    /// The length of the body in bytes, or why it isn't accepted.
+    pub(crate) body: Result<usize, RequestError>,
+    /// The length of the head itself, in bytes.
+    pub(crate) size: usize,
+}
+
+/// The result of parsing the bytes that were received of a request.
+#[derive(Clone, Copy)]
+pub enum Parsed {
+    /// The head is complete.
+    Head(Head),
+    /// The head isn't complete yet.
+    Partial,
+    /// There is no head, whatever follows.
+    Malformed,
+}
+
+/// Parses a clerk's keying of a batch, by the length of its body and the bytes that follow the head.
+fn keying_in<'a>(
+    alloc: Global,
+    clerk: u32,
+    batch: u32,
+    body: Result<usize, RequestError>,
+    behind: &[u8],
+) -> Result<HttpRequest<'a>, AllocError>
+    ensures { IfOk result (λ asked. http_request_entry asked ≡ asked_with clerk batch body behind.now) }
+{
+    let size = match body {
+        Ok(size) => size,
+        Err(why) => return Ok(HttpRequest::Denied(why)),
+    };
+    if behind.len() < size {
+        return Ok(HttpRequest::Denied(RequestError::BadRequest));
+    }
+    match keying_of(alloc, &behind[..size])? {
+        Some(KeyingBody { id, round, papers }) => Ok(HttpRequest::Keying(Keying {
+            clerk,
+            batch,
+            id,
+            round,
+            papers,
+        })),
+        None => Ok(HttpRequest::Denied(RequestError::BadRequest)),
+    }
+}
+
+impl Head {
+    /// Returns what the head in a buffer says, by the spans of its parts there.
+    pub(crate) fn found(
+        settings: HttpSettings<'_>,
+        routes: &Routes,
+        read: &[u8],
+        headers: &[HeaderSpan],
+        spans: RequestSpans,
+    ) -> Head
+        requires { IsRequestWithin read.now headers.now spans }
+        ensures { Says (settings_entry settings.entry) (map (header_bytes read.now) (take spans.headers headers.now)) (span_bytes read.now spans.method)
+            (span_bytes read.now spans.path) spans.len result }
+    {
+        let headers = &headers[..spans.headers];
+        let (body, size) = (body_length(read, headers), spans.len);
+        if is_foreign(settings.origin, read, headers) {
+            return Head {
+                wanted: Err(RequestError::Forbidden),
+                authentication: None,
+                body,
+                size,
+            };
+        }
+        let target = spans.path.of(read);
+        let clerk = clerk_under(target);
+        let why = kept_out(settings.gate, clerk, read, headers);
+        let authentication = authentication_by(settings.gate, clerk, why);
+        let wanted = match why {
+            Some(why) => Err(why),
+            None => asked_for(spans.method.of(read), served_at(settings.gate, routes, target)),
+        };
+        Head {
+            wanted,
+            authentication,
+            body,
+            size,
+        }
+    }
+
+    /// Returns what is asked by this head and the bytes that follow it. The only error is a failed allocation.
+    pub(crate) fn asked_with<'a>(
+        &self,
+        alloc: Global,
+        settings: HttpSettings<'a>,
+        behind: &[u8],
+    ) -> Result<HttpRequest<'a>, AllocError>
+        ensures { IfOk result (λ asked. http_request_entry asked ≡ asked_of (settings_entry settings.entry).gate self.now.wanted self.now.body behind.now) }
+    {
+        match self.wanted {
+            Ok(Target::Keying { clerk, batch }) => {
+                keying_in(alloc, clerk, batch, self.body, behind)
+            }
+            Ok(Target::Page { clerk }) => Ok(page_at(settings.gate, clerk)),
+            Ok(Target::Leave { clerk }) => Ok(HttpRequest::Shown(clerk, Show::Left)),
+            Ok(Target::Resource(what)) => Ok(HttpRequest::Resource(what)),
+            Err(why) => Ok(HttpRequest::Denied(why)),
+        }
+    }
+
+    /// Returns the resource that is read, if the request is a read.
+    fn reading(&self) -> Option<Resource>
+        ensures { result ≡ read_in self.now.wanted }
+    {
+        match self.wanted {
+            Ok(Target::Resource(what)) => Some(what),
+            _ => None,
+        }
+    }
+
+    /// Returns how many bytes after the head are needed to know what is asked: the body of a keying, and otherwise none.
+    fn needed(&self) -> usize
+        ensures { result ≡ needed self.now.wanted self.now.body }
+    {
+        match self.wanted {
+            Ok(Target::Keying { .. }) => match self.body {
+                Ok(size) => size,
+                Err(_) => 0,
+            },
+            _ => 0,
+        }
+    }
+}
+
+/// Parses the head of a request of which these bytes were received. Allocates nothing.
+///
+/// If there are as many bytes as a head may have, more bytes don't change the result.
+pub fn parse(settings: HttpSettings<'_>, routes: &Routes, got: &[u8]) -> Parsed
+    ensures is { IsParsed (settings_entry settings.entry) got.now result }
+    ensures lasts { MAX_HEAD_BYTES ≤ length got.now → (more : List ℕ) → IsParsed (settings_entry settings.entry) (got.now ++ more) result }
+{
+    let mut headers = [EMPTY_HEADER_SPAN; MAX_HEADERS];
+    let front = &got[..got.len().min(MAX_HEAD_BYTES)];
+    match parse_request(front, &mut headers) {
+        Ok(Status::Complete(spans)) => Parsed::Head(Head::found(
+            settings, routes, front, &headers, spans,
+        )),
+        Ok(Status::Partial) if got.len() < MAX_HEAD_BYTES => Parsed::Partial,
+        Ok(Status::Partial) => Parsed::Malformed,
+        Err(_) => Parsed::Malformed,
+    }
+}
+
+impl Parsed {
+    /// Returns whether the request is complete, if `come` bytes of it were received.
+    ///
+    /// The bytes of a complete request ask the same, whatever follows them.
+    pub fn completeness_of(&self, come: usize) -> Completeness
+        ensures { (its : HttpSettingsEntry) (got : List ℕ) → length got ≡ come → IsParsed its got self.now → IsCompletenessOf its got result }
+    {
+        match self {
+            Parsed::Head(head) => {
+                let whole = head.size.saturating_add(head.needed());
+                if come < whole {
+                    Completeness::AtLeast(whole)
+                } else {
+                    Completeness::Complete
+                }
+            }
+            Parsed::Partial => Completeness::AtLeast(come.saturating_add(1)),
+            Parsed::Malformed => Completeness::Complete,
+        }
+    }
+
+    /// Returns the authentication of the request: the clerk under whose number it asks, and whether its code is wrong. `None` if
+    /// it needs no code, comes from elsewhere, or has no complete head.
+    pub fn authentication(&self) -> Option<Authentication>
+        ensures { (its : HttpSettingsEntry) (got : List ℕ) → IsParsed its got self.now → IsAuthentication its got (option_map authentication_entry result) }
+    {
+        match self {
+            Parsed::Head(head) => head.authentication,
+            Parsed::Partial => None,
+            Parsed::Malformed => None,
+        }
+    }
+
+    /// Returns the resource that the request reads, if it is a read.
+    pub fn reading(&self) -> Option<Resource>
+        ensures { (its : HttpSettingsEntry) (got : List ℕ) → IsParsed its got self.now → IfSome result (λ what. Asks its got (reading what)) }
+    {
+        match self {
+            Parsed::Head(head) => head.reading(),
+            Parsed::Partial => None,
+            Parsed::Malformed => None,
+        }
+    }
+
+    /// Returns what the request asks, by the bytes that were parsed. The only error is a failed allocation.
+    pub fn asked<'a>(
+        &self,
+        alloc: Global,
+        settings: HttpSettings<'a>,
+        got: &[u8],
+    ) -> Result<HttpRequest<'a>, AllocError>
+        ensures { IsParsed (settings_entry settings.entry) got.now self.now → IfOk result (λ asked. Asks (settings_entry settings.entry) got.now (http_request_entry asked)) }
+    {
+        match self {
+            Parsed::Head(head) => {
+                head.asked_with(alloc, settings, &got[head.size.min(got.len())..])
+            }
+            Parsed::Partial => Ok(HttpRequest::Denied(RequestError::BadRequest)),
+            Parsed::Malformed => Ok(HttpRequest::Denied(RequestError::BadRequest)),
+        }
+    }
+
+    /// Returns how many bytes are still to come of the body, of a request of which so many bytes came. They are as many as its head says,
+    /// and at most 1 MiB, also if it says more, or nothing that is understood. If there is no whole head, it is 0.
+    ///
+    /// The server reads that many bytes more before it closes the connection. Otherwise the system would reset the connection,
+    /// and a proxy would report that instead of the response.
+    pub fn body_to_come(&self, come: usize) -> usize
+        ensures { (its : HttpSettingsEntry) (got : List ℕ) → IsParsed its got self.now → result ≤ MAX_BODY_BYTES }
+    {
+        match self {
+            Parsed::Head(head) => match head.body {
+                Ok(size) => size.saturating_sub(come.saturating_sub(head.size)),
+                Err(_) => MAX_BODY_BYTES as usize,
+            },
+            Parsed::Partial => 0,
+            Parsed::Malformed => 0,
+        }
+    }
+}
