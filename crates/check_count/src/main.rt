@@ -8,7 +8,7 @@
 //! What it prints, and the status that it ends with, is [`run`] of `checker`; here are this machine's words, files and outputs.
 #![tactic(auto)]
 
-use checker::{InputFiles, NotRead, ArgumentsFault, run};
+use checker::{ArgumentsFault, InputFiles, NotRead, run};
 use std::io::{Error, ErrorKind};
 use std::process::ExitCode;
 use std::{env, fs};

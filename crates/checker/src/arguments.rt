@@ -6,11 +6,11 @@ ghost use Rattle.checker.specs.InputFiles.{Holds};
 ghost use Rattle.checker.specs.Outputs.{TellsSome, outputs_of};
 
 use crate::checking::check;
-use crate::input_files::{InputFiles, NotRead};
 use crate::hints::hint_of;
-use crate::report::Report;
-use crate::problem::Problem;
+use crate::input_files::{InputFiles, NotRead};
 use crate::printing::print_report;
+use crate::problem::Problem;
+use crate::report::Report;
 use std::alloc::Global;
 use votes::Sink;
 

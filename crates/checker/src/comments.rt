@@ -6,11 +6,11 @@ ghost use Rattle.checker.specs.Comments.{with_comment, with_kind, with_lot, with
 ghost use Rattle.checker.specs.Outcomes.{outcome};
 ghost use Rattle.checker.specs.Views.{remarks_of};
 
-use crate::numbers::number_in;
 use crate::foreign_comments::skip_foreign;
-use crate::tokens::{Separator, pieces_of};
+use crate::numbers::number_in;
 use crate::problem::BallotsFlaw;
 use crate::state::Comments;
+use crate::tokens::{Separator, pieces_of};
 use std::alloc::{AllocError, Global};
 
 /// Whether a word is this one.
@@ -114,7 +114,11 @@ fn is_drawn(stage: u8, lots: &[(u8, u8)]) -> bool
 }
 
 /// Keeps what a comment says, where it is understood, and no comment before said the same.
-fn keep_once<T: Copy>(kept: &mut Option<T>, told: Option<T>, flaw: BallotsFlaw) -> Result<(), BallotsFlaw>
+fn keep_once<T: Copy>(
+    kept: &mut Option<T>,
+    told: Option<T>,
+    flaw: BallotsFlaw,
+) -> Result<(), BallotsFlaw>
     ensures { outcome result kept.new ≡ told_once flaw kept.old told }
 {
     if told.is_none() {
@@ -185,7 +189,11 @@ impl Comments {
     }
 
     /// The words of a line with a comment.
-    fn take_words(&mut self, line: &[u8], words: &[&[u8]]) -> Result<Result<(), BallotsFlaw>, AllocError>
+    fn take_words(
+        &mut self,
+        line: &[u8],
+        words: &[&[u8]],
+    ) -> Result<Result<(), BallotsFlaw>, AllocError>
         ensures { IfOk result (λ told. outcome told (remarks_of self.new) ≡ with_words (remarks_of self.old) line.now (map (λ w. w.now) words.now)) }
     {
         let [sign, kind, others @ ..] = words else {

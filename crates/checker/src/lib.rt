@@ -22,9 +22,9 @@ mod numbers;
 mod tokens;
 // what a file has said so far, and what each of its lines adds
 mod comments;
+mod foreign_comments;
 mod names;
 mod papers;
-mod foreign_comments;
 mod ranks;
 mod reading;
 mod state;
@@ -35,12 +35,12 @@ mod reading_back;
 mod wards;
 // what the program is asked for, and what it prints
 mod arguments;
-mod input_files;
 mod help;
 mod hints;
+mod input_files;
+mod printing;
 mod report;
 mod shown;
-mod printing;
 
 pub use arguments::{ArgumentsFault, run};
 pub use checking::check;

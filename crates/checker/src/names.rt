@@ -6,8 +6,8 @@ ghost use Rattle.checker.specs.Outcomes.{told_as};
 ghost use Rattle.checker.specs.Views.{quoting_of};
 
 use crate::foreign_comments::skip_foreign;
-use crate::tokens::is_blank;
 use crate::problem::BallotsFlaw;
+use crate::tokens::is_blank;
 use std::alloc::{AllocError, Global};
 use std::str;
 

@@ -8,8 +8,8 @@ ghost use Rattle.checker.specs.Ranks.{is_zero, named_in, named_of, standing_from
 ghost use Rattle.checker.specs.Views.{ranks_of};
 
 use crate::numbers::candidate_in;
-use crate::tokens::{Separator, pieces_of};
 use crate::problem::BallotsFlaw;
+use crate::tokens::{Separator, pieces_of};
 use paper::Columns;
 use std::alloc::{AllocError, Global};
 
@@ -71,7 +71,11 @@ impl Ranks {
     }
 
     /// Several, one behind another.
-    fn add_each(&mut self, highest: u8, words: &[&[u8]]) -> Result<Result<(), BallotsFlaw>, AllocError>
+    fn add_each(
+        &mut self,
+        highest: u8,
+        words: &[&[u8]],
+    ) -> Result<Result<(), BallotsFlaw>, AllocError>
         requires { highest ≤ max_candidates }
         ensures is { IfOk result (λ told. outcome told (ranks_of self.new) ≡ with_each highest (ranks_of self.old) (map (λ w. w.now) words.now)) }
         ensures ranking { IfOk result (λ _. IsRanking self.old.named.items → IsRanking self.new.named.items) }

@@ -7,12 +7,12 @@ ghost use Rattle.checker.specs.Reading.{at_end, before_comment, is_end_line, is_
 ghost use Rattle.checker.specs.Reading.{words_before_comment, with_content_at, with_line, with_name_line, with_papers_line, with_size_line, with_withdrawn_line};
 ghost use Rattle.checker.specs.Views.{IsFlawOf, reading_of};
 
-use crate::names::name_in;
 use crate::foreign_comments::{behind_number_sign, skip_foreign};
-use crate::tokens::{LineKind, Separator, kind_of, lines_of, pieces_of};
+use crate::names::name_in;
 use crate::problem::{BallotsFlaw, Problem};
 use crate::ranks::is_zero;
-use crate::state::{Comments, CandidateNames, NextLine, PaperTotals, Reader};
+use crate::state::{CandidateNames, Comments, NextLine, PaperTotals, Reader};
+use crate::tokens::{LineKind, Separator, kind_of, lines_of, pieces_of};
 use count::Bundles;
 use paper::Columns;
 use std::alloc::{AllocError, Global};
@@ -30,7 +30,10 @@ fn before_comment(line: &[u8]) -> &[u8]
 }
 
 /// The words of a line of numbers, with a comment behind them at most.
-fn words_before_comment(alloc: Global, line: &[u8]) -> Result<Result<Vec<&[u8]>, BallotsFlaw>, AllocError>
+fn words_before_comment(
+    alloc: Global,
+    line: &[u8],
+) -> Result<Result<Vec<&[u8]>, BallotsFlaw>, AllocError>
     ensures { IfOk result (λ told. told_as (λ words. map (λ w. w.now) words.items) told ≡ words_before_comment line.now) }
 {
     if let Err(flaw) = skip_foreign(behind_number_sign(line)) {
@@ -128,7 +131,11 @@ impl Reader {
     }
 
     /// A name.
-    fn take_name_line(&mut self, alloc: Global, line: &[u8]) -> Result<Result<(), BallotsFlaw>, AllocError>
+    fn take_name_line(
+        &mut self,
+        alloc: Global,
+        line: &[u8],
+    ) -> Result<Result<(), BallotsFlaw>, AllocError>
         requires { self.old.place ≡ NextLine.CandidateNames }
         ensures { IfOk result (λ told. outcome told (reading_of self.new) ≡ with_name_line (reading_of self.old) line.now) }
     {
@@ -146,7 +153,11 @@ impl Reader {
     }
 
     /// A line with content.
-    fn take_content(&mut self, alloc: Global, line: &[u8]) -> Result<Result<(), BallotsFlaw>, AllocError>
+    fn take_content(
+        &mut self,
+        alloc: Global,
+        line: &[u8],
+    ) -> Result<Result<(), BallotsFlaw>, AllocError>
         ensures { IfOk result (λ told. outcome told (reading_of self.new) ≡ with_content_at self.old.place (reading_of self.old) line.now) }
     {
         match self.place {
@@ -166,7 +177,11 @@ impl Reader {
     }
 
     /// A line.
-    fn take_line(&mut self, alloc: Global, line: &[u8]) -> Result<Result<(), BallotsFlaw>, AllocError>
+    fn take_line(
+        &mut self,
+        alloc: Global,
+        line: &[u8],
+    ) -> Result<Result<(), BallotsFlaw>, AllocError>
         ensures { IfOk result (λ told. outcome told (reading_of self.new) ≡ with_line (reading_of self.old) line.now) }
     {
         match kind_of(line) {

@@ -5,7 +5,7 @@ ghost use Rattle.codes.specs.Drawing.{AreDrawn, IsDraw, IsDrawn, IsUndrawn, IsUn
 ghost use Rattle.codes.specs.Making.{clerks_of, letter_of, line_of, text_of};
 
 use crate::drawing::Draws;
-use crate::fault::{CodesFault, CodesError};
+use crate::fault::{CodesError, CodesFault};
 use crate::range::ClerkRange;
 use std::alloc::{AllocError, Global};
 

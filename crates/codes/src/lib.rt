@@ -29,7 +29,7 @@ mod rate_limit;
 
 pub use credentials::Credentials;
 pub use drawing::{DrawFailed, Draws};
-pub use fault::{CodesFault, CodeFlaw, CodesError};
+pub use fault::{CodeFlaw, CodesError, CodesFault};
 pub use holders::Codes;
 pub use making::make;
 pub use range::ClerkRange;

@@ -9,7 +9,7 @@ ghost use Rattle.codes.specs.declared.fault.CodesError.TheVariants.{Memory};
 
 use crate::drawing::Draws;
 use crate::drawn::{LETTERS, draw_lines};
-use crate::fault::{CodesFault, CodesError};
+use crate::fault::{CodesError, CodesFault};
 use crate::range::ClerkRange;
 use crate::reading::{CodeLine, entries_of, lines_of};
 use std::alloc::Global;
@@ -90,7 +90,11 @@ fn is_made_for(alloc: Global, text: &[u8], clerks: ClerkRange) -> Result<bool, C
 ///
 /// `NoRandom` comes only from the source, whose failures rose by one. `BadRandom` comes if 100 bytes for each letter draw too few
 /// letters, or if 100 texts are no files of codes. The only other error is that an allocation failed.
-pub fn make<D: Draws>(alloc: Global, draws: &mut D, clerks: ClerkRange) -> Result<String, CodesError>
+pub fn make<D: Draws>(
+    alloc: Global,
+    draws: &mut D,
+    clerks: ClerkRange,
+) -> Result<String, CodesError>
     requires { D.failed draws.old < 2 ^ 64 - 1 }
     ensures reads { IfOk result (λ text. IsMadeFor (clerks_of clerks) (string_bytes text)) }
     ensures drawn { IfOk result (λ text. IsMadeOf clerks (D.drawn draws.old) (D.drawn draws.new) (string_bytes text)) }

@@ -7,7 +7,7 @@ ghost use Rattle.codes.specs.Files.{CodeEntry, clerk_in, code_entry, codes_in, d
 ghost use Rattle.codes.specs.Files.{lines_from, weak_clerks, without_return};
 ghost use Rattle.codes.specs.declared.fault.CodesError.TheVariants as read_error;
 
-use crate::fault::{CodesFault, CodeFlaw, CodesError};
+use crate::fault::{CodeFlaw, CodesError, CodesFault};
 use crate::holders::{Codes, credentials_by};
 use std::alloc::{AllocError, Global};
 use std::mem;

@@ -6,7 +6,7 @@ ghost use Rattle.connections.specs.Streams.{Delivers, Receives, HasTaken, failed
 ghost use Rattle.connections.specs.Removals.{removed_of};
 ghost use Rattle.connections.specs.Clients.{IsCaused, IsNew, IsOf, IsSameButReceived, chunk, idle_after_put, idle_after_wait, idle_after_once};
 
-use crate::removed::{Removed, CloseReason};
+use crate::removed::{CloseReason, Removed};
 use crate::stream::{Received, Stream};
 use std::alloc::{AllocError, Global};
 use votes::Broken;
@@ -116,7 +116,11 @@ fn receive_once<L: Stream>(stream: &mut L, got: &mut Vec<u8>) -> Result<Received
 
 /// Receives what has arrived, until there are `wanted` bytes in all, or no more has arrived. It receives fewer than `CHUNK` bytes
 /// more than that, so that a client that keeps sending doesn't delay the others.
-fn receive_up_to<L: Stream>(stream: &mut L, got: &mut Vec<u8>, wanted: usize) -> Result<ReadProgress, ReceiveError>
+fn receive_up_to<L: Stream>(
+    stream: &mut L,
+    got: &mut Vec<u8>,
+    wanted: usize,
+) -> Result<ReadProgress, ReceiveError>
     ensures receives { Receives (stream_of L.held L.taken L.failed) stream.old stream.new got.old.items got.new.items }
     ensures enough { result ≡ Ok ReadProgress.Enough → wanted ≤ length got.new.items }
     ensures waits { result ≡ Ok ReadProgress.Waits → length got.new.items < wanted }
@@ -199,7 +203,11 @@ impl<L: Stream> Client<L> {
         ensures { result ≡ removed_of self why }
     {
         let Client { stream, number, .. } = self;
-        Removed { number, stream, why }
+        Removed {
+            number,
+            stream,
+            why,
+        }
     }
 
     /// Receives more of a connection that has no response yet, until there are `wanted` bytes in all, or no more has arrived. It

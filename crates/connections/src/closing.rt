@@ -9,7 +9,7 @@ ghost use Rattle.connections.specs.Closing.{IsWithin, ClosesOne, byte_limit_rule
 
 use crate::network::Network;
 use crate::removed::CloseReason;
-use crate::table::{MAX_BYTES, MAX_CLIENTS, ConnectionTable, bytes_held, longest_waiting};
+use crate::table::{ConnectionTable, MAX_BYTES, MAX_CLIENTS, bytes_held, longest_waiting};
 
 /// How long a connection may take to send its request, and as long again to accept its response, in milliseconds.
 pub const TIMEOUT: u64 = 30_000;
@@ -64,7 +64,12 @@ fn byte_limit_rule(orders_too: bool) -> Rule
 }
 
 /// Closes the connection at a place, for a reason.
-fn close_at<D: Network>(network: &mut D, table: &mut ConnectionTable<D::Stream>, place: usize, why: CloseReason)
+fn close_at<D: Network>(
+    network: &mut D,
+    table: &mut ConnectionTable<D::Stream>,
+    place: usize,
+    why: CloseReason,
+)
     requires { place < length table.old.clients.items }
     ensures closed { IsClosedAt why place table.old.clients.items (D.known network.old) table.new.clients.items (D.known network.new) }
     ensures came { table.new.came ≡ table.old.came }
@@ -75,7 +80,11 @@ fn close_at<D: Network>(network: &mut D, table: &mut ConnectionTable<D::Stream>,
 
 /// Closes the connection that has waited longest of those that a rule applies to, if that is long enough. Returns whether one was
 /// closed.
-fn close_one<D: Network>(network: &mut D, table: &mut ConnectionTable<D::Stream>, rule: Rule) -> bool
+fn close_one<D: Network>(
+    network: &mut D,
+    table: &mut ConnectionTable<D::Stream>,
+    rule: Rule,
+) -> bool
     ensures go { ClosesOne (IsClosedByRule rule) result (D.known network.old) (D.known network.new) table.old table.new }
     ensures nobody { result ≡ false → All (λ client. is_among rule.orders_too client.listener ≡ true → rule.now - client.since < rule.least) table.old.clients.items }
 {
@@ -90,7 +99,11 @@ fn close_one<D: Network>(network: &mut D, table: &mut ConnectionTable<D::Stream>
 }
 
 /// Closes the connections that are timed out.
-pub fn close_timed_out<D: Network>(network: &mut D, table: &mut ConnectionTable<D::Stream>, now: u64)
+pub fn close_timed_out<D: Network>(
+    network: &mut D,
+    table: &mut ConnectionTable<D::Stream>,
+    now: u64,
+)
     ensures go { AreClosedByRule (IsClosedByRule (timeout_rule now)) (D.known network.old) (D.known network.new) table.old table.new }
     ensures all { length table.old.clients.items ≤ most_clients → All (λ client. now - client.since < timeout) table.new.clients.items }
 {
@@ -107,7 +120,8 @@ fn close_one_for_bytes<D: Network>(network: &mut D, table: &mut ConnectionTable<
     ensures go { ClosesOne IsClosedForBytes result (D.known network.old) (D.known network.new) table.old table.new }
     ensures nobody { result ≡ false → table.old.clients.items ≡ [] }
 {
-    close_one(network, table, byte_limit_rule(false)) || close_one(network, table, byte_limit_rule(true))
+    close_one(network, table, byte_limit_rule(false))
+        || close_one(network, table, byte_limit_rule(true))
 }
 
 /// Closes the connections that have waited longest, clients first, until the bytes in memory are within the limit.
@@ -132,7 +146,11 @@ fn is_full<L>(table: &ConnectionTable<L>) -> bool
 }
 
 /// Closes a client for the next connection, because the system has no room for both. Returns whether one was closed.
-pub fn evict_one<D: Network>(network: &mut D, table: &mut ConnectionTable<D::Stream>, now: u64) -> bool
+pub fn evict_one<D: Network>(
+    network: &mut D,
+    table: &mut ConnectionTable<D::Stream>,
+    now: u64,
+) -> bool
     ensures go { ClosesOne (IsClosedByRule (eviction_rule now)) result (D.known network.old) (D.known network.new) table.old table.new }
     ensures nobody { result ≡ false → All (λ client. is_among false client.listener ≡ true → now - client.since < grace) table.old.clients.items }
 {
@@ -141,7 +159,12 @@ pub fn evict_one<D: Network>(network: &mut D, table: &mut ConnectionTable<D::Str
 
 /// Makes room in the table for one more connection, and returns whether there is room. If the table is full, and clients may be
 /// closed, this closes the client that has waited longest, if that is at least a second. An order is never closed to make room.
-pub fn evict_if_full<D: Network>(network: &mut D, table: &mut ConnectionTable<D::Stream>, lets_go: bool, now: u64) -> bool
+pub fn evict_if_full<D: Network>(
+    network: &mut D,
+    table: &mut ConnectionTable<D::Stream>,
+    lets_go: bool,
+    now: u64,
+) -> bool
     ensures go { AreClosedByRule (IsClosedForRoom now) (D.known network.old) (D.known network.new) table.old table.new }
     ensures table { result ≡ true → length table.new.clients.items < most_clients }
     ensures only { (table.new ≡ table.old) ⊎ IsFull table.old }

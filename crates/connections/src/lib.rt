@@ -11,16 +11,18 @@
 pub mod client;
 pub mod closing;
 pub mod network;
-pub mod slice_source;
 pub mod removed;
+pub mod slice_source;
 pub mod stream;
 pub mod table;
 pub mod vec_sink;
 
-pub use client::{PendingResponse, Client, Accepted, Listener, ReadProgress, ReceiveError, deliver};
+pub use client::{
+    Accepted, Client, Listener, PendingResponse, ReadProgress, ReceiveError, deliver,
+};
 pub use network::{AcceptOutcome, Network};
+pub use removed::{CloseReason, Removed};
 pub use slice_source::SliceSource;
-pub use removed::{Removed, CloseReason};
 pub use stream::{Received, Stream};
-pub use table::{MAX_BYTES, MAX_CLIENTS, ConnectionTable};
+pub use table::{ConnectionTable, MAX_BYTES, MAX_CLIENTS};
 pub use vec_sink::VecSink;

@@ -6,7 +6,7 @@ ghost use Rattle.connections.specs.Clients.{IsNew, IsOf};
 ghost use Rattle.connections.specs.Tables.{AreUnseen, HasWaitedLongest, answer_bytes, bytes_held, count_at, earlier, is_among, most_clients, place_in};
 ghost use Rattle.connections.specs.declared.client.Client.{Client};
 
-use crate::client::{PendingResponse, Client, Accepted, Listener};
+use crate::client::{Accepted, Client, Listener, PendingResponse};
 use crate::stream::Stream;
 use std::alloc::{AllocError, Global};
 

@@ -4,7 +4,7 @@ ghost use Rattle.std.specs.Prelude.{◌-◌, ◌^◌, ◌<◌, None};
 ghost use Rattle.desk.specs.Pages.{IsErrorTold};
 ghost use Rattle.count_office.specs.Serving.{untaken};
 
-use codes::{ClerkRange, Codes, CodesFault, DrawFailed, Draws, CodesError, make};
+use codes::{ClerkRange, Codes, CodesError, CodesFault, DrawFailed, Draws, make};
 use desk::{Failure, tell_codes_fault, tell_codes_made, tell_failure};
 use std::fs::{self, File, OpenOptions};
 use std::io::{self, Read, Write};

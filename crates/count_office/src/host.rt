@@ -10,9 +10,9 @@ ghost use Rattle.server.specs.declared.server_settings.FileNumbers.{FileNumbers}
 ghost use Rattle.count_office.specs.Hosts.{CodeFiles, IsReadAs};
 
 use codes::{Codes, CodesError};
-use desk::Failure;
 use connections::Network;
-use server::{SideJobs, FileNumbers};
+use desk::Failure;
+use server::{FileNumbers, SideJobs};
 
 /// An open network, what orders need besides the office, and the numbers of its file.
 #[derive(Drop)]

@@ -25,25 +25,25 @@ ghost use Rattle.count_office.specs.Serving.{ServesOrder};
 ghost use Rattle.sqlite_wal.specs.Reads.{AreClean};
 ghost use Rattle.sqlite.specs.Closing.{IsCopied};
 
-mod side_jobs;
-mod order_run;
-mod order_socket;
+mod codes_file;
 mod copies;
-mod new_file;
-mod gate;
-mod order_client;
 mod file_lock;
+mod gate;
 mod host;
 mod localhost;
+mod new_file;
 mod notices;
+mod order_client;
 mod order_files;
+mod order_run;
+mod order_socket;
+mod path_state;
 mod presence;
 mod screen;
 mod serving;
-mod codes_file;
-mod path_state;
+mod side_jobs;
 
-use order_run::{OrderRun, perform_at};
+use codes_file::make_codes_file;
 use copies::copy;
 use desk::perform::perform;
 use desk::{
@@ -51,10 +51,11 @@ use desk::{
 };
 use file_lock::FileLock;
 use host::Host;
-use order_files::{OrderFiles, LocalFolder};
+use order_files::{LocalFolder, OrderFiles};
+use order_run::{OrderRun, perform_at};
+use path_state::PathState;
 use screen::Screen;
 use serving::{Serving, serve};
-use codes_file::make_codes_file;
 use sqlite::{Alter, Connection, ErrorCode, FileStore, Files};
 use sqlite_disk::Disk;
 use std::alloc::Global;
@@ -62,7 +63,6 @@ use std::io::IsTerminal;
 use std::process::ExitCode;
 use std::{env, io};
 use store::Fault;
-use path_state::PathState;
 use votes::{Counted, Sink};
 
 /// A database that is held: its path as it was given, what is there, and its file; and what was read of the order's files

@@ -3,13 +3,13 @@
 ghost use Rattle.std.specs.Prelude.{◌≡◌, ◌≢◌, ◌-◌, ◌^◌, ◌<◌, ◌≤◌, Err, IfOk, IfSome, Ok, OnErr, length, true};
 ghost use Rattle.order_protocol.specs.Messages.{PieceFits, PiecesFit, message_part_entries, message_part_entry};
 
-use crate::order_socket;
 use crate::order_files::{OrderFiles, OrderPart};
+use crate::order_socket;
 use desk::version::VERSION;
 use desk::{Failure, tell_failure};
 use order_protocol::{
-    FrameHead, FrameKind, OrderMessage, MAX_MESSAGE, MessagePart, is_message_len, message_head,
-    read_frame_head, encode_message,
+    FrameHead, FrameKind, MAX_MESSAGE, MessagePart, OrderMessage, encode_message, is_message_len,
+    message_head, read_frame_head,
 };
 use std::alloc::{AllocError, Global};
 use std::io::{self, ErrorKind, Read, Write};
@@ -69,7 +69,11 @@ fn pieces_of(alloc: Global, parts: &[OrderPart]) -> Result<Vec<MessagePart<'_>>,
 }
 
 /// The message of an order on the database at a path; or why there is none.
-fn message_of(rt: &HostRuntime, database: &str, order_files: &OrderFiles) -> Result<Vec<u8>, Fault> {
+fn message_of(
+    rt: &HostRuntime,
+    database: &str,
+    order_files: &OrderFiles,
+) -> Result<Vec<u8>, Fault> {
     let Ok(found) = fs::metadata(rt, database) else {
         return Err(Fault::Store);
     };
@@ -311,7 +315,12 @@ pub fn send_order(rt: &HostRuntime, database: &str, order_files: &OrderFiles) ->
 
 /// Prints the rest of a reply, and returns the order's status. If the server goes before the end, it prints fault 102: the order is
 /// to be sent again.
-pub fn print_reply<O: Sink, E: Sink>(alloc: Global, reply: FrameReader, out: &mut O, err: &mut E) -> u8
+pub fn print_reply<O: Sink, E: Sink>(
+    alloc: Global,
+    reply: FrameReader,
+    out: &mut O,
+    err: &mut E,
+) -> u8
     requires out { O.failed out.old < 2 ^ 64 - 1 }
     requires err { E.failed err.old < 2 ^ 64 - 1 }
 {

@@ -107,7 +107,11 @@ fn words_of(alloc: Global, words: &[&str]) -> Result<Vec<OrderPart>, AllocError>
     Ok(parts)
 }
 
-fn order_files_of(rt: &HostRuntime, words: &[&str], order: &Order<'_>) -> Result<OrderFiles, AllocError> {
+fn order_files_of(
+    rt: &HostRuntime,
+    words: &[&str],
+    order: &Order<'_>,
+) -> Result<OrderFiles, AllocError> {
     Ok(OrderFiles {
         words: words_of(rt.alloc(), words)?,
         files: files_of(rt, order)?,
@@ -159,7 +163,11 @@ impl<'a> Folder for LocalFolder<'a> {
 }
 
 /// Returns the file at a path as it was read before, or opens it; `None` if it couldn't be read, or can't be opened.
-fn brought_or_opened<'a>(rt: &HostRuntime, order_files: &'a OrderFiles, path: &str) -> Option<FileSource<'a>> {
+fn brought_or_opened<'a>(
+    rt: &HostRuntime,
+    order_files: &'a OrderFiles,
+    path: &str,
+) -> Option<FileSource<'a>> {
     match order_files.file(path) {
         Some(OrderPart { bytes, .. }) => match bytes {
             Some(bytes) => Some(FileSource::Brought(bytes.as_slice())),

@@ -3,13 +3,13 @@
 
 ghost use Rattle.std.specs.Prelude.{◌≡◌, ◌-◌, ◌^◌, ◌<◌, OnErr, Some};
 
-use crate::order_client::{FrameReader, Sent, print_reply, send_order};
 use crate::file_lock::FileLock;
 use crate::localhost::Localhost;
 use crate::notices::{LockHolder, say_foreign_log, say_if_open_to_others, say_waited, say_waiting};
+use crate::order_client::{FrameReader, Sent, print_reply, send_order};
 use crate::order_files::{OrderFiles, pack};
-use crate::path_state::{PathState, PathKind};
-use crate::{LockedDatabase, order_socket, close, is_busy, perform_on, wants_progress};
+use crate::path_state::{PathKind, PathState};
+use crate::{LockedDatabase, close, is_busy, order_socket, perform_on, wants_progress};
 use desk::{Failure, Order, ProgressSink, Task, tell_failure};
 use sqlite::{Connection, Wary};
 use std::fs;
@@ -122,7 +122,11 @@ fn print_watched<O: Sink, E: Sink>(
 }
 
 /// Reads what is handed over of an order, once: unless that was done before, or nobody serves the database.
-fn bring(request: OrderRun<'_>, database: &str, brought: &mut Option<OrderFiles>) -> Result<(), Fault> {
+fn bring(
+    request: OrderRun<'_>,
+    database: &str,
+    brought: &mut Option<OrderFiles>,
+) -> Result<(), Fault> {
     if brought.is_none() && order_socket::is_served(request.rt, database) {
         *brought = Some(pack(request.rt, request.words, request.order)?);
     }

@@ -196,7 +196,8 @@ impl PathState {
             Ok(length) => length.unwrap_or(0),
             Err(_) => u64::MAX,
         };
-        let is_made = matches!(self.site, PathKind::Free) && database.saturating_add(log) < MIN_OFFICE;
+        let is_made = matches!(self.site, PathKind::Free)
+            && database.saturating_add(log) < MIN_OFFICE;
         if is_made || (!self.has_log && log < MIN_LOG) {
             let _ = fs::remove_file(rt, self.log.as_str());
         }

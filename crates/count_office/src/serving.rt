@@ -7,13 +7,13 @@ ghost use Rattle.connections.specs.Streams.{stream_of};
 ghost use Rattle.wire.specs.Origins.{given_by};
 ghost use Rattle.count_office.specs.Serving.{MayServe, ServesAtNetwork, ServesOrder, TellsOutcome, failure_by, gate_at, server_settings_of, settings_with};
 
+use crate::codes_file::tell_untaken;
 use crate::gate::{GateFiles, gate_of, read_gate_files};
 use crate::host::{Host, Opened};
-use crate::codes_file::tell_untaken;
-use desk::{Failure, tell_failure};
 use connections::Network;
-use server::{SideJobs, ServeError, FileNumbers, ServerSettings, serve_connections};
+use desk::{Failure, tell_failure};
 use office::Office;
+use server::{FileNumbers, ServeError, ServerSettings, SideJobs, serve_connections};
 use sqlite::{Alter, Connection};
 use std::alloc::Global;
 use store::Fault;
@@ -106,7 +106,14 @@ fn serve_at<H: Host, S: Alter>(
         file,
     };
     let ended = serve_through(alloc, &mut network, settings, &side_jobs, office);
-    host.close(serving.port, Opened { network, side_jobs, file });
+    host.close(
+        serving.port,
+        Opened {
+            network,
+            side_jobs,
+            file,
+        },
+    );
     match ended {
         Ok(()) => Ok(()),
         Err(ended) => Err(failure_of(ended)),

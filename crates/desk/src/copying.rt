@@ -83,7 +83,7 @@ fn copied_open<S: Alter, T: Alter>(
     ensures holds { HoldsCopy result.1 (page_of result.0) (state T.Store copy.old) (state T.Store copy.new) }
     ensures copied { WhenOpenAt (state S.Store) office.old office.new
         (λ s. IsCopiedOpen s (page_of result.0) result.1 (state S.Store office.old.held) (state S.Store office.new.held) (state T.Store copy.old) (state T.Store copy.new)
-            × IsReadAt s office.new.closed (state S.Store office.new.held)) }
+        × IsReadAt s office.new.closed (state S.Store office.new.held)) }
     ensures untouched { result.1 ≡ CopyState.Untouched → copy.new ≡ copy.old }
     ensures reads { OnlyReads (state S.Store office.old.held) (state S.Store office.new.held) }
     ensures closed { office.old.closed ≡ true → (page_of result.0 ≡ closed_page) × (office.new ≡ office.old) }
@@ -116,7 +116,7 @@ pub fn copy_open<S: Alter, T: Alter, O: Sink, E: Sink>(
     ensures copied { let outputs = outputs_of O.taken O.failed E.taken E.failed in Tells (outputs out.old err.old) (outputs out.new err.new) result.0
         (λ _ page. HoldsCopy result.1 page (state T.Store copy.old) (state T.Store copy.new)
         × WhenOpenAt (state S.Store) office.old office.new (λ s. IsCopiedOpen s page result.1 (state S.Store office.old.held) (state S.Store office.new.held) (state T.Store copy.old)
-            (state T.Store copy.new))
+        (state T.Store copy.new))
         × (office.old.closed ≡ true → page ≡ closed_page)) }
     ensures stays { WhenOpenAt (state S.Store) office.old office.new (λ s. IsReadAt s office.new.closed (state S.Store office.new.held)) }
     ensures made { result.0 ≡ 0 → (result.1 ≡ CopyState.Whole)

@@ -32,7 +32,11 @@ fn at_rest(is_first: bool, refusal: Refusal) -> LineOutcome
 
 /// What comes of a request for one stage more, the first of an order or another; and whether the count goes on behind it. It goes
 /// on where the request was accepted, now or before.
-fn stage_of<S: Alter>(office: &mut Office<S>, is_first: bool, request: &Request) -> (LineOutcome, bool)
+fn stage_of<S: Alter>(
+    office: &mut Office<S>,
+    is_first: bool,
+    request: &Request,
+) -> (LineOutcome, bool)
     ensures told { WhenOpenAt (state S.Store) office.old office.new
         (λ s. IsStage (state S.Store office.old.held) office.new.closed (state S.Store office.new.held) is_first s request.now (page_of result.0) result.1) }
     ensures wears { Wears (state S.Store office.old.held) (state S.Store office.new.held) }

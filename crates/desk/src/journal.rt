@@ -29,7 +29,11 @@ const FRONT: &str =
     "# The orders that an office accepted, in a sequence in which each is accepted again.\n# 'replay' sends them to an empty office, and makes the same one.\n";
 
 /// Puts the nominations of all wards.
-fn put_all_nominations(alloc: Global, text: &mut String, kept: &KeptReceipts<'_>) -> Result<(), AllocError>
+fn put_all_nominations(
+    alloc: Global,
+    text: &mut String,
+    kept: &KeptReceipts<'_>,
+) -> Result<(), AllocError>
     requires { MapsRise (state_of kept.now.rows.now) }
 {
     for ward in &kept.rows.wards {
@@ -39,7 +43,11 @@ fn put_all_nominations(alloc: Global, text: &mut String, kept: &KeptReceipts<'_>
 }
 
 /// Puts all batches.
-fn put_all_batches(alloc: Global, text: &mut String, kept: &KeptReceipts<'_>) -> Result<(), AllocError>
+fn put_all_batches(
+    alloc: Global,
+    text: &mut String,
+    kept: &KeptReceipts<'_>,
+) -> Result<(), AllocError>
     requires { MapsRise (state_of kept.now.rows.now) }
 {
     for batch in &kept.rows.batches {
@@ -49,7 +57,11 @@ fn put_all_batches(alloc: Global, text: &mut String, kept: &KeptReceipts<'_>) ->
 }
 
 /// Puts the counts of all wards.
-fn put_all_counts(alloc: Global, text: &mut String, kept: &KeptReceipts<'_>) -> Result<(), AllocError>
+fn put_all_counts(
+    alloc: Global,
+    text: &mut String,
+    kept: &KeptReceipts<'_>,
+) -> Result<(), AllocError>
     requires { MapsRise (state_of kept.now.rows.now) }
 {
     for ward in &kept.rows.wards {

@@ -33,7 +33,10 @@ struct Draft {
 }
 
 /// The requests that turns send, None where one of them reads a file or asks something.
-fn requests_of(alloc: Global, turns: Vec<ScriptStep<'_>>) -> Result<Option<Vec<Request>>, AllocError>
+fn requests_of(
+    alloc: Global,
+    turns: Vec<ScriptStep<'_>>,
+) -> Result<Option<Vec<Request>>, AllocError>
     ensures { IfOk result (λ found. IfSome found (λ requests. AreSent turns.entry.items requests.items)) }
 {
     let mut requests = Vec::new(alloc);

@@ -18,16 +18,16 @@
 #![tactic(auto)]
 
 // Words to an order.
+mod order_entry;
 mod order_table;
 pub mod orders;
-mod order_entry;
 mod verdicts;
 pub mod version;
 pub mod words;
 // A script to orders.
-pub mod script_files;
-mod lexer;
 pub mod folders;
+mod lexer;
+pub mod script_files;
 mod scripts;
 // An order to requests,
 mod requests;
@@ -47,10 +47,9 @@ mod printing;
 pub mod progress;
 pub mod replaying;
 mod sending;
-mod ward_status;
 mod steps;
+mod ward_status;
 
-pub use script_files::files_named_in;
 pub use copying::{CopyState, copy_office, copy_open};
 pub use folders::Folder;
 pub use journal_check::{journal_office, journal_open};
@@ -58,4 +57,5 @@ pub use lines::{Failure, tell_codes_fault, tell_codes_made, tell_failure, tell_w
 pub use orders::{Errand, Job, KeyingFile, Order, Question, Task};
 pub use progress::ProgressSink;
 pub use replaying::follow;
+pub use script_files::files_named_in;
 pub use words::{WordsFault, order};

@@ -43,7 +43,10 @@ impl<'a> NamesByNumber<'a> {
     #[tactic(auto, unfolding(crate::specs::Names::names_of))]
     /// The names of candidates. Each number from 0 to 30 is looked for among them once, and a preference finds its name at
     /// its place.
-    pub(crate) fn new(alloc: Global, candidates: &'a [Candidate]) -> Result<NamesByNumber<'a>, AllocError>
+    pub(crate) fn new(
+        alloc: Global,
+        candidates: &'a [Candidate],
+    ) -> Result<NamesByNumber<'a>, AllocError>
         ensures { IfOk result (λ names. names_told names ≡ names_of (map candidate_entry candidates.now)) }
     {
         let mut places = Vec::new(alloc);

@@ -13,23 +13,23 @@ ghost use Rattle.origins.specs.Origins.{origin_text};
 ghost use Rattle.desk.specs.Words.{digest_at, is_command_name, is_order_name, meaning, meaning_of, names_order, number_at, number_found, origin_at, sent, text_at};
 ghost use Rattle.desk.specs.Words.{flag_at, texts_at};
 
-use crate::orders::{Errand, Job, KeyingFile, Order, Question, Task};
-use crate::requests::{by_clerk, by_office};
 use crate::order_entry::{
     ACTOR, BATCH, CANDIDATE, CLERK, CLERKS, CODES, CODES_FILE, CONNECTIONS, DIGEST, Entry, FILE,
     FIRST_CLERK, Heading, ID, KEEP_GOING, MARKS, NAME, NEW, ORIGIN, PAPER, PORT, ROUND, SCRIPT,
     SEATS, SECOND_CLERK, SIZE, STAGE, TITLE, VERDICT, WARD, Word,
 };
+use crate::orders::{Errand, Job, KeyingFile, Order, Question, Task};
+use crate::requests::{by_clerk, by_office};
 use crate::verdicts::verdict_in;
 use clap::ArgMatches;
 use keyfile::FileDigest;
 use office::Text;
+use origins::Origin;
 use register::{
     BatchCommand, CandidateCommand, Command, CountCommand, KeyingCommand, VerdictCommand,
     WardCommand,
 };
 use std::alloc::{AllocError, Global};
-use origins::Origin;
 
 // ---- the table
 

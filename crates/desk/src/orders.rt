@@ -6,8 +6,8 @@ ghost use Rattle.desk.specs.Scripts.{sends_requests};
 
 use keyfile::FileDigest;
 use office::Text;
-use register::Request;
 use origins::Origin;
+use register::Request;
 
 /// A clerk's keying of a batch, which a file holds.
 #[derive(Clone, Copy, Debug)]

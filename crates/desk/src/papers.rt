@@ -37,7 +37,11 @@ fn put_preference(
 }
 
 /// Preferences in their order: `1 Ann, 2 Cy`.
-fn preferences(alloc: Global, names: &NamesByNumber, candidates: &[u8]) -> Result<String, AllocError>
+fn preferences(
+    alloc: Global,
+    names: &NamesByNumber,
+    candidates: &[u8],
+) -> Result<String, AllocError>
     ensures { IfOk result (λ text. string_bytes text ≡ preferences_from (names_told names.now) 1 candidates.now) }
 {
     let mut text = String::new(alloc);
@@ -63,7 +67,11 @@ fn rejection_words(code: u32) -> &'static str
 
 #[tactic(auto, unfolding(crate::specs::Overviews::judgement_words))]
 /// How a paper counts: its preferences, why it is rejected, or that it has no verdict yet.
-fn judgement_words(alloc: Global, names: &NamesByNumber, judgement: Judgement) -> Result<String, AllocError>
+fn judgement_words(
+    alloc: Global,
+    names: &NamesByNumber,
+    judgement: Judgement,
+) -> Result<String, AllocError>
     ensures { IfOk result (λ text. string_bytes text ≡ judgement_words (names_told names.now) judgement) }
 {
     match judgement {
@@ -89,7 +97,11 @@ fn put_line(text: &mut String, told: &str) -> Result<(), AllocError>
 
 #[tactic(auto, unfolding(crate::specs::Overviews::paper_line))]
 /// Which paper it is, and how it counts.
-fn paper_line(alloc: Global, names: &NamesByNumber, paper: &CountedPaper) -> Result<String, AllocError>
+fn paper_line(
+    alloc: Global,
+    names: &NamesByNumber,
+    paper: &CountedPaper,
+) -> Result<String, AllocError>
     ensures { IfOk result (λ text. string_bytes text ≡ paper_line (names_told names.now) (paper_view paper.now)) }
 {
     let (batch, number) = (paper.batch, paper.paper);
@@ -160,7 +172,11 @@ fn verdict_words(
 
 #[tactic(auto, unfolding(crate::specs::Overviews::doubtful_line))]
 /// Which paper it is, and the verdict on it.
-fn doubtful_line(alloc: Global, names: &NamesByNumber, paper: &DoubtfulPaper) -> Result<String, AllocError>
+fn doubtful_line(
+    alloc: Global,
+    names: &NamesByNumber,
+    paper: &DoubtfulPaper,
+) -> Result<String, AllocError>
     ensures { IfOk result (λ text. string_bytes text ≡ doubtful_line (names_told names.now) (doubtful_view paper.now)) }
 {
     let (batch, number) = (paper.counted.batch, paper.counted.paper);

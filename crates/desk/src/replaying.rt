@@ -21,10 +21,12 @@ use crate::orders::{Errand, Job};
 use crate::overviews::answer_to;
 use crate::printing::{index_of, text_of};
 use crate::requests::advances;
-use crate::scripts::{ScriptLine, TypedLine, ScriptFault, ScriptStep, all_said, lines_in, turns_in};
+use crate::scripts::{
+    ScriptFault, ScriptLine, ScriptStep, TypedLine, all_said, lines_in, turns_in,
+};
 use crate::sending::{goes_on, send_all, status_behind};
-use crate::ward_status::standing_of;
 use crate::steps::next_of;
+use crate::ward_status::standing_of;
 use office::Office;
 use sqlite::Alter;
 use std::alloc::Global;
@@ -167,7 +169,9 @@ fn bytes_of<R: Read + Drop>(alloc: Global, file: Option<R>) -> Result<Vec<u8>, L
     let mut bytes = Vec::new(alloc);
     match file.read_to_end(&mut bytes) {
         Ok(_) => Ok(bytes),
-        Err(error) if error.kind() == ErrorKind::OutOfMemory => Err(LineOutcome::Failed(Fault::Memory)),
+        Err(error) if error.kind() == ErrorKind::OutOfMemory => Err(LineOutcome::Failed(
+            Fault::Memory,
+        )),
         Err(_) => Err(LineOutcome::Unread(UNOPENED)),
     }
 }

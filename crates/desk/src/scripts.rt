@@ -138,7 +138,10 @@ fn as_typed<'a>(alloc: Global, line: &'a ScriptLine) -> Result<TypedLine<'a>, Al
 }
 
 /// Lines as they would be typed.
-pub(crate) fn all_said<'a>(alloc: Global, lines: &'a [ScriptLine]) -> Result<Vec<TypedLine<'a>>, AllocError>
+pub(crate) fn all_said<'a>(
+    alloc: Global,
+    lines: &'a [ScriptLine],
+) -> Result<Vec<TypedLine<'a>>, AllocError>
     ensures { IfOk result (λ all. map typed_line_entry all.items ≡ map typed_line (map line_entry lines.now)) }
 {
     let mut all = Vec::new(alloc);

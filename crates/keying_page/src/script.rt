@@ -9,20 +9,20 @@ ghost use Rattle.keying_page.specs.Page.{script};
 mod batches;
 mod drafts;
 mod events;
+mod keyboard;
 mod keys;
 mod requests;
 mod rows;
 mod sending;
-mod keyboard;
 
 use crate::script::batches::BATCHES;
 use crate::script::drafts::DRAFTS;
 use crate::script::events::EVENTS;
+use crate::script::keyboard::VIEWS;
 use crate::script::keys::KEYS;
 use crate::script::requests::REQUESTS;
 use crate::script::rows::ROWS;
 use crate::script::sending::SENDING;
-use crate::script::keyboard::VIEWS;
 use std::alloc::{AllocError, Global};
 
 #[tactic(auto, unfolding(crate::specs::Page::script))]

@@ -3,9 +3,9 @@
 
 ghost use Rattle.std.specs.Prelude.{◌-◌, ◌^◌, ◌<◌};
 
-use crate::sheet_outputs::is_told;
 use crate::checker_texts::{BALLOTS, SHEET};
-use checker::{InputFiles, NotRead, ArgumentsFault, run};
+use crate::sheet_outputs::is_told;
+use checker::{ArgumentsFault, InputFiles, NotRead, run};
 use std::alloc::{AllocError, Global};
 use std::process::Abort;
 use std::test::Fail;

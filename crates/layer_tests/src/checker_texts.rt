@@ -2,8 +2,8 @@
 //! is printed of ballots and texts is played in examples/transcripts/checks.txt.)
 
 use crate::sheet_outputs::{candidates_of, is_text};
-use count::Bundles;
 use checker::{Checked, Problem, check};
+use count::Bundles;
 use sheet::{Ward, ballots_text, can_be_printed, sheet_text};
 use std::alloc::{AllocError, Global};
 use std::process::Abort;

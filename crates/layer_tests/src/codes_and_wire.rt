@@ -4,7 +4,7 @@ ghost use Rattle.std.specs.Prelude.{Some, take};
 
 use super::wire_requests::asks_of;
 use crate::sheet_outputs::is_text;
-use codes::{ClerkRange, Codes, CodesFault, DrawFailed, Draws, RateLimit, CodesError, make};
+use codes::{ClerkRange, Codes, CodesError, CodesFault, DrawFailed, Draws, RateLimit, make};
 use std::alloc::{AllocError, Global};
 use std::process::Abort;
 use std::test::Fail;
@@ -257,7 +257,10 @@ fn asks_beside(rt: &(impl Abort + AllocGlobal), given: HttpSettings<'_>) -> Resu
 }
 
 /// When the limit of wrong codes is reached, and until when.
-fn limits_wrong_codes(rt: &(impl Abort + AllocGlobal), given: HttpSettings<'_>) -> Result<(), Fail> {
+fn limits_wrong_codes(
+    rt: &(impl Abort + AllocGlobal),
+    given: HttpSettings<'_>,
+) -> Result<(), Fail> {
     let alloc = rt.alloc();
     let mut limit = RateLimit::new();
     for (value, times, now, is_reached) in &KNOCKS {

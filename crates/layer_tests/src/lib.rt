@@ -8,28 +8,28 @@
 #[cfg(test)]
 mod checker_failures;
 #[cfg(test)]
-mod wire_requests;
-#[cfg(test)]
-mod sheet_ballots;
-#[cfg(test)]
-mod count_elections;
-#[cfg(test)]
-mod wire_origins;
+mod checker_texts;
 #[cfg(test)]
 mod codes_and_wire;
 #[cfg(test)]
-mod keyfile_imports;
+mod count_elections;
 #[cfg(test)]
-mod sheet_pages;
+mod keyfile_imports;
 #[cfg(test)]
 mod paper_marks;
 #[cfg(test)]
+mod sheet_ballots;
+#[cfg(test)]
 mod sheet_outputs;
 #[cfg(test)]
-mod checker_texts;
-#[cfg(test)]
-mod sheet_texts;
+mod sheet_pages;
 #[cfg(test)]
 mod sheet_spreadsheets;
 #[cfg(test)]
+mod sheet_texts;
+#[cfg(test)]
 mod votes_values;
+#[cfg(test)]
+mod wire_origins;
+#[cfg(test)]
+mod wire_requests;

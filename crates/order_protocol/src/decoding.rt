@@ -5,8 +5,8 @@ ghost use Rattle.std.specs.Int.{w32, w64};
 ghost use Rattle.order_protocol.specs.Messages.{OrderMessageEntry, Fits, order_message_entry, message_part_entries, message_part_entry, encoding_of};
 ghost use Rattle.order_protocol.specs.Reading.{Gives, order_message_in, list_at, number_at, optional_at, piece_at, pieces_at, string_at};
 
-use crate::fault::{FormatError, DecodeError};
-use crate::order_message::{OrderMessage, MessagePart};
+use crate::fault::{DecodeError, FormatError};
+use crate::order_message::{MessagePart, OrderMessage};
 use std::alloc::Global;
 
 fn u32_at(bytes: &[u8]) -> Result<(u32, &[u8]), DecodeError>
@@ -69,7 +69,11 @@ fn piece_of(bytes: &[u8]) -> Result<(MessagePart<'_>, &[u8]), DecodeError>
     Ok((MessagePart { name, bytes }, rest))
 }
 
-fn pieces_of(alloc: Global, count: u32, bytes: &[u8]) -> Result<(Vec<MessagePart<'_>>, &[u8]), DecodeError>
+fn pieces_of(
+    alloc: Global,
+    count: u32,
+    bytes: &[u8],
+) -> Result<(Vec<MessagePart<'_>>, &[u8]), DecodeError>
     ensures { Gives (λ x. (message_part_entries x.0.items, x.1.now)) result (pieces_at count bytes.now) }
 {
     let mut pieces = Vec::new(alloc);

@@ -5,7 +5,7 @@ ghost use Rattle.order_protocol.specs.Frames.{AreWhole, IsOver, SaysMore, frame_
 ghost use Rattle.order_protocol.specs.Messages.{Fits, PieceFits, PiecesFit, order_message_entry, optional, piece, message_part_entries, message_part_entry, pieces, encoding_of, string};
 
 use crate::frames::{FrameKind, HEAD, frame_part};
-use crate::order_message::{OrderMessage, MessagePart};
+use crate::order_message::{MessagePart, OrderMessage};
 use std::alloc::{AllocError, Global};
 
 fn put_string(out: &mut Vec<u8>, bytes: &[u8]) -> Result<(), AllocError>

@@ -2,8 +2,8 @@
 
 ghost use Rattle.own_texts.specs.OwnTexts.{DeclaredAreFinished, OwnBallotsAreRead, OwnDeclarationsAreConfirmed, OwnSheetsAreConfirmed};
 
-use office::texts_are_there;
 use checker::ballots_read_back;
+use office::texts_are_there;
 use register::marks::columns_of;
 
 /// The law of an office's own texts. At each state the ballots that the office prints of a ward are read as that ward's election:

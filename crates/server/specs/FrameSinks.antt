@@ -35,7 +35,7 @@ has_taken (Some taken) bytes = bytes_eq taken bytes
 abbrev pub is_going_out : {L : Type 0} → Stream L → FrameSink L → Bool
 is_going_out stream o =
     is_at_kind (fold decode nothing_decoded o.answer.bytes.items).place && (bytes_eq (error_output_of o.answer.bytes.items) [] && (nat_le o.answer.sent (length o.answer.bytes.items) && has_taken
-        (stream.taken o.stream) (take o.answer.sent o.answer.bytes.items)))
+    (stream.taken o.stream) (take o.answer.sent o.answer.bytes.items)))
 
 -- the output that was written so far, as long as it is sent in this way
 abbrev pub said_through : {L : Type 0} → Stream L → FrameSink L → Option (List ℕ)

@@ -43,7 +43,7 @@ pub record GoesOn {L : Type 0} (settings : ServerSettingsEntry) (stream : Stream
   pub back : RemovesMore before.left later.left gone
   pub own : (all_connections : List (ServedConnection L)) (earlier : List Exchange) (left : List (Removed L)) → AreIn settings stream all_connections earlier left old.came old.clients.items
       → (all : List (ServedConnection L)) × (map (λ connection. connection.came) all ≡ map (λ connection. connection.came) all_connections ++ all_accepted)
-          × AreIn settings stream all (earlier ++ exchanges) (left ++ gone) new.came new.clients.items
+      × AreIn settings stream all (earlier ++ exchanges) (left ++ gone) new.came new.clients.items
 
 -- the same while an office serves the exchanges
 pub record GoesOnServing {L S : Type 0} (settings : ServerSettingsEntry) (stream : Stream L) (state_of : Held S → State) (before later : NetworkEntry L) (old new : ConnectionTable L)

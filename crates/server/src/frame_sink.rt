@@ -6,7 +6,7 @@ ghost use Rattle.order_protocol.specs.Frames.{AreWhole, IsOver, SaysMore, output
 ghost use Rattle.server.specs.FrameSinks.{IsEnded, IsGoingOut, said_through};
 
 use connections::{PendingResponse, Stream, deliver};
-use order_protocol::{MAX_FRAME, put_error_frames, put_end_frame, put_output};
+use order_protocol::{MAX_FRAME, put_end_frame, put_error_frames, put_output};
 use std::alloc::{AllocError, Global};
 use votes::{Broken, Sink};
 

@@ -23,14 +23,14 @@
 #![tactic(auto)]
 
 // orders: what they ask, and their responses
-pub mod side_jobs;
-mod served_order;
+mod frame_sink;
 mod order_arrival;
 mod order_response;
-mod frame_sink;
 mod read_cache;
+mod served_order;
 mod server_memory;
 pub mod server_settings;
+pub mod side_jobs;
 // one connection
 pub mod servicing;
 // all connections
@@ -39,9 +39,9 @@ mod serving;
 // what a clerk is sent
 mod blind;
 
-pub use side_jobs::{SideJobs, Destination};
-pub use servicing::{Serviced, service};
 pub use blind::{clerks_are_answered_as_seen, servers_answer_as_seen};
 pub use serve_error::ServeError;
-pub use serving::serve_connections;
 pub use server_settings::{FileNumbers, ServerSettings};
+pub use servicing::{Serviced, service};
+pub use serving::serve_connections;
+pub use side_jobs::{Destination, SideJobs};

@@ -6,7 +6,7 @@ ghost use Rattle.connections.specs.Streams.{Receives, HasFailed, stream_of};
 ghost use Rattle.server.specs.ServedOrders.{HasCameWhole};
 ghost use Rattle.server.specs.Servicing.{IsLostOnly, IsSameClient};
 
-use connections::{Client, ReadProgress, CloseReason, Stream};
+use connections::{Client, CloseReason, ReadProgress, Stream};
 use order_protocol::read_message_head;
 
 /// The length of the field with the length of a message, before the message itself.

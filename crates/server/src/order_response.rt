@@ -10,15 +10,15 @@ ghost use Rattle.order_protocol.specs.Messages.{OrderMessageEntry, order_message
 ghost use Rattle.desk.specs.Pages.{Shows, Tells, outputs_of};
 ghost use Rattle.server.specs.ServedOrders.{AsksSo, IsOrderOutcome, FollowsOrder, HasCameWhole, IsCopyTold, IsMessage, TellsAsked, folder_of, shut_page};
 
-use crate::side_jobs::{SideJobs, Destination};
-use crate::served_order::{ServedOrder, served_order_by, is_for_file, read_message, words_of};
-use crate::order_arrival::LENGTH;
 use crate::frame_sink::FrameSink;
+use crate::order_arrival::LENGTH;
+use crate::served_order::{ServedOrder, is_for_file, read_message, served_order_by, words_of};
 use crate::server_settings::ServerSettings;
-use desk::{Failure, Folder, follow, tell_failure, tell_words};
+use crate::side_jobs::{Destination, SideJobs};
 use connections::{PendingResponse, Stream, VecSink};
-use order_protocol::{OrderMessage, MessagePart};
+use desk::{Failure, Folder, follow, tell_failure, tell_words};
 use office::Office;
+use order_protocol::{MessagePart, OrderMessage};
 use sqlite::Alter;
 use std::alloc::{AllocError, Global};
 use store::Fault;
@@ -116,7 +116,7 @@ fn do_open<A: SideJobs, S: Alter, O: Sink, E: Sink>(
     ensures did { let outputs = outputs_of O.taken O.failed E.taken E.failed in Tells (outputs out.old err.old) (outputs out.new err.new) result
         (λ cut page. WhenOpenAt (state S.Store) office.old office.new
         (λ s. IsOrderOutcome (state S.Store office.old.held) office.new.closed (state S.Store office.new.held) (folder_of
-            (message_part_entries order.now.attached.files.now)) s order.now.asked.now cut page)) }
+        (message_part_entries order.now.attached.files.now)) s order.now.asked.now cut page)) }
     ensures clean { HasCleanDisk (state S.Store office.new.held) → HasCleanDisk (state S.Store office.old.held) }
 {
     match order.asked {
@@ -141,7 +141,7 @@ fn do_asked<A: SideJobs, S: Alter, O: Sink, E: Sink>(
     ensures did { let outputs = outputs_of O.taken O.failed E.taken E.failed in Tells (outputs out.old err.old) (outputs out.new err.new) result
         (λ cut page. WhenOpenAt (state S.Store) office.old office.new
         (λ s. IsOrderOutcome (state S.Store office.old.held) office.new.closed (state S.Store office.new.held) (folder_of
-            (message_part_entries order.now.attached.files.now)) s order.now.asked.now cut page)
+        (message_part_entries order.now.attached.files.now)) s order.now.asked.now cut page)
         × (office.old.closed ≡ true → page ≡ shut_page order.now.asked.now)) }
     ensures closed { office.old.closed ≡ true → office.new ≡ office.old }
     ensures clean { HasCleanDisk (state S.Store office.new.held) → HasCleanDisk (state S.Store office.old.held) }
@@ -223,7 +223,13 @@ fn respond_to_message<L: Stream, A: SideJobs, S: Alter>(
     ensures followed { (got : List ℕ) → IsMessage got (order_message_entry message.now) → FollowsOrder server_settings.entry.file (state S.Store) office.old got result.1.bytes.items office.new }
 {
     if !is_for_file(message, server_settings.file) {
-        return tell_refused(alloc, server_settings.side_jobs, Fault::Store, stream, office);
+        return tell_refused(
+            alloc,
+            server_settings.side_jobs,
+            Fault::Store,
+            stream,
+            office,
+        );
     }
     let words = match words_of(alloc, &message.words) {
         Ok(words) => words,

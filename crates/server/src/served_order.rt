@@ -9,7 +9,7 @@ ghost use Rattle.server.specs.ServedOrders.{AsksSo, IsForFile};
 use crate::server_settings::FileNumbers;
 use desk::version::VERSION;
 use desk::{Failure, Job, Order, Task, WordsFault, order};
-use order_protocol::{OrderMessage, MessagePart, DecodeError, decode_message};
+use order_protocol::{DecodeError, MessagePart, OrderMessage, decode_message};
 use std::alloc::Global;
 use store::Fault;
 

@@ -20,19 +20,21 @@ ghost use Rattle.codes.specs.RateLimits.{limit_entry};
 ghost use Rattle.server.specs.Reads.{IsRead, TellsNoFault, served_office, memory_entry};
 ghost use Rattle.server.specs.Exchanges.{ChangesNothing, EndsIn, HasAnswered, IsGoneResponse, IsWaitResponse, RespondsToClient, ServesClient, Exchange};
 
-use crate::side_jobs::SideJobs;
 use crate::order_arrival::receive_message;
 use crate::order_response::answer_order;
 use crate::server_memory::ServerMemory;
 use crate::server_settings::ServerSettings;
-use connections::{PendingResponse, Client, Listener, ReadProgress, CloseReason, Stream, VecSink, deliver};
+use crate::side_jobs::SideJobs;
+use connections::{
+    Client, CloseReason, Listener, PendingResponse, ReadProgress, Stream, VecSink, deliver,
+};
 use office::Office;
 use sqlite::Alter;
 use std::alloc::Global;
 use votes::Broken;
 use wire::{
-    HttpRequest, HttpSettings, Completeness, MAX_HEAD_BYTES, Parsed, Resource, Routes, Served, parse, respond,
-    write_gone_response, tell_no_memory, write_wait_response,
+    Completeness, HttpRequest, HttpSettings, MAX_HEAD_BYTES, Parsed, Resource, Routes, Served,
+    parse, respond, tell_no_memory, write_gone_response, write_wait_response,
 };
 
 /// The status of a response with a fault, which isn't cached.
@@ -122,7 +124,11 @@ fn tells_no_fault(served: Served) -> bool
 
 /// Processes a request in the office. Returns the response, of which nothing was sent yet, and whether it is whole and no fault.
 /// If an allocation fails, it is only a beginning.
-fn response_to<S: Alter>(alloc: Global, asked: HttpRequest<'_>, office: &mut Office<S>) -> (Vec<u8>, bool)
+fn response_to<S: Alter>(
+    alloc: Global,
+    asked: HttpRequest<'_>,
+    office: &mut Office<S>,
+) -> (Vec<u8>, bool)
     ensures answers { HasAnswered (state S.Store) office.old (http_request_entry asked.entry) result.0.items office.new }
     ensures read { result.1 ≡ true → WhenOpenAt (state S.Store) office.old office.new
         (λ s. (what : Resource) → http_request_entry asked.entry ≡ reading what → IsRead s what result.0.items) }
@@ -136,7 +142,11 @@ fn response_to<S: Alter>(alloc: Global, asked: HttpRequest<'_>, office: &mut Off
 
 /// Returns the response to a read; nothing of it was sent yet. It is the cached one, if there is one; otherwise the office is
 /// asked, and its response is cached.
-fn answer_reading<S: Alter>(what: Resource, office: &mut Office<S>, kept: &mut ServerMemory) -> PendingResponse
+fn answer_reading<S: Alter>(
+    what: Resource,
+    office: &mut Office<S>,
+    kept: &mut ServerMemory,
+) -> PendingResponse
     ensures served { (its : HttpSettingsEntry) (number moment : ℕ) (got : List ℕ) → Asks its got (reading what) → ServesClient its (state S.Store) (served_office office.old (memory_entry kept.old))
         (record { listener = Listener.Clients; number = number; moment = moment; got = got; answer = result.bytes.items }) (served_office office.new (memory_entry kept.new)) }
     ensures limit { limit_entry kept.new.limit ≡ limit_entry kept.old.limit }
@@ -392,7 +402,13 @@ fn attend_order<L: Stream, A: SideJobs, S: Alter>(
                 got,
                 ..
             } = client;
-            let (stream, answer) = answer_order(kept.alloc, server_settings, got.as_slice(), stream, office);
+            let (stream, answer) = answer_order(
+                kept.alloc,
+                server_settings,
+                got.as_slice(),
+                stream,
+                office,
+            );
             let client = Client {
                 listener,
                 stream,

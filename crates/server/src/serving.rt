@@ -18,13 +18,15 @@ ghost use Rattle.server.specs.Servicing.{HasExchanges, HasSentNothing, LooksAtGa
 ghost use Rattle.server.specs.Exchanges.{Exchange};
 ghost use Rattle.server.specs.Servers.{GoesOn, IsCalled, IsEndedBy, IsNumbered, IsRound, IsUnfailed, ServesConnections, ServesOn};
 
-use crate::side_jobs::SideJobs;
-use crate::servicing::{Serviced, service};
 use crate::blind::servers_answer_as_seen;
 use crate::serve_error::ServeError;
 use crate::server_memory::ServerMemory;
 use crate::server_settings::ServerSettings;
-use connections::closing::{TIMEOUT, close_all, keep_within, close_timed_out, evict_if_full, evict_one};
+use crate::servicing::{Serviced, service};
+use crate::side_jobs::SideJobs;
+use connections::closing::{
+    TIMEOUT, close_all, close_timed_out, evict_if_full, evict_one, keep_within,
+};
 use connections::table::{longest_waiting, place_of_number};
 use connections::{AcceptOutcome, Client, CloseReason, ConnectionTable, Network};
 use office::Office;
@@ -43,7 +45,10 @@ const ACCEPTS_PER_ROUND: usize = 64;
 const ROUNDS: u64 = u64::MAX;
 
 /// Returns the time of the clock if there is a gate, and so a limit on wrong codes; and otherwise 0.
-fn moment_at_gate<D: Network, A>(network: &mut D, server_settings: ServerSettings<'_, A>) -> Result<u64, Broken>
+fn moment_at_gate<D: Network, A>(
+    network: &mut D,
+    server_settings: ServerSettings<'_, A>,
+) -> Result<u64, Broken>
     ensures { LooksAtGate (is_some (settings_in server_settings.entry).clients.gate) result (D.known network.old) (D.known network.new) }
 {
     match server_settings.http.gate {
@@ -386,7 +391,10 @@ pub fn serve_connections<D: Network, A: SideJobs, S: Alter>(
     let Ok(mut kept) = ServerMemory::new(alloc) else {
         return Err(ServeError::Memory);
     };
-    let serving = Serving { server_settings, most };
+    let serving = Serving {
+        server_settings,
+        most,
+    };
     let ended = serve_rounds(network, serving, &mut table, office, &mut kept);
     close_all(network, &mut table);
     ended

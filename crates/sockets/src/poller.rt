@@ -7,8 +7,8 @@ ghost use Rattle.connections.specs.Tables.{IsWanted};
 ghost use Rattle.sockets.specs.Pollers.{ComesByListener, IsAtListener, IsWatched, clients_of, has_pending, orders_of, other_address};
 ghost use Rattle.sockets.specs.declared.poller.Waiting.{Waiting};
 
-use crate::loopback::{Address, Loopback};
 use crate::accept_error::outcome_of_error;
+use crate::loopback::{Address, Loopback};
 use crate::socket::Socket;
 use connections::{AcceptOutcome, Accepted, Listener};
 use mio::event::Source;
@@ -67,7 +67,11 @@ pub struct Poller {
 }
 
 /// Registers a listener, if there is one.
-fn watch_listener<S: Source + Drop>(poll: &Poll, listener: Option<S>, token: usize) -> io::Result<Option<S>>
+fn watch_listener<S: Source + Drop>(
+    poll: &Poll,
+    listener: Option<S>,
+    token: usize,
+) -> io::Result<Option<S>>
     ensures { IfOk result (IsWatched S.keeps listener) }
 {
     match listener {

@@ -4,8 +4,8 @@ ghost use Rattle.std.specs.Prelude.{◌≡◌, None};
 ghost use Rattle.connections.specs.Tables.{with_removed};
 ghost use Rattle.sockets.specs.Pollers.{has_pending, unknown};
 
-use crate::socket::Socket;
 use crate::poller::Poller;
+use crate::socket::Socket;
 use connections::{AcceptOutcome, Network, Removed};
 use std::time::{Clock, Duration};
 use votes::Broken;

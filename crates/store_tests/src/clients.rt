@@ -5,7 +5,7 @@ ghost use Rattle.std.specs.Prelude.{◌≡◌, None, Some, length, nat_lt};
 ghost use Rattle.connections.specs.Tables.{with_removed};
 ghost use Rattle.sockets.specs.Pollers.{unknown};
 
-use connections::{AcceptOutcome, Received, Accepted, Listener, Network, Removed, Stream};
+use connections::{AcceptOutcome, Accepted, Listener, Network, Received, Removed, Stream};
 use sockets::SocketNetwork;
 use std::alloc::Global;
 use std::cell::{Cell, RefCell};

@@ -4,7 +4,7 @@
 ghost use Rattle.std.specs.Prelude.{⊤};
 
 use super::machine::{File, Machine};
-use super::steps::{StepPrinted, Step, copied, play};
+use super::steps::{Step, StepPrinted, copied, play};
 use sqlite::{Alter, Connection, Error, ErrorCode, FileStore, Files, Options};
 use sqlite_disk::{Crash, Disk, Fuse, Memory};
 use std::alloc::Global;
@@ -111,7 +111,11 @@ impl Machine for Disks {
         }
     }
 
-    fn copy_onto(self, alloc: Global, onto: Disks) -> Result<(Option<StepPrinted>, Disks, Disks), Fail> {
+    fn copy_onto(
+        self,
+        alloc: Global,
+        onto: Disks,
+    ) -> Result<(Option<StepPrinted>, Disks, Disks), Fail> {
         let Disks { files } = self;
         match opened(alloc, files) {
             Ok(mut conn) => {

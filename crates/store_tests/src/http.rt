@@ -2,7 +2,7 @@
 //! work of clerks for whom no client can ask.
 
 use super::begun::{BAD_REQUEST, BEGUN, KEYED, KEYING};
-use super::clients::{TestClient, TestClients, Evening};
+use super::clients::{Evening, TestClient, TestClients};
 use super::disks::Disks;
 use super::machine::{Machine, hear, hear_unchanged, play_acts};
 use super::steps::Step;

@@ -5,7 +5,7 @@ use super::begun::{
 };
 use super::disks::Disks;
 use super::machine::{Act, Machine, do_act, follow, hear, play_acts};
-use super::steps::{StepPrinted, Step};
+use super::steps::{Step, StepPrinted};
 use sqlite::{Alter, Connection};
 use std::alloc::Global;
 use std::fmt::Write;

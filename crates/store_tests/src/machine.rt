@@ -2,7 +2,7 @@
 //!
 //! They are written over any such machine. So a proof of them knows nothing of the store that they run on, and is short.
 
-use super::steps::{Case, StepPrinted, Step};
+use super::steps::{Case, Step, StepPrinted};
 use super::transcripts::read;
 use std::alloc::Global;
 use std::process::Abort;
@@ -40,7 +40,11 @@ pub trait Machine: Sized {
     fn play(self, alloc: Global, script: &[Step<'_>]) -> Result<(Vec<StepPrinted>, Self), Fail>;
 
     /// Copies the office onto other files, and leaves both as they are. Where those stop as they are opened, nothing is said.
-    fn copy_onto(self, alloc: Global, onto: Self) -> Result<(Option<StepPrinted>, Self, Self), Fail>;
+    fn copy_onto(
+        self,
+        alloc: Global,
+        onto: Self,
+    ) -> Result<(Option<StepPrinted>, Self, Self), Fail>;
 }
 
 fn sorted(alloc: Global, rows: &str) -> Result<Vec<&str>, Fail> {

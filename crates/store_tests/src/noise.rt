@@ -2,10 +2,10 @@
 //! one run into the end of another.
 
 use super::begun::{BEGUN, KEYED, KEYING};
-use super::clients::{TestClient, Evening};
+use super::clients::{Evening, TestClient};
 use super::disks::Disks;
 use super::machine::{Machine, hear, play_acts, rows};
-use super::steps::{StepPrinted, Step, SERVER_SETTINGS};
+use super::steps::{SERVER_SETTINGS, Step, StepPrinted};
 use rand_core::utils::NextWord;
 use rand_pcg::Pcg32;
 use std::alloc::{AllocError, Global};

@@ -2,10 +2,10 @@
 //! are for another file or from another program, or they are no orders at all.
 
 use super::begun::{BEGUN, KEYED, KEYING};
-use super::clients::{TestClient, Evening};
+use super::clients::{Evening, TestClient};
 use super::disks::Disks;
 use super::machine::{Machine, hear, hear_unchanged, play_acts};
-use super::steps::{Case, Step, SERVER_SETTINGS};
+use super::steps::{Case, SERVER_SETTINGS, Step};
 use desk::version::VERSION;
 use std::alloc::Global;
 use std::process::Abort;
@@ -168,9 +168,21 @@ fn are_refused<M: Machine + Drop>(rt: &(impl Abort + AllocGlobal), machine: M) -
     for (given, status, err) in [
         (older, 3, "fault 102: store\n"),
         (elsewhere, 3, "fault 102: store\n"),
-        (HandedOrder::of(INIT), 3, "fault 111: office is being served\n"),
-        (HandedOrder::of(MIGRATE), 3, "fault 111: office is being served\n"),
-        (HandedOrder::of(SERVE), 3, "fault 111: office is being served\n"),
+        (
+            HandedOrder::of(INIT),
+            3,
+            "fault 111: office is being served\n",
+        ),
+        (
+            HandedOrder::of(MIGRATE),
+            3,
+            "fault 111: office is being served\n",
+        ),
+        (
+            HandedOrder::of(SERVE),
+            3,
+            "fault 111: office is being served\n",
+        ),
         (HandedOrder::of(COPY), 3, "fault 110: copy not written\n"),
         (HandedOrder::of(JUDGE), 2, "bad verdict word\n"),
         (HandedOrder::of(ELSEWHERE), 1, "refused 5: no such ward\n"),

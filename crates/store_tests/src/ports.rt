@@ -6,7 +6,7 @@ use super::disks::Disks;
 use super::machine::{Machine, hear, play_acts};
 use super::steps::Step;
 use mio::net::TcpListener;
-use sockets::{SocketNetwork, Loopback, Poller};
+use sockets::{Loopback, Poller, SocketNetwork};
 use std::cell::RefCell;
 use std::io::{Read, Write};
 use std::net::{Ipv4Addr, SocketAddr, TcpStream};

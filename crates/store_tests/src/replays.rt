@@ -3,7 +3,7 @@
 
 use super::disks::Disks;
 use super::machine::{Act, File, Machine, hear, play_acts, rows};
-use super::steps::{Case, STOPPED, TestFiles, Step};
+use super::steps::{Case, STOPPED, Step, TestFiles};
 use super::stops::CALLS;
 use super::transcripts::read;
 use std::process::Abort;

@@ -2,14 +2,14 @@
 
 ghost use Rattle.std.specs.Prelude.{◌≡◌, ◌+◌, ◌-◌, ◌^◌, ◌<◌};
 
-use super::clients::{TestNetwork, Evening, Port, LimitedWriter, joined, pages_of};
+use super::clients::{Evening, LimitedWriter, Port, TestNetwork, joined, pages_of};
 use super::loads::loads;
 use codes::Codes;
 use desk::perform::perform;
 use desk::{Failure, Folder, Order, copy_office, order, tell_failure, tell_words};
-use server::{SideJobs, Destination, ServeError, FileNumbers, ServerSettings, serve_connections};
 use office::{Answer, Office, Run, Stop, Work};
 use register::Request;
+use server::{Destination, FileNumbers, ServeError, ServerSettings, SideJobs, serve_connections};
 use sqlite::{Alter, Connection};
 use std::alloc::{AllocError, Global};
 use std::test::Fail;
@@ -358,7 +358,13 @@ fn listen<S: Alter + Drop>(
     };
     let most = Some(port.connections);
     let served = match port.network.try_borrow_mut() {
-        Ok(mut network) => serve_connections(alloc, &mut *network, SERVER_SETTINGS, most, &mut office),
+        Ok(mut network) => serve_connections(
+            alloc,
+            &mut *network,
+            SERVER_SETTINGS,
+            most,
+            &mut office,
+        ),
         Err(_) => Err(ServeError::Network),
     };
     let conn = office.into_connection();

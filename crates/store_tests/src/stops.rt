@@ -4,7 +4,7 @@
 mod counts;
 
 use super::begun::{BEGUN, KEYED, KEYING, NOMINATED};
-use super::clients::{TestClient, Evening};
+use super::clients::{Evening, TestClient};
 use super::disks::Disks;
 use super::machine::{Act, File, Machine, hear, hear_unchanged, play_acts, rows};
 use super::steps::{Case, STOPPED, STOPPED_ANSWER, Step, StepExpected};

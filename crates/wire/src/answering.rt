@@ -13,9 +13,9 @@ ghost use Rattle.wire.specs.Responses.{fault_response, reply_response, text_resp
 ghost use Rattle.wire.specs.Serving.{IsReadTold, Readies, closed_response, paper_response, refused_for, told_response, work_response};
 ghost use Rattle.wire.specs.Told.{IsTold};
 
-use crate::request::{HttpRequest, Keying};
 use crate::bodies::{fault_body, refusal_body, reply_body};
 use crate::candidates::paper_body;
+use crate::request::{HttpRequest, Keying};
 use crate::response::{Content, Response};
 use crate::target::Resource;
 use crate::work::work_body;
@@ -149,7 +149,11 @@ fn answer_reading<S: Alter>(alloc: Global, office: &mut Office<S>, what: Resourc
 }
 
 /// Processes a request in the office, and returns the response.
-pub(crate) fn answer<S: Alter>(alloc: Global, office: &mut Office<S>, asked: HttpRequest<'_>) -> Response
+pub(crate) fn answer<S: Alter>(
+    alloc: Global,
+    office: &mut Office<S>,
+    asked: HttpRequest<'_>,
+) -> Response
     ensures answers { HasCleanDisk (state S.Store office.new.held) → office.old.closed ≡ false → (s : OfficeState) → IsAt s (state S.Store office.old.held)
         → Readies s (http_request_entry asked.entry) result office.new.closed (state S.Store office.new.held) }
     ensures closed { office.old.closed ≡ true → office.new ≡ office.old }

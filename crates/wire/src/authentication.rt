@@ -8,10 +8,10 @@ ghost use Rattle.codes.specs.Codes.{holders_of};
 ghost use Rattle.wire.specs.Gates.{clerk_under, gate_entry, is_wrong_code, kept_out, kept_out_by, authentication_by, authentication_entry, sent_codes};
 ghost use Rattle.wire.specs.Lengths.{NamedValue};
 
-use crate::request_error::RequestError;
 use crate::digits::number_in;
-use crate::settings::Gate;
 use crate::length::value_of;
+use crate::request_error::RequestError;
+use crate::settings::Gate;
 use codes::Codes;
 use httparse::spans::HeaderSpan;
 use std::str;
@@ -61,7 +61,12 @@ pub(crate) fn clerk_under(target: &[u8]) -> Option<u32>
 
 /// Returns why authentication of a clerk failed, by the header fields, whose names and values are in a buffer; `None` if it
 /// succeeded.
-fn kept_out_by(held: &Codes, clerk: u32, buffer: &[u8], headers: &[HeaderSpan]) -> Option<RequestError>
+fn kept_out_by(
+    held: &Codes,
+    clerk: u32,
+    buffer: &[u8],
+    headers: &[HeaderSpan],
+) -> Option<RequestError>
     requires { All (IsHeaderWithin (length buffer.now)) headers.now }
     ensures { result ≡ kept_out_by (holders_of held.now) clerk (sent_codes (map (header_bytes buffer.now) headers.now)) }
 {

@@ -6,8 +6,8 @@ ghost use Rattle.std.specs.Str.{str_eq_ignore_ascii_case};
 ghost use Rattle.httparse.specs.Spans.{IsHeaderWithin, header_bytes};
 ghost use Rattle.wire.specs.Lengths.{body_length, length_in, value_listed, values_of};
 
-use crate::request_error::RequestError;
 use crate::digits::{all_digits, capped_value};
+use crate::request_error::RequestError;
 use httparse::spans::HeaderSpan;
 
 /// The most bytes that a body may have.

@@ -31,19 +31,19 @@
 
 pub mod request_error;
 // requests: the head, what its target names, and the body
-pub mod request;
-mod body;
-mod digits;
-pub mod settings;
-mod head;
 mod authentication;
+mod body;
 mod completeness;
+mod digits;
+mod head;
 mod length;
 mod origin;
 pub mod parsed;
 pub mod plain;
-pub mod target;
 mod read_failure;
+pub mod request;
+pub mod settings;
+pub mod target;
 // responses
 mod bodies;
 mod candidates;
@@ -53,14 +53,16 @@ mod work;
 mod answering;
 mod serving;
 
-pub use request::{HttpRequest, Keying, read_request};
-pub use request_error::{RequestError, Verb};
-pub use settings::{Gate, HttpSettings, Page, Show};
-pub use head::MAX_HEAD_BYTES;
 pub use authentication::Authentication;
 pub use completeness::Completeness;
+pub use head::MAX_HEAD_BYTES;
 pub use origins::Origin;
 pub use parsed::{Head, Parsed, parse};
-pub use serving::{Served, respond, serve_one, write_gone_response, tell_no_memory, write_wait_response};
-pub use target::{Resource, Routes};
 pub use read_failure::ReadFailure;
+pub use request::{HttpRequest, Keying, read_request};
+pub use request_error::{RequestError, Verb};
+pub use serving::{
+    Served, respond, serve_one, tell_no_memory, write_gone_response, write_wait_response,
+};
+pub use settings::{Gate, HttpSettings, Page, Show};
+pub use target::{Resource, Routes};

@@ -7,15 +7,15 @@ ghost use Rattle.wire.specs.Gates.{HttpSettingsEntry, IsAuthentication, settings
 ghost use Rattle.wire.specs.Completeness.{IsCompletenessOf};
 ghost use Rattle.wire.specs.Parsing.{IsParsed, Says, needed, read_in};
 
-use crate::request::{HttpRequest, Keying, asked_for, page_at, served_at};
+use crate::authentication::{Authentication, authentication_by, clerk_under, kept_out};
 use crate::body::{KeyingBody, keying_of};
-use crate::request_error::RequestError;
-use crate::settings::{HttpSettings, Show};
-use crate::head::{MAX_HEAD_BYTES, MAX_HEADERS};
-use crate::authentication::{Authentication, clerk_under, kept_out, authentication_by};
 use crate::completeness::Completeness;
+use crate::head::{MAX_HEAD_BYTES, MAX_HEADERS};
 use crate::length::{MAX_BODY_BYTES, body_length};
 use crate::origin::is_foreign;
+use crate::request::{HttpRequest, Keying, asked_for, page_at, served_at};
+use crate::request_error::RequestError;
+use crate::settings::{HttpSettings, Show};
 use crate::target::{Resource, Routes, Target};
 use httparse::Status;
 use httparse::spans::{EMPTY_HEADER_SPAN, HeaderSpan, RequestSpans, parse_request};
@@ -103,7 +103,10 @@ impl Head {
         let authentication = authentication_by(settings.gate, clerk, why);
         let wanted = match why {
             Some(why) => Err(why),
-            None => asked_for(spans.method.of(read), served_at(settings.gate, routes, target)),
+            None => asked_for(
+                spans.method.of(read),
+                served_at(settings.gate, routes, target),
+            ),
         };
         Head {
             wanted,

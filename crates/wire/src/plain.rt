@@ -9,8 +9,8 @@ ghost use Rattle.wire.specs.Requests.{HasRead, IsWanting};
 ghost use Rattle.wire.specs.Gates.{given_nothing};
 ghost use Rattle.wire.specs.Serving.{OnAnswered, OnReadFailed, OnWriteFailed, Serves, ServesClosed};
 
-use crate::settings::HttpSettings;
 use crate::serving::Served;
+use crate::settings::HttpSettings;
 use office::Office;
 use sqlite::Alter;
 use std::alloc::Global;

@@ -9,12 +9,12 @@ ghost use Rattle.wire.specs.Serving.{IsDeniedAlike, IsShownAlike};
 ghost use Rattle.wire.specs.declared.request_error.RequestError.{RequestError};
 
 use crate::body::read_body;
-use crate::request_error::{RequestError, Verb};
-use crate::settings::{Gate, HttpSettings, Show};
 use crate::head::{MAX_HEAD_BYTES, MAX_HEADERS, read_head};
 use crate::parsed::Head;
-use crate::target::{Resource, Routes, Target};
 use crate::read_failure::ReadFailure;
+use crate::request_error::{RequestError, Verb};
+use crate::settings::{Gate, HttpSettings, Show};
+use crate::target::{Resource, Routes, Target};
 use httparse::spans::EMPTY_HEADER_SPAN;
 use std::alloc::Global;
 use votes::Source;

@@ -12,10 +12,10 @@ ghost use Rattle.wire.specs.Told.{IsTold, IsWritten};
 ghost use Rattle.wire.specs.Serving.{IsPut, IsServed, OnAnswered, OnReadFailed, OnWriteFailed, Readies, Serves, ServesClosed, closed_response};
 
 use crate::answering::answer;
-use crate::request::{HttpRequest, read_request};
-use crate::settings::HttpSettings;
-use crate::response::Response;
 use crate::read_failure::ReadFailure;
+use crate::request::{HttpRequest, read_request};
+use crate::response::Response;
+use crate::settings::HttpSettings;
 use office::Office;
 use sqlite::Alter;
 use std::alloc::Global;

@@ -54,7 +54,10 @@ fn office_router(alloc: Global) -> Result<Router<RouteTarget>, InsertError>
     let mut router = Router::new(alloc);
     router.insert("/clerks/{c}/batches/{b}/keying", RouteTarget::Keying)?;
     router.insert("/clerks/{c}/work", RouteTarget::Work)?;
-    router.insert("/clerks/{c}/batches/{b}/candidates", RouteTarget::Candidates)?;
+    router.insert(
+        "/clerks/{c}/batches/{b}/candidates",
+        RouteTarget::Candidates,
+    )?;
     router.insert("/clerks/{c}/", RouteTarget::Page)?;
     router.insert("/clerks/{c}/leave", RouteTarget::Leave)?;
     router.insert("/wards/{w}/sheet", RouteTarget::Sheet)?;
