@@ -53,6 +53,7 @@ mod work;
 mod answering;
 mod serving;
 
+pub use answering::answer_keying;
 pub use authentication::Authentication;
 pub use completeness::Completeness;
 pub use head::MAX_HEAD_BYTES;
@@ -61,8 +62,10 @@ pub use parsed::{Head, Parsed, parse};
 pub use read_failure::ReadFailure;
 pub use request::{HttpRequest, Keying, read_request};
 pub use request_error::{RequestError, Verb};
+pub use response::Response;
 pub use serving::{
-    Served, respond, serve_one, tell_no_memory, write_gone_response, write_wait_response,
+    Served, respond, serve_one, tell_no_memory, write_gone_response, write_response,
+    write_wait_response,
 };
 pub use settings::{Gate, HttpSettings, Page, Show};
 pub use target::{Resource, Routes};
