@@ -273,7 +273,7 @@ fn answer_client<A: SideJobs, S: Alter>(
     kept: &mut ServerMemory,
 ) -> PendingResponse
     requires { IsParsed (settings_entry server_settings.http) due.got.now due.parsed }
-    ensures meets { (number : ℕ) → RespondsToClient (settings_entry server_settings.entry.settings) (state S.Store) (served_office office.old (memory_entry kept.old))
+    ensures meets { (number : ℕ) → RespondsToClient (settings_entry server_settings.entry.http) (state S.Store) (served_office office.old (memory_entry kept.old))
         (record { listener = Listener.Clients; number = number; moment = due.entry.moment; got = due.entry.got.now; answer = result.bytes.items }) (served_office office.new (memory_entry kept.new)) }
     ensures untold { result.sent ≡ 0 }
 {
