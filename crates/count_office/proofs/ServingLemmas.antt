@@ -1,6 +1,6 @@
 -- What the order to serve comes to, once its office was opened.
 use Rattle.std.proofs.Common.{◌≡◌, ◌∙◌, ◌⊎◌, ap, inl, inr, refl, subst, sym, ℕ, List}
-use Rattle.std.specs.Prelude.{IfSome, Option, Result, option_map}
+use Rattle.std.specs.Prelude.{Bool, IfSome, Option, Result, option_map}
 use Rattle.sqlite.specs.Held.{Held}
 use Rattle.sqlite.specs.State.{State}
 use Rattle.connections.specs.Streams.{Stream}
@@ -19,7 +19,7 @@ use Rattle.count_office.specs.declared.serving.Serving.{Serving}
 -- the origin and the porter's gate are given, and a file
 abbrev pub IsGivenBy : Serving → Option GateFiles → Option FileNumbers → ServerSettingsEntry → Type 0
 IsGivenBy serving gate_files numbers settings =
-    (settings ≡ settings_with (given_by serving.origin) (option_map gate_at gate_files) settings.file) × IfSome numbers (λ known. settings.file ≡ known)
+    (settings ≡ settings_with (given_by serving.origin) (option_map gate_at gate_files) settings.file settings.whole) × IfSome numbers (λ known. settings.file ≡ known)
 
 given_for : (serving : Serving) (codes_at : CodeFiles) (gate_files : Option GateFiles) (numbers : Option FileNumbers) (settings : ServerSettingsEntry)
     → IsGateFor codes_at (path_in serving) (option_map gate_at gate_files) → IsGivenBy serving gate_files numbers settings → AreSettingsFor serving codes_at numbers settings
@@ -30,13 +30,13 @@ given_for serving codes_at gate_files numbers settings gate (is, file) = record 
 }
 
 -- the office was served at doors that were opened on a port and closed again
-pub served_on : {L S : Type 0} (serving : Serving) (gate_files : Option GateFiles) (numbers : Option FileNumbers) (file : FileNumbers) (stream : Stream L) (state_of : Held S → State)
+pub served_on : {L S : Type 0} (serving : Serving) (gate_files : Option GateFiles) (numbers : Option FileNumbers) (file : FileNumbers) (whole : Option Bool) (stream : Stream L) (state_of : Held S → State)
     (before opened later : ℕ → NetworkEntry L) (first last : NetworkEntry L) (old new : OfficeValue S) (ends : Result (Unit {0}) ServeError)
     → opened ≡ before → first ≡ before serving.port → later serving.port ≡ last → IsElsewhereSame serving.port opened later → IfSome numbers (λ known. file ≡ known)
-    → ServesAtNetwork (settings_with (given_by serving.origin) (option_map gate_at gate_files) file) stream state_of first last serving.connections old new ends
+    → ServesAtNetwork (settings_with (given_by serving.origin) (option_map gate_at gate_files) file whole) stream state_of first last serving.connections old new ends
     → MayServe (IsGivenBy serving gate_files numbers) stream state_of serving.port before later serving.connections old new (outcome_by ends)
-served_on serving gate_files numbers file stream state_of before opened later first last old new ends same began closed elsewhere is_file served =
-    let settings = settings_with (given_by serving.origin) (option_map gate_at gate_files) file in
+served_on serving gate_files numbers file whole stream state_of before opened later first last old new ends same began closed elsewhere is_file served =
+    let settings = settings_with (given_by serving.origin) (option_map gate_at gate_files) file whole in
     let at = λ (one other : NetworkEntry _). ServesAtNetwork settings stream state_of one other serving.connections old new ends in
     inr (
       settings,

@@ -62,13 +62,13 @@ IsUngated codes_at (Some path) why = IsReadAs (codes_at path) (Err why)
 abbrev pub path_in : Serving → Option (List ℕ)
 path_in serving = option_map (λ path. path.now) serving.codes
 
--- the settings of an origin, a gate and a file
-abbrev pub settings_with : Option (List ℕ) → Option GateEntry → FileNumbers → ServerSettingsEntry
-settings_with origin gate file = record { clients = record { origin = origin; gate = gate }; file = file }
+-- the settings of an origin, a gate and a file, and of what is known of that for good
+abbrev pub settings_with : Option (List ℕ) → Option GateEntry → FileNumbers → Option Bool → ServerSettingsEntry
+settings_with origin gate file whole = record { clients = record { origin = origin; gate = gate }; file = file; whole = whole }
 
 -- the settings of the server
-abbrev pub server_settings_of : GateSettings → ServerSettingsEntry
-server_settings_of settings = settings_with (given_by settings.serving.origin) (option_map gate_at settings.gate_files.now) settings.file
+abbrev pub server_settings_of : GateSettings → Option Bool → ServerSettingsEntry
+server_settings_of settings whole = settings_with (given_by settings.serving.origin) (option_map gate_at settings.gate_files.now) settings.file whole
 
 -- What the order to serve gives: the origin that it names, the gate for the file of codes that it names, and the file of the office.
 pub record AreSettingsFor (serving : Serving) (codes_at : CodeFiles) (numbers : Option FileNumbers) (settings : ServerSettingsEntry) : Type 0 where

@@ -67,7 +67,7 @@ fn serve_through<D: Network, A: SideJobs, S: Alter>(
     side_jobs: &A,
     office: &mut Office<S>,
 ) -> Result<(), ServeError>
-    ensures { ServesAtNetwork (server_settings_of settings.entry) (stream_of D.Stream.held D.Stream.taken D.Stream.failed) (state S.Store)
+    ensures { ServesAtNetwork (server_settings_of settings.entry (A.whole side_jobs.now)) (stream_of D.Stream.held D.Stream.taken D.Stream.failed) (state S.Store)
         (D.known network.old) (D.known network.new) settings.entry.serving.connections office.old office.new result }
 {
     let server_settings = ServerSettings {
@@ -91,7 +91,7 @@ fn serve_at<H: Host, S: Alter>(
     gate_files: &Option<GateFiles>,
     office: &mut Office<S>,
 ) -> Result<(), Failure>
-    ensures { MayServe (λ given. (given ≡ settings_with (given_by serving.entry.origin) (option_map gate_at gate_files.now) given.file) × IfSome (H.file host.old) (λ numbers. given.file ≡ numbers))
+    ensures { MayServe (λ given. (given ≡ settings_with (given_by serving.entry.origin) (option_map gate_at gate_files.now) given.file given.whole) × IfSome (H.file host.old) (λ numbers. given.file ≡ numbers))
         (stream_of H.Port.Stream.held H.Port.Stream.taken H.Port.Stream.failed) (state S.Store)
         serving.entry.port (H.known host.old) (H.known host.new) serving.entry.connections office.old office.new result }
 {

@@ -1,7 +1,7 @@
 //! What an order needs beside the office that is served, from this machine: the file of a copy, and memory for the trial of a
 //! journal.
 
-ghost use Rattle.std.specs.Prelude.{◌-◌, ◌<◌};
+ghost use Rattle.std.specs.Prelude.{◌-◌, ◌<◌, None};
 
 use crate::copies::copy_served;
 use crate::presence::Presence;
@@ -29,6 +29,8 @@ fn path_from(alloc: Global, folder: &str, path: &str) -> Result<String, AllocErr
 }
 
 impl SideJobs for LocalJobs<'_> {
+    ghost whole = { λ _. None };
+
     fn is_whole(&self) -> bool {
         self.presence.is_whole(self.rt)
     }

@@ -218,9 +218,9 @@ module _ {S : Type 0} (settings : ServerSettingsEntry) (state_of : Held S → St
   stays_clean old new stays clean = subst (λ (d : ServedOffice S). HasCleanDisk (state_of d.office.held)) stays clean
 
   -- a client that is turned back is told so, and all stays as it was
-  turned_back : (exchange : Exchange) (old new : ServedOffice S) → IsKeptWaiting settings.clients old exchange new ⊎ IsWithoutFile old exchange new → IsSentAway exchange × (new ≡ old)
+  turned_back : (exchange : Exchange) (old new : ServedOffice S) → IsKeptWaiting settings.clients old exchange new ⊎ IsWithoutFile settings old exchange new → IsSentAway settings exchange × (new ≡ old)
   turned_back exchange old new (inl waits) = (inl waits.told, waits.stays)
-  turned_back exchange old new (inr gone) = (inr gone.told, gone.stays)
+  turned_back exchange old new (inr gone) = (inr (gone.told, gone.unknown), gone.stays)
 
   clean_at : (listener : Listener) (exchange : Exchange) (old new : ServedOffice S) → ServesAt listener settings state_of old exchange new → HasCleanDisk (state_of new.office.held) → HasCleanDisk (state_of old.office.held)
   clean_at Clients exchange old new (inl it) clean = stays_clean old new (turned_back exchange old new it).1 clean
@@ -264,7 +264,7 @@ module _ {S : Type 0} (settings : ServerSettingsEntry) (state_of : Held S → St
   turn_leaves Clients s exchange old new (inr it) clean is_open at right = served_leaves s exchange old new it.serves clean is_open at right
   turn_leaves Orders s exchange old new (it, emptied, same) clean is_open at right =
       let told = it.tells in
-      let tells : (sent last : List Request) → TellsSo state_of (folder_of it.files) s it.asked told.cut told.page sent last → TellsOrder state_of settings.file s exchange.got exchange.answer sent last =
+      let tells : (sent last : List Request) → TellsSo state_of (folder_of it.files) s it.asked told.cut told.page sent last → TellsOrder state_of settings s exchange.got exchange.answer sent last =
       λ sent last so. record { files = it.files; asked = it.asked; is = it.is; cut = told.cut; page = told.page; told = told.told; tells = so } in
       elim (order_leaves state_of (folder_of it.files) s old.office new.office it.asked told.cut told.page (told.does clean is_open s at)) [
         | inl (sent, last, so, open_at) ↦ inl (sent, (last, tells sent last so), none_read (after s sent) new.kept.reads emptied, open_at)

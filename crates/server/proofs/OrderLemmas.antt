@@ -21,6 +21,7 @@ use Rattle.desk.specs.Pages.{Cut, IsShown, Outputs, Page, Shows, Tells, cut_behi
 use Rattle.desk.specs.declared.lines.Failure.TheVariants.{Office}
 use Rattle.server.specs.ServedOrders.{AsksSo, IsOrderOutcome, FollowsOrder, IsForFile, IsMessage, IsUnread, TellsAsked, folder_of, shut_page, untold, words_in}
 use Rattle.server.specs.FrameSinks.{IsEnded}
+use Rattle.server.specs.Settings.{ServerSettingsEntry}
 use Rattle.server.specs.declared.served_order.ServedOrder.{ServedOrder}
 use Rattle.server.specs.declared.served_order.ServedOrder.TheVariants as asked
 use Rattle.server.specs.declared.server_settings.FileNumbers.{FileNumbers}
@@ -132,15 +133,15 @@ order_unread file got message fault is (inl wanting) = inl (ap (λ (f : Fault). 
 order_unread file got message fault is (inr (store, none)) = subst (λ (f : Fault). IsUnread file got (asked.Refused (Office f))) (sym store) (no_order file got message is none)
 
 -- what isn't read is refused
-pub follows_unread : {S : Type 0} (file : FileNumbers) (state_of : Held S → State) (old new : OfficeValue S) (got frames : List ℕ) (files : List MessagePartEntry) (what : ServedOrder) → IsUnread file got what → files ≡ []
-    → TellsAsked state_of old files what frames new → FollowsOrder file state_of old got frames new
-follows_unread {S} file state_of old new got frames files what unread none tells = record { files = files; asked = what; is = inr (unread, none); tells = tells }
+pub follows_unread : {S : Type 0} (settings : ServerSettingsEntry) (state_of : Held S → State) (old new : OfficeValue S) (got frames : List ℕ) (files : List MessagePartEntry) (what : ServedOrder)
+    → IsUnread settings.file got what → files ≡ [] → TellsAsked state_of old files what frames new → FollowsOrder settings state_of old got frames new
+follows_unread {S} settings state_of old new got frames files what unread none tells = record { files = files; asked = what; is = inr (unread, none); tells = tells }
 
 -- what is read is followed, by the words and with the files as they were read
-pub follows_read : {S : Type 0} (file : FileNumbers) (state_of : Held S → State) (old new : OfficeValue S) (got frames : List ℕ) (h : OrderMessage) (files : List MessagePart) (what : ServedOrder)
-    → IsMessage got (order_message_entry h) → IsForFile file (order_message_entry h) → files ≡ h.files.items → AsksSo (order_message_entry h) what → TellsAsked state_of old (message_part_entries files) what frames new
-    → FollowsOrder file state_of old got frames new
-follows_read {S} file state_of old new got frames h files what message for_file same asks tells =
+pub follows_read : {S : Type 0} (settings : ServerSettingsEntry) (state_of : Held S → State) (old new : OfficeValue S) (got frames : List ℕ) (h : OrderMessage) (files : List MessagePart) (what : ServedOrder)
+    → IsMessage got (order_message_entry h) → IsForFile settings.file (order_message_entry h) → files ≡ h.files.items → AsksSo settings.whole (order_message_entry h) what
+    → TellsAsked state_of old (message_part_entries files) what frames new → FollowsOrder settings state_of old got frames new
+follows_read {S} settings state_of old new got frames h files what message for_file same asks tells =
     record { files = message_part_entries files; asked = what; is = inl (order_message_entry h, message, for_file, ap message_part_entries same, asks); tells = tells }
 
 pub words_same : (h : OrderMessage) (seen : List MessagePart) (texts words : List (Bor (List ℕ))) → seen ≡ h.words.items

@@ -1,7 +1,7 @@
 -- A client who goes on, part by part.
 use Rattle.std.specs.Io.KnownBytes.{IsAtEnd}
-use Rattle.std.proofs.Common.{◌≡◌, ◌≤◌, ◌∙◌, ◌∷◌, ◌++◌, ℕ, Bool, List, [], false, true, None, Option, Some, ap, inl, inr, is_some, length, map, option_map, refl, subst, sym}
-use Rattle.std.specs.Prelude.{Err, Ok, Result}
+use Rattle.std.proofs.Common.{◌≡◌, ◌≤◌, ◌∙◌, ◌∷◌, ◌++◌, ℕ, Bool, List, [], false, true, None, Option, Some, ap, inl, inr, is_some, length, map, option_map, refl, subst, sym, true≢false}
+use Rattle.std.specs.Prelude.{Err, IfSome, Ok, Result, not}
 use Rattle.votes.specs.declared.streams.Broken.{Broken as Failure}
 use Rattle.connections.specs.Closing.{EndsFor}
 use Rattle.connections.specs.Traces.{IsServiceOutcome, IsMomentOf}
@@ -79,6 +79,14 @@ told_waiting exchange before after served is_before is_answer it = told_first wa
 
 pub told_gone : (exchange : Exchange) (before after : List ℕ) (served : Ending) → before ≡ [] → exchange.answer ≡ after → IsServed (IsWritten (fault_response 113)) (Some before) (Some after) served → IsGoneResponse exchange
 told_gone exchange before after served is_before is_answer it = told_first (fault_response 113) exchange.answer before after served is_before is_answer it
+
+-- what isn't whole isn't known to be
+pub known_gone : (whole : Option Bool) (is_whole : Bool) → IfSome whole (λ (known : Bool). is_whole ≡ known) → is_whole ≡ false → whole ≡ Some true → ⊥
+known_gone whole is_whole it gone known = let same : is_whole ≡ true = subst (λ (w : Option Bool). IfSome w (λ (k : Bool). is_whole ≡ k)) known it in true≢false (sym same ∙ gone)
+
+pub untrue : (b : Bool) → not b ≡ true → b ≡ false
+untrue true is = sym is
+untrue false is = refl
 
 -- it leaves for one reason
 pub left_as : (was why : CloseReason) → Leaves was ≡ Leaves why → was ≡ why

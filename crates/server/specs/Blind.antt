@@ -48,7 +48,7 @@ pub record IsFollowedBySeen {S : Type 0} (state_of : Held S → State) (settings
   pub seen : seen_by clerk s ≡ view
   pub sent : List Request
   pub last : List Request
-  pub tells : TellsOrder state_of settings.file s exchange.got exchange.answer sent last
+  pub tells : TellsOrder state_of settings s exchange.got exchange.answer sent last
   pub made : next ≡ seen_by clerk (after s sent)
 
 -- the request of a client, or of an order, was processed between one view and the next

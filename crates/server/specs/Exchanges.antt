@@ -17,6 +17,7 @@ use Rattle.wire.specs.Responses.{fault_response, waits_response}
 use Rattle.wire.specs.Told.{IsTold, IsWritten}
 use Rattle.wire.specs.Serving.{IsHandedOn, IsServed, Readies, ReadiesClosed, ReadiesFor, TellsFault, TellsFor, closed_response}
 use Rattle.wire.specs.declared.serving.Served.{Served}
+use Rattle.wire.specs.declared.target.Resource.{Resource}
 use Rattle.server.specs.ServedOrders.{FollowsOrder, IsTurnedAway, TellsOrder}
 use Rattle.server.specs.Reads.{AreReadAt, ServedOffice, limit_after, must_wait}
 use Rattle.server.specs.Settings.{ServerSettingsEntry}
@@ -76,14 +77,16 @@ IsWaitResponse exchange = EndsSo exchange (IsServed (IsWritten waits_response))
 abbrev pub IsGoneResponse : Exchange → Type 0
 IsGoneResponse exchange = EndsSo exchange (IsServed (IsWritten (fault_response 113)))
 
--- a client is sent away: it must wait, or the file is gone
-abbrev pub IsSentAway : Exchange → Type 0
-IsSentAway exchange = IsWaitResponse exchange ⊎ IsGoneResponse exchange
+-- a client is sent away: it must wait, or the file is gone, which isn't known to be whole
+abbrev pub IsSentAway : ServerSettingsEntry → Exchange → Type 0
+IsSentAway settings exchange = IsWaitResponse exchange ⊎ (IsGoneResponse exchange × (settings.whole ≡ Some true → ⊥))
 
--- the file of the office is gone or replaced: the response says so, and all stays as it is
-pub record IsWithoutFile {S : Type 0} (old : ServedOffice S) (exchange : Exchange) (new : ServedOffice S) : Type 0 where
+-- The file of the office is gone or replaced: the response says so, and all stays as it is. The file isn't known to be whole, and the client reads nothing of an open office.
+pub record IsWithoutFile {S : Type 0} (settings : ServerSettingsEntry) (old : ServedOffice S) (exchange : Exchange) (new : ServedOffice S) : Type 0 where
   pub told : IsGoneResponse exchange
   pub stays : new ≡ old
+  pub unknown : settings.whole ≡ Some true → ⊥
+  pub reads_none : old.office.closed ≡ false → (what : Resource) → Asks settings.clients exchange.got (reading what) → ⊥
 
 -- a client's code is wrong, and the rate limit is reached: the response is to wait, and all stays as it is
 pub record IsKeptWaiting {S : Type 0} (settings : HttpSettingsEntry) (old : ServedOffice S) (exchange : Exchange) (new : ServedOffice S) : Type 0 where
@@ -102,14 +105,15 @@ pub record IsLetIn {S : Type 0} (settings : HttpSettingsEntry) (state_of : Held 
   pub noted : new.kept.limit ≡ limit_after authentication exchange.moment old.kept.limit
 
 -- the request of a client was processed: it must wait, or the file is gone, or it is let in
-abbrev pub RespondsToClient : {S : Type 0} → HttpSettingsEntry → (Held S → State) → ServedOffice S → Exchange → ServedOffice S → Type 0
-RespondsToClient settings state_of old exchange new = (IsKeptWaiting settings old exchange new ⊎ IsWithoutFile old exchange new) ⊎ IsLetIn settings state_of old exchange new
+abbrev pub RespondsToClient : {S : Type 0} → ServerSettingsEntry → (Held S → State) → ServedOffice S → Exchange → ServedOffice S → Type 0
+RespondsToClient settings state_of old exchange new =
+    (IsKeptWaiting settings.clients old exchange new ⊎ IsWithoutFile settings old exchange new) ⊎ IsLetIn settings.clients state_of old exchange new
 
 -- The request of a connection of this listener was processed: a client's as above; or an order is followed, the cache is emptied, and no wrong code is counted.
 abbrev pub ServesAt : {S : Type 0} → Listener → ServerSettingsEntry → (Held S → State) → ServedOffice S → Exchange → ServedOffice S → Type 0
-ServesAt Clients settings state_of old exchange new = RespondsToClient settings.clients state_of old exchange new
+ServesAt Clients settings state_of old exchange new = RespondsToClient settings state_of old exchange new
 ServesAt Orders settings state_of old exchange new =
-    FollowsOrder settings.file state_of old.office exchange.got exchange.answer new.office × (new.kept.reads ≡ []) × (new.kept.limit ≡ old.kept.limit)
+    FollowsOrder settings state_of old.office exchange.got exchange.answer new.office × (new.kept.reads ≡ []) × (new.kept.limit ≡ old.kept.limit)
 
 abbrev pub ServesExchange : {S : Type 0} → ServerSettingsEntry → (Held S → State) → ServedOffice S → Exchange → ServedOffice S → Type 0
 ServesExchange settings state_of old exchange new = ServesAt exchange.listener settings state_of old exchange new
@@ -124,8 +128,8 @@ IsLastFor settings bytes last =
 
 -- a client that asks a closed office anything gets the response that it is closed; or it is turned away
 abbrev pub IsToldClosed : Listener → ServerSettingsEntry → Exchange → Type 0
-IsToldClosed Clients settings exchange = IsSentAway exchange ⊎ EndsSo exchange (IsServed (ReadiesClosed settings.clients (Some exchange.got)))
-IsToldClosed Orders settings exchange = IsTurnedAway settings.file exchange.got exchange.answer
+IsToldClosed Clients settings exchange = IsSentAway settings exchange ⊎ EndsSo exchange (IsServed (ReadiesClosed settings.clients (Some exchange.got)))
+IsToldClosed Orders settings exchange = IsTurnedAway settings exchange.got exchange.answer
 
 -- the same of each of these
 abbrev pub AreTurnedAway : ServerSettingsEntry → List Exchange → Type 0
@@ -135,13 +139,13 @@ AreTurnedAway settings (exchange ∷ exchanges) = IsToldClosed exchange.listener
 -- A request is processed at a state, and these commands were answered for it. A client's is none, or one keying, and then its response is the office's reply to it. A
 -- client that must wait has none. An order's are those that its output has.
 abbrev pub IsAnsweredAt : {S : Type 0} → Listener → (Held S → State) → ServerSettingsEntry → OfficeState → Exchange → List Request → Type 0
-IsAnsweredAt Clients state_of settings s exchange sent = (IsSentAway exchange × (sent ≡ [])) ⊎ EndsSo exchange (IsServed (TellsFor settings.clients (Some exchange.got) s sent))
-IsAnsweredAt Orders state_of settings s exchange sent = (last : List Request) × TellsOrder state_of settings.file s exchange.got exchange.answer sent last
+IsAnsweredAt Clients state_of settings s exchange sent = (IsSentAway settings exchange × (sent ≡ [])) ⊎ EndsSo exchange (IsServed (TellsFor settings.clients (Some exchange.got) s sent))
+IsAnsweredAt Orders state_of settings s exchange sent = (last : List Request) × TellsOrder state_of settings s exchange.got exchange.answer sent last
 
 -- A fault, which is the response, closed the office during a request: these commands were answered for it, and one more may be kept or not.
 abbrev pub IsStoppedAt : {S : Type 0} → Listener → (Held S → State) → ServerSettingsEntry → OfficeState → Exchange → List Request → List Request → Type 0
 IsStoppedAt Clients state_of settings s exchange answered last = EndsSo exchange (IsServed TellsFault) × (answered ≡ []) × IsLastFor settings.clients exchange.got last
-IsStoppedAt Orders state_of settings s exchange answered last = TellsOrder state_of settings.file s exchange.got exchange.answer answered last
+IsStoppedAt Orders state_of settings s exchange answered last = TellsOrder state_of settings s exchange.got exchange.answer answered last
 
 -- All requests are processed in turn, each as the office's machine says at the state at which it is processed, and these commands were answered for them. Or a fault closed
 -- the office during one of them, and every later one gets the response that the office is closed.

@@ -1,5 +1,5 @@
 -- An order that is handed over to the server: what its message asks, the outcome, and its output in frames.
-use Rattle.std.specs.Prelude.{◌≡◌, ◌⊎◌, ⊤, Bool, true, List, [], ◌∷◌, None, Some, bytes_eq, drop, if◌then◌else◌, length, map, option_map, take, ◌≤◌, ◌+◌, ℕ}
+use Rattle.std.specs.Prelude.{◌≡◌, ◌⊎◌, ⊤, Bool, true, List, [], ◌∷◌, None, Some, bytes_eq, drop, if◌then◌else◌, length, map, option_map, take, ◌≤◌, ◌+◌, Option, ℕ}
 use Rattle.std.specs.Int.{from_be_bytes, w64}
 use Rattle.std.specs.List.{list_all}
 use Rattle.std.specs.Str.{is_utf8}
@@ -29,6 +29,7 @@ use Rattle.desk.specs.declared.orders.Order.{Order}
 use Rattle.desk.specs.declared.orders.Order.TheVariants as order
 use Rattle.desk.specs.declared.orders.Task.TheVariants as task
 use Rattle.desk.specs.declared.version.TheConstants.{VERSION}
+use Rattle.server.specs.Settings.{ServerSettingsEntry}
 use Rattle.server.specs.declared.served_order.ServedOrder.{ServedOrder}
 use Rattle.server.specs.declared.served_order.ServedOrder.TheVariants as asked
 use Rattle.server.specs.declared.server_settings.FileNumbers.{FileNumbers}
@@ -67,13 +68,15 @@ IsForNone (order.Serve port connections origin codes) = ⊤
 IsForNone (order.Codes path clerks) = ⊤
 IsForNone other = ⊥
 
--- What an order asks that is for this file: a job, a copy, the journal; or why it isn't followed: its words are no order, or the file is gone.
-abbrev pub AsksSo : OrderMessageEntry → ServedOrder → Type 0
-AsksSo h (asked.Do job) = MeansOrder h (order.Perform (task.InOffice job))
-AsksSo h (asked.Copy path) = MeansOrder h (order.Copy path)
-AsksSo h asked.Journal = MeansOrder h order.Journal
-AsksSo h (asked.Refused failure) = ((failure ≡ BeingServed) × ((o : Order) × MeansOrder h o × IsForNone o)) ⊎ ((failure ≡ FileGone) × ((job : Job) × MeansOrder h (order.Perform (task.InOffice job))))
-AsksSo h (asked.Misread fault) = IsNoneMeant (meaning (subcommand_of office_words (words_in h))) fault
+-- What an order asks that is for this file: a job, a copy, the journal. Or why it isn't followed: its words are no order; or the file is gone, which isn't known to be whole.
+abbrev pub AsksSo : Option Bool → OrderMessageEntry → ServedOrder → Type 0
+AsksSo whole h (asked.Do job) = MeansOrder h (order.Perform (task.InOffice job))
+AsksSo whole h (asked.Copy path) = MeansOrder h (order.Copy path)
+AsksSo whole h asked.Journal = MeansOrder h order.Journal
+AsksSo whole h (asked.Refused failure) =
+    ((failure ≡ BeingServed) × ((o : Order) × MeansOrder h o × IsForNone o))
+    ⊎ ((failure ≡ FileGone) × ((job : Job) × MeansOrder h (order.Perform (task.InOffice job))) × (whole ≡ Some true → ⊥))
+AsksSo whole h (asked.Misread fault) = IsNoneMeant (meaning (subcommand_of office_words (words_in h))) fault
 
 -- No order is decoded: an allocation failed; or the bytes are no message of text, or that of another version of the program, or for another file.
 abbrev pub IsUnread : FileNumbers → List ℕ → ServedOrder → Type 0
@@ -82,8 +85,9 @@ IsUnread file got what =
     ⊎ ((what ≡ asked.Refused (Office Store)) × ((h : OrderMessageEntry) → IsMessage got h → IsForFile file h → list_all is_utf8 (words_in h) ≡ true → ⊥))
 
 -- these bytes ask this, with the files that came with it
-abbrev pub AsksOrder : FileNumbers → List ℕ → List MessagePartEntry → ServedOrder → Type 0
-AsksOrder file got files what = ((h : OrderMessageEntry) × IsMessage got h × IsForFile file h × (files ≡ h.files) × AsksSo h what) ⊎ (IsUnread file got what × (files ≡ []))
+abbrev pub AsksOrder : ServerSettingsEntry → List ℕ → List MessagePartEntry → ServedOrder → Type 0
+AsksOrder settings got files what =
+    ((h : OrderMessageEntry) × IsMessage got h × IsForFile settings.file h × (files ≡ h.files) × AsksSo settings.whole h what) ⊎ (IsUnread settings.file got what × (files ≡ []))
 
 -- ---- its files
 
@@ -151,10 +155,10 @@ pub record TellsAsked {S : Type 0} (state_of : Held S → State) (old : OfficeVa
   pub clean : HasCleanDisk (state_of new.held) → HasCleanDisk (state_of old.held)
 
 -- the order that these bytes ask was processed, and these frames are the response
-pub record FollowsOrder {S : Type 0} (file : FileNumbers) (state_of : Held S → State) (old : OfficeValue S) (got frames : List ℕ) (new : OfficeValue S) : Type 0 where
+pub record FollowsOrder {S : Type 0} (settings : ServerSettingsEntry) (state_of : Held S → State) (old : OfficeValue S) (got frames : List ℕ) (new : OfficeValue S) : Type 0 where
   pub files : List MessagePartEntry
   pub asked : ServedOrder
-  pub is : AsksOrder file got files asked
+  pub is : AsksOrder settings got files asked
   pub tells : TellsAsked state_of old files asked frames new
 
 -- ---- its output at a state
@@ -175,19 +179,19 @@ TellsSo state_of folder s (asked.Refused failure) cut page sent last = (page ≡
 TellsSo state_of folder s (asked.Misread fault) cut page sent last = (page ≡ words_page fault) × (sent ≡ []) × (last ≡ [])
 
 -- an order that these bytes ask printed its page at a state, in these frames
-pub record TellsOrder {S : Type 0} (state_of : Held S → State) (file : FileNumbers) (s : OfficeState) (got frames : List ℕ) (sent last : List Request) : Type 0 where
+pub record TellsOrder {S : Type 0} (state_of : Held S → State) (settings : ServerSettingsEntry) (s : OfficeState) (got frames : List ℕ) (sent last : List Request) : Type 0 where
   pub files : List MessagePartEntry
   pub asked : ServedOrder
-  pub is : AsksOrder file got files asked
+  pub is : AsksOrder settings got files asked
   pub cut : Cut
   pub page : Page
   pub told : IsFramed cut page frames
   pub tells : TellsSo state_of (folder_of files) s asked cut page sent last
 
 -- an order that these bytes ask found the office closed, and these frames say so
-pub record IsTurnedAway (file : FileNumbers) (got frames : List ℕ) : Type 0 where
+pub record IsTurnedAway (settings : ServerSettingsEntry) (got frames : List ℕ) : Type 0 where
   pub files : List MessagePartEntry
   pub asked : ServedOrder
-  pub is : AsksOrder file got files asked
+  pub is : AsksOrder settings got files asked
   pub cut : Cut
   pub told : IsFramed cut (shut_page asked) frames

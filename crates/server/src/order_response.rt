@@ -8,6 +8,7 @@ ghost use Rattle.connections.specs.Streams.{HasTaken, stream_of};
 ghost use Rattle.connections.specs.Clients.{IsSent};
 ghost use Rattle.order_protocol.specs.Messages.{OrderMessageEntry, order_message_entry, message_part_entries};
 ghost use Rattle.desk.specs.Pages.{Shows, Tells, outputs_of};
+ghost use Rattle.server.specs.Settings.{settings_in};
 ghost use Rattle.server.specs.ServedOrders.{AsksSo, IsOrderOutcome, FollowsOrder, HasCameWhole, IsCopyTold, IsMessage, TellsAsked, folder_of, shut_page};
 
 use crate::frame_sink::FrameSink;
@@ -172,7 +173,7 @@ fn respond_to_asked<L: Stream, A: SideJobs, S: Alter>(
 
 /// Returns what an order asks; or that it isn't followed, if it asks for a job and the office's file is gone or replaced.
 fn unless_gone<'w, A: SideJobs>(asked: ServedOrder<'w>, side_jobs: &A) -> ServedOrder<'w>
-    ensures { (h : OrderMessageEntry) → AsksSo h asked.entry → AsksSo h result }
+    ensures { (h : OrderMessageEntry) → AsksSo (A.whole side_jobs.now) h asked.entry → AsksSo (A.whole side_jobs.now) h result }
 {
     match asked {
         ServedOrder::Do(job) => {
@@ -220,7 +221,7 @@ fn respond_to_message<L: Stream, A: SideJobs, S: Alter>(
 ) -> (L, PendingResponse)
     requires { HasTaken (L.taken stream) [] }
     ensures told { IsSent (stream_of L.held L.taken L.failed) result.0 result.1.bytes.items result.1.sent }
-    ensures followed { (got : List ℕ) → IsMessage got (order_message_entry message.now) → FollowsOrder server_settings.entry.file (state S.Store) office.old got result.1.bytes.items office.new }
+    ensures followed { (got : List ℕ) → IsMessage got (order_message_entry message.now) → FollowsOrder (settings_in A.whole server_settings.entry) (state S.Store) office.old got result.1.bytes.items office.new }
 {
     if !is_for_file(message, server_settings.file) {
         return tell_refused(
@@ -264,7 +265,7 @@ pub fn answer_order<L: Stream, A: SideJobs, S: Alter>(
     requires fresh { HasTaken (L.taken stream) [] }
     requires whole { HasCameWhole got.now }
     ensures told { IsSent (stream_of L.held L.taken L.failed) result.0 result.1.bytes.items result.1.sent }
-    ensures followed { FollowsOrder server_settings.entry.file (state S.Store) office.old got.now result.1.bytes.items office.new }
+    ensures followed { FollowsOrder (settings_in A.whole server_settings.entry) (state S.Store) office.old got.now result.1.bytes.items office.new }
 {
     match read_message(alloc, &got[LENGTH..]) {
         Ok(message) => respond_to_message(alloc, server_settings, &message, stream, office),

@@ -1,6 +1,6 @@
 //! What an order asks of the server.
 
-ghost use Rattle.std.specs.Prelude.{◌≡◌, ◌⊎◌, ◌↔◌, IfErr, IfOk, map, true};
+ghost use Rattle.std.specs.Prelude.{◌≡◌, ◌⊎◌, ◌↔◌, Bool, IfErr, IfOk, Option, map, true};
 ghost use Rattle.std.specs.List.{list_all};
 ghost use Rattle.std.specs.Str.{is_utf8};
 ghost use Rattle.order_protocol.specs.Messages.{OrderMessageEntry, Fits, order_message_entry, encoding_of};
@@ -71,7 +71,7 @@ pub fn is_for_file(handed: &OrderMessage<'_>, file: FileNumbers) -> bool
 /// Returns what an order asks that is for the file that is served. `init`, `migrate` and `serve` are refused, because the office
 /// is being served.
 pub fn served_order_by<'w>(alloc: Global, words: &'w [&'w str]) -> ServedOrder<'w>
-    ensures { (h : OrderMessageEntry) → map (λ p. p.name) h.words ≡ map (λ word. word.now) words.entry.now → AsksSo h result }
+    ensures { (whole : Option Bool) (h : OrderMessageEntry) → map (λ p. p.name) h.words ≡ map (λ word. word.now) words.entry.now → AsksSo whole h result }
 {
     match order(alloc, words) {
         Ok(Order::Perform(Task::InOffice(job))) => ServedOrder::Do(job),

@@ -1,6 +1,6 @@
 //! How a connection is serviced: its request is received, processed once it is complete, and its response is sent.
 
-ghost use Rattle.std.specs.Prelude.{◌≡◌, ◌≢◌, ◌⊎◌, ◌++◌, ℕ, [], Err, IfOk, IfSome, List, None, Ok, Some, true};
+ghost use Rattle.std.specs.Prelude.{◌≡◌, ◌≢◌, ◌⊎◌, ◌++◌, ℕ, [], Err, IfOk, IfSome, List, None, Ok, Some, false, true};
 ghost use Rattle.sqlite.specs.Held.{state};
 ghost use Rattle.connections.specs.Streams.{Receives, HasFailed, HasTaken, stream_of};
 ghost use Rattle.connections.specs.Clients.{IsOf, IsSent};
@@ -255,6 +255,20 @@ fn to_no_memory(alloc: Global) -> PendingResponse
     }
 }
 
+/// Returns whether the file of the office is gone or replaced, and the request is no read of an open office.
+fn is_without_file<A: SideJobs>(side_jobs: &A, parsed: Parsed, is_closed: bool) -> bool
+    ensures unknown { result ≡ true → A.whole side_jobs.now ≡ Some true → ⊥ }
+    ensures reads_none { result ≡ true → is_closed ≡ false → (its : HttpSettingsEntry) (got : List ℕ) → IsParsed its got parsed → (what : Resource) → Asks its got (reading what) → ⊥ }
+{
+    if is_closed {
+        return !side_jobs.is_whole();
+    }
+    match parsed.reading() {
+        Some(_) => false,
+        None => !side_jobs.is_whole(),
+    }
+}
+
 /// A client's request that is processed: its parsed head, its bytes, and the time of the clock.
 #[derive(Clone, Copy)]
 struct Due<'a> {
@@ -273,7 +287,7 @@ fn answer_client<A: SideJobs, S: Alter>(
     kept: &mut ServerMemory,
 ) -> PendingResponse
     requires { IsParsed (settings_entry server_settings.http) due.got.now due.parsed }
-    ensures meets { (number : ℕ) → RespondsToClient (settings_entry server_settings.entry.http) (state S.Store) (served_office office.old (memory_entry kept.old))
+    ensures meets { (number : ℕ) → RespondsToClient (settings_in A.whole server_settings.entry) (state S.Store) (served_office office.old (memory_entry kept.old))
         (record { listener = Listener.Clients; number = number; moment = due.entry.moment; got = due.entry.got.now; answer = result.bytes.items }) (served_office office.new (memory_entry kept.new)) }
     ensures untold { result.sent ≡ 0 }
 {
@@ -286,8 +300,7 @@ fn answer_client<A: SideJobs, S: Alter>(
     if kept.must_wait(authentication, moment) {
         return wait_response(kept.alloc);
     }
-    let is_read = parsed.reading().is_some() && !office.is_closed();
-    if !is_read && !server_settings.side_jobs.is_whole() {
+    if is_without_file(server_settings.side_jobs, parsed, office.is_closed()) {
         return gone_response(kept.alloc);
     }
     let answer = answer_request(server_settings.http, parsed, got, office, kept);
@@ -365,7 +378,7 @@ fn attend_order<L: Stream, A: SideJobs, S: Alter>(
     requires unanswered { client.answer ≡ None }
     ensures is { (start : L) → IsOf (stream_of L.held L.taken L.failed) start client → IsOf (stream_of L.held L.taken L.failed) start result.0 }
     ensures same { IsSameClient client result.0 }
-    ensures turn { Services (settings_in server_settings.entry) (stream_of L.held L.taken L.failed) (state S.Store) now result.1 client result.0
+    ensures turn { Services (settings_in A.whole server_settings.entry) (stream_of L.held L.taken L.failed) (state S.Store) now result.1 client result.0
         (served_office office.old (memory_entry kept.old)) (served_office office.new (memory_entry kept.new)) }
     ensures leaves { (why : CloseReason) → result.1 ≡ Serviced.Leaves why → EndsFor (stream_of L.held L.taken L.failed) why result.0 }
 {
@@ -419,7 +432,7 @@ pub fn service<L: Stream, A: SideJobs, S: Alter>(
     requires untold { HasSentNothing (stream_of L.held L.taken L.failed) client }
     ensures is { (start : L) → IsOf (stream_of L.held L.taken L.failed) start client → IsOf (stream_of L.held L.taken L.failed) start result.0 }
     ensures same { IsSameClient client result.0 }
-    ensures turn { Services (settings_in server_settings.entry) (stream_of L.held L.taken L.failed) (state S.Store) now result.1 client result.0
+    ensures turn { Services (settings_in A.whole server_settings.entry) (stream_of L.held L.taken L.failed) (state S.Store) now result.1 client result.0
         (served_office office.old (memory_entry kept.old)) (served_office office.new (memory_entry kept.new)) }
     ensures leaves { (why : CloseReason) → result.1 ≡ Serviced.Leaves why → EndsFor (stream_of L.held L.taken L.failed) why result.0 }
 {

@@ -9,6 +9,7 @@ ghost use Rattle.connections.specs.Clients.{IsOf};
 ghost use Rattle.connections.specs.Closing.{IsWithin};
 ghost use Rattle.connections.specs.Traces.{Trace};
 ghost use Rattle.connections.specs.Tables.{most_clients};
+ghost use Rattle.wire.specs.Gates.{settings_entry};
 ghost use Rattle.server.specs.Blind.{ServersAnswerAsSeen};
 ghost use Rattle.server.specs.ServedConnections.{IsSound};
 ghost use Rattle.server.specs.Reads.{served_office, memory_entry};
@@ -47,7 +48,7 @@ fn moment_at_gate<D: Network, A>(
     network: &mut D,
     server_settings: ServerSettings<'_, A>,
 ) -> Result<u64, Broken>
-    ensures { LooksAtGate (is_some (settings_in server_settings.entry).clients.gate) result (D.known network.old) (D.known network.new) }
+    ensures { LooksAtGate (is_some (settings_entry server_settings.entry.http).gate) result (D.known network.old) (D.known network.new) }
 {
     match server_settings.http.gate {
         Some(_) => network.now(),
@@ -67,7 +68,7 @@ fn service_one<D: Network, A: SideJobs, S: Alter>(
     requires untold { HasSentNothing (stream_of D.Stream.held D.Stream.taken D.Stream.failed) client }
     ensures is { (start : D.Stream) → IsOf (stream_of D.Stream.held D.Stream.taken D.Stream.failed) start client → IsOf (stream_of D.Stream.held D.Stream.taken D.Stream.failed) start result.0 }
     ensures same { (result.0.listener ≡ client.listener) × (result.0.number ≡ client.number) }
-    ensures went { WasServiced (is_some (settings_in server_settings.entry).clients.gate) (settings_in server_settings.entry) (stream_of D.Stream.held D.Stream.taken D.Stream.failed)
+    ensures went { WasServiced (is_some (settings_in A.whole server_settings.entry).clients.gate) (settings_in A.whole server_settings.entry) (stream_of D.Stream.held D.Stream.taken D.Stream.failed)
         (state S.Store) result.1
         (D.known network.old) (D.known network.new) client result.0 (served_office office.old (memory_entry kept.old)) (served_office office.new (memory_entry kept.new)) }
 {
@@ -122,9 +123,9 @@ fn service_ready<D: Network, A: SideJobs, S: Alter>(
     office: &mut Office<S>,
     kept: &mut ServerMemory,
 ) -> Result<(), Broken>
-    requires sound { IsSound (settings_in server_settings) (stream_of D.Stream.held D.Stream.taken D.Stream.failed) table.old }
+    requires sound { IsSound (settings_in A.whole server_settings) (stream_of D.Stream.held D.Stream.taken D.Stream.failed) table.old }
     requires within { IsWithin table.old }
-    ensures goes_on { ServesOn (settings_in server_settings.entry) (stream_of D.Stream.held D.Stream.taken D.Stream.failed) (state S.Store) (D.known network.old)
+    ensures goes_on { ServesOn (settings_in A.whole server_settings.entry) (stream_of D.Stream.held D.Stream.taken D.Stream.failed) (state S.Store) (D.known network.old)
         (D.known network.new) table.old table.new
         (served_office office.old (memory_entry kept.old)) (served_office office.new (memory_entry kept.new)) }
     ensures came { table.new.came ≡ table.old.came }
@@ -284,9 +285,9 @@ fn serve_rounds<D: Network, A: SideJobs, S: Alter>(
     office: &mut Office<S>,
     kept: &mut ServerMemory,
 ) -> Result<(), ServeError>
-    requires sound { IsSound (settings_in serving.server_settings) (stream_of D.Stream.held D.Stream.taken D.Stream.failed) table.old }
+    requires sound { IsSound (settings_in A.whole serving.server_settings) (stream_of D.Stream.held D.Stream.taken D.Stream.failed) table.old }
     requires within { IsWithin table.old }
-    ensures goes_on { ServesOn (settings_in serving.entry.server_settings) (stream_of D.Stream.held D.Stream.taken D.Stream.failed) (state S.Store) (D.known network.old)
+    ensures goes_on { ServesOn (settings_in A.whole serving.entry.server_settings) (stream_of D.Stream.held D.Stream.taken D.Stream.failed) (state S.Store) (D.known network.old)
         (D.known network.new) table.old table.new
         (served_office office.old (memory_entry kept.old)) (served_office office.new (memory_entry kept.new)) }
     ensures few { table.old.counted ≤ serving.entry.most → table.new.counted ≤ serving.entry.most }
@@ -342,7 +343,7 @@ pub fn serve_connections<D: Network, A: SideJobs, S: Alter>(
     connections: Option<u64>,
     office: &mut Office<S>,
 ) -> Result<(), ServeError>
-    ensures served { ServesConnections (settings_in server_settings.entry) (stream_of D.Stream.held D.Stream.taken D.Stream.failed) (state S.Store)
+    ensures served { ServesConnections (settings_in A.whole server_settings.entry) (stream_of D.Stream.held D.Stream.taken D.Stream.failed) (state S.Store)
         (D.known network.old) (D.known network.new) connections office.old office.new result }
     ensures ended { IsEndedBy (D.known network.old) (D.known network.new) result }
     ensures closed { office.old.closed ≡ true → office.new ≡ office.old }

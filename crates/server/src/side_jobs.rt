@@ -1,6 +1,6 @@
 //! What an order needs next to the office that is open: a new file for a copy, and an empty database for the trial of a journal.
 
-ghost use Rattle.std.specs.Prelude.{◌≡◌, ◌-◌, ◌^◌, ◌<◌, true};
+ghost use Rattle.std.specs.Prelude.{◌≡◌, ◌-◌, ◌^◌, ◌<◌, Bool, IfSome, Option, true};
 ghost use Rattle.sqlite.specs.Held.{state};
 ghost use Rattle.sqlite.specs.State.{HasCleanDisk};
 ghost use Rattle.office.specs.Answers.{IsReadAt, WhenOpenAt};
@@ -22,9 +22,13 @@ pub struct Destination<'a> {
 /// Copies an open office to a new file, and prints its journal. The office stays open and is only read. The program that
 /// implements this chooses the files.
 pub trait SideJobs {
-    /// Returns whether the file of the office is still there, whole, and no other is in its place. Nothing guarantees this of a
-    /// file.
-    fn is_whole(&self) -> bool;
+    /// Whether the file of the office is known to be whole for good, or known not to be. Of a file of this machine nothing is.
+    ghost whole: { Self → Option Bool };
+
+    /// Returns whether the file of the office is still there, whole, and no other is in its place. If this is known for good, it
+    /// is what is known.
+    fn is_whole(&self) -> bool
+        ensures { IfSome (whole self.now) (λ known. result ≡ known) };
 
     /// Copies the office to a new file, and prints how much the copy has.
     fn copy<S: Alter, O: Sink, E: Sink>(

@@ -1,6 +1,6 @@
 //! Steps over an opened database, and what each prints. Nothing here names a store.
 
-ghost use Rattle.std.specs.Prelude.{◌≡◌, ◌+◌, ◌-◌, ◌^◌, ◌<◌};
+ghost use Rattle.std.specs.Prelude.{◌≡◌, ◌+◌, ◌-◌, ◌^◌, ◌<◌, Some, true};
 
 use super::clients::{Evening, LimitedWriter, Port, TestNetwork, joined, pages_of};
 use super::loads::loads;
@@ -278,6 +278,8 @@ fn terms_of(held: &Option<Codes>) -> ServerSettings<'_, Unaided> {
 pub struct Unaided;
 
 impl SideJobs for Unaided {
+    ghost whole = { λ _. Some true };
+
     fn is_whole(&self) -> bool {
         true
     }

@@ -1,5 +1,5 @@
 -- What a request lacks and asks, and who asks it, by how its head was parsed.
-use Rattle.std.proofs.Common.{◌≡◌, ◌∙◌, ◌<◌, ◌≤◌, ◌+◌, ◌-◌, ℕ, List, Option, None, Result, Ok, Err, [], ◌++◌, inl, inr, append_assoc, ap, arith, drop, length, map, min, option_map, refl, subst, sym, take}
+use Rattle.std.proofs.Common.{◌≡◌, ◌∙◌, ◌<◌, ◌≤◌, ◌+◌, ◌-◌, ℕ, List, Option, None, Result, Ok, Err, [], ◌++◌, Some, inl, inr, append_assoc, ap, arith, drop, length, map, min, option_map, refl, subst, sym, take}
 use Rattle.std.proofs.Math.Seq.{drop-append_seam}
 use Rattle.std.proofs.lemmas.Bool.{cases_lt, le-leb}
 use Rattle.std.proofs.lemmas.List.{append-nil, length-append, length-take, nil_from_length, take-append-drop, take-append-le, take_all}
@@ -10,7 +10,7 @@ use Rattle.httparse.specs.declared.spans.HeaderSpan.{HeaderSpan}
 use Rattle.httparse.specs.declared.spans.RequestSpans.{RequestSpans}
 use Rattle.wire.specs.Requests.{HttpRequestEntry, Asks, IsWanting, MissesBehind, MissesBytes, asked_by, http_request_entry, asked_in, asked_of, denied, reading, wanted}
 use Rattle.wire.specs.declared.request.HttpRequest.{HttpRequest}
-use Rattle.wire.specs.Bodies.{body_in, keying_of}
+use Rattle.wire.specs.Bodies.{KeyingEntry, body_in, keying_of}
 use Rattle.wire.specs.Gates.{GateEntry, HttpSettingsEntry, IsAuthentication, authentication_at, authentication_entry}
 use Rattle.wire.specs.Heads.{BeginsWith, HasNoHead, IsHeadWanting}
 use Rattle.wire.specs.Completeness.{IsCompletenessOf, IsWhole}
@@ -264,6 +264,32 @@ asks_read settings got head (Ok (target.Page clerk)) same is = tt
 asks_read settings got head (Ok (target.Leave clerk)) same is = tt
 asks_read settings got head (Ok (target.Resource what)) same is = asks_reading settings got head what same is
 asks_read settings got head (Err why) same is = tt
+
+-- a keying is no read
+no_keying : (clerk batch : ℕ) (what : Resource) (entry : Option KeyingEntry) → reading what ≡ asked_in clerk batch entry → ⊥
+no_keying clerk batch what (Some entry) is = cc is
+no_keying clerk batch what None is = cc is
+
+-- what is read is what the target names
+read_of : (gate : Option GateEntry) (t : Result Target RequestError) (size : Result ℕ RequestError) (behind : List ℕ) (what : Resource) → reading what ≡ asked_of gate t size behind → read_in t ≡ Some what
+read_of gate (Ok (target.Keying clerk batch)) (Ok n) behind what is = absurd (no_keying clerk batch what (option_and_then keying_of (body_in n behind)) is)
+read_of gate (Ok (target.Keying clerk batch)) (Err why) behind what is = absurd (cc is)
+read_of None (Ok (target.Page clerk)) size behind what is = absurd (cc is)
+read_of (Some gate) (Ok (target.Page clerk)) size behind what is = absurd (cc is)
+read_of gate (Ok (target.Leave clerk)) size behind what is = absurd (cc is)
+read_of gate (Ok (target.Resource there)) size behind what is = let same : there ≡ what = cc is in ap Some same
+read_of gate (Err why) size behind what is = absurd (cc is)
+
+-- whoever reads something, a parsed head says so
+pub reads_each : (settings : HttpSettingsEntry) (got : List ℕ) (head : Head) (what : Resource) → IsHeadOf settings got head → Asks settings got (reading what) → read_in head.wanted ≡ Some what
+reads_each settings got head what is asks =
+    let asked = asked_of settings.gate head.wanted head.body is.behind in
+    read_of settings.gate head.wanted head.body is.behind what (AsksOneThing-all settings got (reading what) asked asks (asks_behind settings got head is asked refl))
+
+-- without a head nothing is read
+pub reads_none : (settings : HttpSettingsEntry) (got : List ℕ) (what : Resource) → HasNoHead got → Asks settings got (reading what) → ⊥
+reads_none settings got what none (inl (also, is)) = cc is
+reads_none settings got what none (inr (head, behind, begun, is)) = none head behind begun
 
 -- ---- who asks
 

@@ -1,11 +1,12 @@
 //! A parsed request: its head is parsed once, and everything but the text of the body is decided from the result.
 
-ghost use Rattle.std.specs.Prelude.{◌≡◌, ◌≤◌, ◌++◌, IfOk, IfSome, List, ℕ, length, map, option_map, take};
+ghost use Rattle.std.specs.Prelude.{◌≡◌, ◌≤◌, ◌++◌, IfOk, IfSome, List, Some, ℕ, length, map, option_map, take};
 ghost use Rattle.httparse.specs.Spans.{IsRequestWithin, header_bytes, span_bytes};
 ghost use Rattle.wire.specs.Requests.{Asks, http_request_entry, asked_of, asked_with, reading};
 ghost use Rattle.wire.specs.Gates.{HttpSettingsEntry, IsAuthentication, settings_entry, authentication_entry};
 ghost use Rattle.wire.specs.Completeness.{IsCompletenessOf};
 ghost use Rattle.wire.specs.Parsing.{IsParsed, Says, needed, read_in};
+ghost use Rattle.wire.specs.declared.target.Resource.{Resource};
 
 use crate::authentication::{Authentication, authentication_by, clerk_under, kept_out};
 use crate::body::{KeyingBody, keying_of};
@@ -214,7 +215,8 @@ impl Parsed {
 
     /// Returns the resource that the request reads, if it is a read.
     pub fn reading(&self) -> Option<Resource>
-        ensures { (its : HttpSettingsEntry) (got : List ℕ) → IsParsed its got self.now → IfSome result (λ what. Asks its got (reading what)) }
+        ensures reads { (its : HttpSettingsEntry) (got : List ℕ) → IsParsed its got self.now → IfSome result (λ what. Asks its got (reading what)) }
+        ensures each { (its : HttpSettingsEntry) (got : List ℕ) → IsParsed its got self.now → (what : Resource) → Asks its got (reading what) → result ≡ Some what }
     {
         match self {
             Parsed::Head(head) => head.reading(),

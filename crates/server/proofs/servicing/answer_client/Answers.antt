@@ -18,10 +18,13 @@ returns-then-must_wait-clause-meets g c = λ number. inl (inl (record {
   stays = refl;
 }))
 
-pub returns-then-not-is_whole-clause-meets : goal.returns-then-not-is_whole-clause-meets
-returns-then-not-is_whole-clause-meets g c = λ number. inl (inr (record {
+pub returns-then-is_without_file-clause-meets : goal.returns-then-is_without_file-clause-meets
+returns-then-is_without_file-clause-meets g c = λ number. inl (inr (record {
   told = c.gone_response.ensures.told (record { listener = Clients; number = number; moment = c.args.due.moment; got = c.args.due.got.now; answer = c.gone_response.result.bytes.items }) refl;
   stays = refl;
+  unknown = c.is_without_file.ensures.unknown c.if-is_without_file.true;
+  reads_none = λ is_open what asks.
+      c.is_without_file.ensures.reads_none c.if-is_without_file.true (c.is_closed.ensures ∙ is_open) (settings_entry c.args.server_settings.http) c.args.due.got.now c.requires what asks;
 }))
 
 pub returns-clause-meets : goal.returns-clause-meets

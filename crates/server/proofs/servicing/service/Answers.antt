@@ -17,7 +17,7 @@ use Rattle.server.proofs.servicing.service.Goals as goal
 -- it has its response already, and gets more of it
 pub returns-then-is_some-clause-turn : goal.returns-then-is_some-clause-turn
 returns-then-is_some-clause-turn g c =
-    attends_none (stream_of g.L.Stream.held g.L.Stream.taken g.L.Stream.failed) (settings_in c.args.server_settings) (state g.S.Store) c.args.now c.send_more-told.result c.args.client c.send_more-told.new.client
+    attends_none (stream_of g.L.Stream.held g.L.Stream.taken g.L.Stream.failed) (settings_in g.A.SideJobs.whole c.args.server_settings) (state g.S.Store) c.args.now c.send_more-told.result c.args.client c.send_more-told.new.client
     (served_office c.args.office.now (memory_entry c.args.kept.now)) (served_office c.args.office.now (memory_entry c.args.kept.now)) c.send_more-told.ensures.apart refl c.send_more-told.ensures.his
 
 pub attend_order-requires-clause-unanswered : goal.attend_order-requires-clause-unanswered
@@ -45,7 +45,7 @@ returns-in-Ok-Some-clause-is g c = λ start own. c.begin_answer.ensures.is start
 pub returns-in-Ok-Some-clause-turn : goal.returns-in-Ok-Some-clause-turn
 returns-in-Ok-Some-clause-turn g c =
     let received = c.in-Ok-Some.ensures in
-    let settings = settings_in c.args.server_settings in
+    let settings = settings_in g.A.SideJobs.whole c.args.server_settings in
     let stream = stream_of g.L.Stream.held g.L.Stream.taken g.L.Stream.failed in
     let mid = c.hear_request.new.client in
     let answered = c.answer_client-answer in
@@ -61,7 +61,7 @@ returns-in-Ok-Some-clause-turn g c =
       refl,
       refl,
       refl,
-      subst (λ (xs : List ℕ). RespondsToClient (settings_entry c.args.server_settings.http) (state g.S.Store) at
+      subst (λ (xs : List ℕ). RespondsToClient settings (state g.S.Store) at
           (record { listener = Clients; number = mid.number; moment = c.args.now; got = xs; answer = answered.result.bytes.items }) behind) c.as_slice-got.ensures.value (answered.ensures.meets mid.number),
       c.begin_answer.ensures.his,
     ))
