@@ -24,7 +24,8 @@ gives_untold read room (Ok End) within told = (tt, tt)
 gives_untold read room (Err broken) within told = tt
 
 -- what was written is within the bytes
-pub takes_untold : {E : Type 0} (written : Result ℕ E) (bytes : List ℕ) (r : Result ℕ Broken) → IfOk written (λ n. n ≤ length bytes) → IfOk r (λ n. (n ≡ 0) ⊎ (written ≡ Ok n)) → Takes None None bytes r
+pub takes_untold : {E : Type 0} (written : Result ℕ E) (bytes : List ℕ) (r : Result ℕ Broken) → IfOk written (λ n. n ≤ length bytes)
+    → IfOk r (λ n. (n ≡ 0) ⊎ (written ≡ Ok n)) → Takes None None bytes r
 takes_untold written bytes (Ok n) within (inl none) = (omega (arith, none), refl)
 takes_untold written bytes (Ok n) within (inr is) = (subst (λ x. IfOk x (λ m. m ≤ length bytes)) is within, refl)
 takes_untold written bytes (Err broken) within told = refl

@@ -7,4 +7,5 @@ use Rattle.sheet.proofs.told.write_each.Given as goal
 
 abbrev pub invariant-loop-candidate : goal.invariant-loop-candidate
 invariant-loop-candidate g l =
-    Writes {E = Broken} g.W.Sink.taken g.W.Sink.failed l.fn.sink l.sink (flat_map (λ candidate. g.T.OfCandidate.text l.told candidate.0 (string_bytes candidate.1)) (take l.candidate-index l.candidate-items)) (Ok (tt {0}))
+    Writes {E = Broken} g.W.Sink.taken g.W.Sink.failed l.fn.sink l.sink (flat_map (λ candidate. g.T.OfCandidate.text l.told candidate.0 (string_bytes candidate.1))
+    (take l.candidate-index l.candidate-items)) (Ok (tt {0}))

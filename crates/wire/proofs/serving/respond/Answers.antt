@@ -4,7 +4,8 @@ use Rattle.wire.proofs.serving.respond.Goals as goal
 
 pub returns-clause-served : goal.returns-clause-served
 returns-clause-served g c = λ clean open_before s at.
-    IsServed-put _ (g.W.Sink.taken c.args.writer.now) (g.W.Sink.taken c.put.new.writer) c.answer-response.result c.put.result (c.answer-response.ensures.answers clean open_before s at) c.put.ensures.puts
+    IsServed-put _ (g.W.Sink.taken c.args.writer.now) (g.W.Sink.taken c.put.new.writer) c.answer-response.result c.put.result
+    (c.answer-response.ensures.answers clean open_before s at) c.put.ensures.puts
 
 pub returns-clause-put : goal.returns-clause-put
 returns-clause-put g c = put-apart (g.W.Sink.taken c.args.writer.now) (g.W.Sink.taken c.put.new.writer) c.answer-response.result c.put.result c.put.ensures.puts
