@@ -2,6 +2,5 @@
 use Rattle.wire.proofs.ServingLemmas.{IsServed-put}
 use Rattle.wire.proofs.serving.write_wait_response.Goals as goal
 
--- the name of this goal is a guess: nothing has checked it yet
 pub returns-clause-told : goal.returns-clause-told
 returns-clause-told g c = IsServed-put _ (g.W.Sink.taken c.args.writer.now) (g.W.Sink.taken c.put.new.writer) c.waits.result c.put.result c.waits.ensures c.put.ensures.puts
