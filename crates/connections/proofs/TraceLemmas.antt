@@ -4,7 +4,7 @@ use Rattle.std.proofs.Common.{Some, ap, append-nil, get_or, inl, inr, length, ma
 use Rattle.std.specs.Prelude.{Err, Ok}
 use Rattle.std.specs.List.{All, FoldsTo, flat_map}
 use Rattle.std.proofs.lemmas.List.Concat.{flat_map-append}
-use Rattle.votes.specs.declared.streams.Broken.{Broken}
+use Rattle.streams.specs.declared.streams.Broken.{Broken}
 use Rattle.connections.specs.Clients.{IsNew, IsOf}
 use Rattle.connections.specs.Closing.{AreClosedByRule, IsClosedByRule, IsClosedForBytes, IsClosedForRoom, ClosesOne, eviction_rule, timeout_rule, timeout}
 use Rattle.connections.specs.Traces.{Changes, IsServiceOutcome, Trace, EndsService, ServiceStep, HadResponses, IsForRoom, Leads, ServiceEnd, TraceStep, ResponseAt, anew, closes, enters, events_of}

@@ -8,7 +8,7 @@ use Rattle.std.proofs.KnownBytes.{Appends-nil, Appends-trans}
 use Rattle.std.proofs.lemmas.Grind.{flat_map-append}
 use Rattle.std.proofs.lemmas.List.{append-nil, append_assoc, take_more, take-append-drop}
 use Rattle.clap.specs.Words.{Text}
-use Rattle.votes.proofs.Beginnings.{AppendsBeginning-front, AppendsBeginning-behind}
+use Rattle.streams.proofs.Beginnings.{AppendsBeginning-front, AppendsBeginning-behind}
 use Rattle.desk.specs.declared.lines.Failure.TheVariants.{Output}
 use Rattle.desk.specs.Pages.{Cut, uncut, cut_behind, cut_error, IsErrorTold, IsOutputBroken, IsPut, IsShown, IsWhole, Outputs}
 use Rattle.desk.specs.Pages.{Page, Shows, behind_front, below, cut_below, empty_page, failed, fronted, line_front, outputs_of, printed, status_behind}

@@ -12,7 +12,7 @@ use sheet::{
 use std::alloc::{AllocError, Global};
 use std::process::Abort;
 use std::test::Fail;
-use votes::{Broken, Sink};
+use streams::{Broken, Sink};
 
 /// What stands above the style.
 const HEAD: &str = r##"<!DOCTYPE html>

@@ -11,7 +11,8 @@ use crate::line::{Piece, write_line};
 use crate::stage::{Fate, fate_at, votes_of};
 use crate::ward::Ward;
 use count::{Action, Stage};
-use votes::{Broken, Sink, Votes};
+use streams::{Broken, Sink};
+use votes::Votes;
 
 /// A cell of a row, which shows something of a stage.
 #[derive(Clone, Copy)]

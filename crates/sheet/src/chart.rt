@@ -16,7 +16,8 @@ use crate::stage::votes_of;
 use crate::told::{OfCandidate, write_each};
 use crate::ward::{Poll, Ward};
 use count::Stage;
-use votes::{Broken, Sink, Votes, quota};
+use streams::{Broken, Sink};
+use votes::{Votes, quota};
 
 /// What bars are measured by, in units: the quota, and the greatest of it and all votes.
 #[derive(Clone, Copy)]

@@ -11,7 +11,7 @@ use crate::stage::votes_of;
 use crate::told::{OfCandidate, write_each};
 use crate::ward::{Poll, Ward};
 use count::Stage;
-use votes::{Broken, Sink};
+use streams::{Broken, Sink};
 
 /// A candidate who is among those elected at a stage, and the stage's number.
 #[derive(Clone, Copy)]

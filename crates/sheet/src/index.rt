@@ -8,7 +8,7 @@ ghost use Rattle.sheet.specs.Writing.{Writes};
 use crate::line::{Piece, write_line, write_text};
 use crate::look::style;
 use crate::page::write_title;
-use votes::{Broken, Sink};
+use streams::{Broken, Sink};
 
 /// How a ward stands, for everyone.
 #[derive(Clone, Copy)]

@@ -15,7 +15,8 @@ use crate::lots::write_lots;
 use crate::table::write_tables;
 use crate::ward::{Poll, Ward};
 use count::Stage;
-use votes::{Broken, Sink, quota};
+use streams::{Broken, Sink};
+use votes::quota;
 
 // ---- the head
 

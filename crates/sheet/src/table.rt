@@ -10,7 +10,7 @@ use crate::line::Piece;
 use crate::told::{OfCandidate, write_each};
 use crate::ward::Ward;
 use count::Stage;
-use votes::{Broken, Sink};
+use streams::{Broken, Sink};
 
 /// A block of stages of a ward: those from a place on.
 #[derive(Clone, Copy)]

@@ -1,7 +1,7 @@
 -- What a line gives and takes that tells none of its bytes.
 use Rattle.std.proofs.Common.{◌≡◌, ◌⊎◌, inl, inr, ◌<◌, ◌≤◌, ℕ, Bool, List, None, Option, Some, Ok, Err, Result, length, refl, subst, suc, sym, true, arith, zero}
 use Rattle.std.specs.Prelude.{IfOk}
-use Rattle.votes.specs.declared.streams.Broken.{Broken}
+use Rattle.streams.specs.declared.streams.Broken.{Broken}
 use Rattle.connections.specs.declared.stream.Received.{Received}
 use Rattle.connections.specs.declared.stream.Received.TheVariants.{Bytes, Nothing, End}
 use Rattle.connections.specs.declared.network.AcceptOutcome.{AcceptOutcome}

@@ -19,7 +19,7 @@ use std::io;
 use std::io::ErrorKind;
 use std::net::Net;
 use std::time::Duration;
-use votes::Broken;
+use streams::Broken;
 
 /// How many events the system may report at once.
 const EVENTS: usize = 1024;

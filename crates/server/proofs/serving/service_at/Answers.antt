@@ -2,7 +2,7 @@
 use Rattle.std.proofs.Common.{◌∙◌, List, None, Option, Some, ap, is_some, map, subst, sym}
 use Rattle.std.specs.Prelude.{Ok, Result}
 use Rattle.sqlite.specs.Held.{state}
-use Rattle.votes.specs.declared.streams.Broken.{Broken}
+use Rattle.streams.specs.declared.streams.Broken.{Broken}
 use Rattle.connections.specs.Closing.{IsClosedForBytes}
 use Rattle.connections.specs.Streams.{stream_of}
 use Rattle.connections.specs.Tables.{NetworkEntry, with_removed}

@@ -1,7 +1,7 @@
 -- What holds each time round the loop of `write_each`.
 use Rattle.std.proofs.Common.{take, Ok, string_bytes}
 use Rattle.std.specs.List.{flat_map}
-use Rattle.votes.specs.declared.streams.Broken.{Broken}
+use Rattle.streams.specs.declared.streams.Broken.{Broken}
 use Rattle.sheet.specs.Writing.{Writes}
 use Rattle.sheet.proofs.told.write_each.Given as goal
 
