@@ -1,7 +1,8 @@
 //! What a table on a page shows of a stage.
 
 ghost use Rattle.std.specs.Prelude.{◌≡◌, ◌-◌, ◌^◌, ◌<◌, map};
-ghost use Rattle.sheet.specs.Cells.{apart as apart_of, cell_text, column_head, from_place, name_in as name_with, row, sign as sign_of, standing as standing_of, sum_cell, votes_before as before_of, votes_cell};
+ghost use Rattle.sheet.specs.Cells.{apart as apart_of, cell_text, column_head, from_place, name_in as name_with, row};
+ghost use Rattle.sheet.specs.Cells.{sign as sign_of, standing as standing_of, sum_cell, votes_before as before_of, votes_cell};
 ghost use Rattle.sheet.specs.Entries.{shown};
 ghost use Rattle.sheet.specs.Pieces.{piece_text};
 ghost use Rattle.sheet.specs.Writing.{Writes};
