@@ -18,6 +18,7 @@ use Rattle.wire.specs.Gates.{HttpSettingsEntry}
 use Rattle.wire.specs.Responses.{ResponseEntry, fault_response}
 use Rattle.wire.specs.Serving.{FaultLeaves, IsAnswered, IsPut, IsServed, Readies, ReadiesFor, closed_response, reading_response}
 use Rattle.wire.specs.Told.{IsTold, IsWritten}
+use Rattle.wire.specs.declared.response.Response.{Response}
 use Rattle.wire.specs.declared.serving.Served.{Served}
 use Rattle.wire.specs.declared.serving.Served.TheVariants.{Answered, ReadFailed, WriteFailed}
 use Rattle.wire.specs.declared.target.Resource.{Resource}
@@ -100,6 +101,27 @@ module _ {S : Type 0} (state_of : Held S → State) (old new : OfficeValue S) (a
       → IsServed (λ response. Readies s asked response new.closed (state_of new.held)) (Some before) (Some after) served)
       → ChangesNothing asked → WhenOpenAt state_of old new (λ s. IsReadAt s new.closed (state_of new.held))
   call_only serves still = λ clean is_open s at. let it = serves clean is_open s at in only_read s asked it.response new.closed (state_of new.held) still it.ready
+
+-- ---- a response that was put
+
+pub put_first : (response : Response) (answer before after : List ℕ) (served : Served) → before ≡ [] → answer ≡ after → IsPut (Some before) (Some after) response served
+    → EndsIn answer (λ old new ending. IsPut old new response ending)
+put_first response answer before after served is_before is_answer it = (
+  served,
+  subst (λ (a : List ℕ). IsPut (Some []) (Some a) response served) (sym is_answer) (subst (λ (b : List ℕ). IsPut (Some b) (Some after) response served) is_before it),
+)
+
+-- it was the one to what was asked
+pub put_answers : {S : Type 0} (state_of : Held S → State) (old new : OfficeValue S) (asked : HttpRequestEntry) (answer : List ℕ) (response : Response)
+    → EndsIn answer (λ before after ending. IsPut before after response ending)
+    → (HasCleanDisk (state_of new.held) → old.closed ≡ false → (s : OfficeState) → IsAt s (state_of old.held) → Readies s asked response new.closed (state_of new.held))
+    → (old.closed ≡ true → IsTold (closed_response asked) response) → (old.closed ≡ true → new ≡ old) → (HasCleanDisk (state_of new.held) → HasCleanDisk (state_of old.held))
+    → HasAnswered state_of old asked answer new
+put_answers state_of old new asked answer response (served, put) answers told stays clean = record {
+  serves = λ honest is_open s at. (served, record { response = response; ready = answers honest is_open s at; put = put });
+  turned_away = λ was. ((served, record { response = response; ready = told was; put = put }), stays was);
+  clean = clean;
+}
 
 -- ---- a client is served
 

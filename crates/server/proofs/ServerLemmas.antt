@@ -5,6 +5,7 @@ use Rattle.std.specs.Result.{IsErr}
 use Rattle.std.specs.List.{All, FoldsTo}
 use Rattle.std.specs.Vec.{with_item}
 use Rattle.std.proofs.lemmas.List.{get_or-set_same, get_or_default, get_or_read, map-append, map_push}
+use Rattle.std.proofs.lemmas.List.Edits.{length-insert}
 use Rattle.std.proofs.lemmas.List.Elements.{All-nil, All-push}
 use Rattle.std.proofs.lemmas.List.Sums.{sum_by-append}
 use Rattle.sqlite.specs.Held.{Held}
@@ -15,7 +16,7 @@ use Rattle.connections.specs.Removals.{removed_of}
 use Rattle.connections.specs.Streams.{HasTaken, Stream, failed_after, one_more}
 use Rattle.connections.specs.Clients.{IsNew, IsOf}
 use Rattle.connections.specs.Traces.{IsServiceOutcome, Trace, HadResponses, ResponseAt, with_gate}
-use Rattle.connections.specs.Tables.{NetworkEntry, after_accept, after_look, after_ready, after_wait, clients_among, count_at, with_failure, with_removed, with_moment}
+use Rattle.connections.specs.Tables.{NetworkEntry, most_clients, after_accept, after_look, after_ready, after_wait, clients_among, count_at, with_failure, with_removed, with_moment}
 use Rattle.connections.specs.declared.client.PendingResponse.{PendingResponse}
 use Rattle.connections.specs.declared.client.Client.{Client}
 use Rattle.connections.specs.declared.client.Accepted.{Accepted}
@@ -28,7 +29,7 @@ use Rattle.connections.specs.declared.table.ConnectionTable.{ConnectionTable}
 use Rattle.connections.proofs.StreamLemmas.{heard_more}
 use Rattle.server.specs.ServedConnections.{AreIn, ServedConnection, HasExchangeFor, HasLeft, IsGathered, IsIn, IsSound, IsOpenConnection, HadExchange, exchanges_of}
 use Rattle.connections.specs.Closing.{AreClosedByRule, EndsFor, IsClosed, IsClosedByRule, IsClosedForBytes, MayBeClosed, timeout_rule, timeout}
-use Rattle.server.specs.Servers.{GoesOn, GoesOnServing, RemovesMore, IsCalled, IsNumbered, IsUnfailed, AcceptsMore, ServesConnections, ServesOn}
+use Rattle.server.specs.Servers.{GoesOn, GoesOnServing, RemovesMore, IsCalled, IsNumbered, IsSettled, IsUnfailed, AcceptsMore, ServesConnections, ServesOn}
 use Rattle.server.specs.declared.serve_error.ServeError.{ServeError}
 use Rattle.server.specs.declared.serve_error.ServeError.TheVariants as ended
 use Rattle.server.specs.Reads.{ServedOffice, MemoryEntry, served_office, with_none_kept}
@@ -53,6 +54,13 @@ remove_set : {X : Type 0} (xs : List X) (place : ℕ) (x : X) → place < length
 remove_set [] place x within = absurd (omega (arith, within))
 remove_set (y ∷ ys) zero x within = refl
 remove_set {X} (y ∷ ys) (suc place) x within = ap (λ (zs : List X). y ∷ zs) (remove_set ys place x (omega (arith, within)))
+
+-- one stands in a place again, for which there was room
+pub few_again : {L : Type 0} (old new : List (Client L)) (place : ℕ) (client : Client L) → place ≤ length old → length old < most_clients → new ≡ insert old place client → length new ≤ most_clients
+few_again {L} old new place client within few is =
+    let more = length-insert old place client within in
+    let long = ap (λ (cs : List (Client L)). length cs) is in
+    omega (arith, few, more, long)
 
 -- ---- those that came in, and those that were handed back
 
@@ -122,6 +130,23 @@ may_leave stream Closing client ends = absurd ends
 pub still_full : {L : Type 0} (before later : NetworkEntry L) → later ≡ after_accept Full before → IsStill before later
 still_full {L} before later is = (ap (λ (d : NetworkEntry L). d.came) is, ap (λ (d : NetworkEntry L). d.left) is)
 
+-- ---- the steps of a round
+
+module _ {L : Type 0} (gated : Bool) (stream : Stream L) where
+  -- late ones were closed, and more came in
+  pub course_round : (from : Option ℕ) (before now gone later : NetworkEntry L) (old left new : ConnectionTable L) (moment : ℕ) → now ≡ with_moment before moment
+      → AreClosedByRule (IsClosedByRule (timeout_rule moment)) now gone old left → All (λ (c : Client L). moment - c.since < timeout) left.clients.items
+      → Trace gated stream [] (Some moment) (Some moment) gone later left.clients.items new.clients.items → Trace gated stream [] from (Some moment) before later old.clients.items new.clients.items
+  course_round from before now gone later old left new moment shown late none trace =
+      trace_then gated stream [] [] from (Some moment) (Some moment) before gone later old.clients.items left.clients.items new.clients.items (course_look gated stream from moment before now gone old left shown late none) trace
+
+  -- then a wait, which may fail
+  pub course_wait : (result : Result (Unit {0}) Broken) (from to : Option ℕ) (before mid later : NetworkEntry L) (old new : List (Client L)) → later ≡ after_wait result mid → Trace gated stream [] from to before mid old new
+      → Trace gated stream [] from to before later old new
+  course_wait (Ok value) from to before mid later old new is trace =
+      trace_then gated stream [] [] from to to before mid later old new new trace (trace_none gated stream to mid later new (ap (λ (d : NetworkEntry L). d.events) is))
+  course_wait (Err broken) from to before mid later old new is trace = trace_then gated stream [] [] from to to before mid later old new new trace (course_fails gated stream to mid later new is)
+
 module _ {L : Type 0} (settings : ServerSettingsEntry) (stream : Stream L) where
   -- ---- a room
 
@@ -188,6 +213,22 @@ module _ {L : Type 0} (settings : ServerSettingsEntry) (stream : Stream L) where
         goes_with before later old new it.gone (ap (λ (d : NetworkEntry L). d.came) it.back) (ap (λ (d : NetworkEntry L). d.left) it.back) (omega (arith, it.counted)) (λ all_connections exchanges left are.
         stay it.gone all_connections exchanges left new.came old.clients.items new.clients.items it.each
         (subst (λ (n : ℕ). AreIn settings stream all_connections exchanges left n old.clients.items) (sym it.came) are))
+
+  -- late ones were closed, and more came in
+  pub goes_round : (before now gone later : NetworkEntry L) (old left new : ConnectionTable L) (moment : ℕ) → now ≡ with_moment before moment → AreClosedByRule (IsClosedByRule (timeout_rule moment)) now gone old left
+      → GoesOn settings stream [] gone later left new → GoesOn settings stream [] before later old new
+  goes_round before now gone later old left new moment shown late more =
+      goes_then [] [] before now later old old new (goes_none before now old (ap (λ (d : NetworkEntry L). d.came) shown, ap (λ (d : NetworkEntry L). d.left) shown))
+      (goes_then [] [] now gone later old left new (goes_without (IsClosedByRule (timeout_rule moment)) (late_outs moment) now gone old left late) more)
+
+  -- then a wait, which may fail
+  pub goes_wait : (result : Result (Unit {0}) Broken) (before mid later : NetworkEntry L) (old new : ConnectionTable L) → later ≡ after_wait result mid → GoesOn settings stream [] before mid old new
+      → GoesOn settings stream [] before later old new
+  goes_wait result before mid later old new is more = goes_then [] [] before mid later old new new more (goes_none mid later new (still_wait result mid later is))
+
+  -- the clock failed
+  pub goes_failure : (before later : NetworkEntry L) (table : ConnectionTable L) → later ≡ with_failure before → GoesOn settings stream [] before later table table
+  goes_failure before later table is = goes_none before later table (ap (λ (d : NetworkEntry L). d.came) is, ap (λ (d : NetworkEntry L). d.left) is)
 
   -- one left that may, for its reason
   pub goes_less : (before later : NetworkEntry L) (old new : ConnectionTable L) (place : ℕ) (client : Client L) (why : CloseReason) → later ≡ with_removed before (removed_of client why) → place < length old.clients.items
@@ -349,23 +390,6 @@ module _ {L : Type 0} (settings : ServerSettingsEntry) (stream : Stream L) where
         let (to, so) = trace from in
         (to, it, subst (λ (vs : List Exchange). Trace gated stream (map response_at vs) from to before later old.clients.items new.clients.items) (sym just) so)
 
-    -- a wait, which may fail
-    pub serves_wait : (result : Result (Unit {0}) Broken) (before mid later : NetworkEntry L) (old new : ConnectionTable L) (at behind : ServedOffice S) → later ≡ after_wait result mid
-        → ServesOn settings stream state_of before mid old new at behind → ServesOn settings stream state_of before later old new at behind
-    serves_wait result before mid later old new at behind is on =
-        serves_then before mid later old new new at behind behind on (serves_none mid later new new behind (goes_none mid later new (still_wait result mid later is)) (by result is))
-      where
-        by : (r : Result (Unit {0}) Broken) → later ≡ after_wait r mid → CourseBy [] mid later new.clients.items new.clients.items
-        by (Ok value) same = λ from. (from, trace_none gated stream from mid later new.clients.items (ap (λ (d : NetworkEntry L). d.events) same))
-        by (Err broken) same = λ from. (from, course_fails gated stream from mid later new.clients.items same)
-
-    -- the clock failed
-    pub serves_failure : (before mid later : NetworkEntry L) (old new : ConnectionTable L) (at behind : ServedOffice S) → later ≡ with_failure mid
-        → ServesOn settings stream state_of before mid old new at behind → ServesOn settings stream state_of before later old new at behind
-    serves_failure before mid later old new at behind is on =
-        serves_then before mid later old new new at behind behind on (serves_none mid later new new behind (goes_none mid later new (ap (λ (d : NetworkEntry L). d.came) is, ap (λ (d : NetworkEntry L). d.left) is))
-        (λ from. (from, course_fails gated stream from mid later new.clients.items is)))
-
     -- nothing is known of the doors but what was
     pub serves_still : (before later : NetworkEntry L) (table : ConnectionTable L) (office : ServedOffice S) → later ≡ before → ServesOn settings stream state_of before later table table office office
     serves_still before later table office is =
@@ -454,23 +478,23 @@ module _ {L : Type 0} (settings : ServerSettingsEntry) (stream : Stream L) where
           (λ from. course_leaves gated stream from table.clients.items place number old new went.gate (map response_at went.exchanges) within here his_number (listener, same) is
           (had_turns went.gate went.exchanges old new at behind went.had went.at_gate) why before ready mid later named went.comes back))
 
+      -- it left, or is in its place again
+      pub serves_settled : (reason : Option CloseReason) (mid later : NetworkEntry L) (taken left : ConnectionTable L) → WasServiced gated settings stream state_of (Ok reason) ready mid old new at behind
+          → taken.clients.items ≡ remove table.clients.items place → taken.came ≡ table.came → taken.counted ≡ table.counted → IsSettled reason place new mid later taken left
+          → ServesOn settings stream state_of before later table left at behind
+      serves_settled (Some why) mid later taken left went out came counted (closed, still) =
+          serves_leaves why mid later left went closed (ap (λ (t : ConnectionTable L). t.clients.items) still ∙ out) (ap (λ (t : ConnectionTable L). t.came) still ∙ came)
+          (ap (λ (t : ConnectionTable L). t.counted) still ∙ counted)
+      serves_settled None mid later taken left went out came counted (back, stands, gone) =
+          serves_then before mid later table back left at behind behind (serves_stays mid taken back went out stands.clients (stands.came ∙ came) (stands.counted ∙ counted))
+          (serves_within mid later back left behind gone)
+
     -- ---- a round
 
-    -- those that were in went on, late ones were closed, and more came in
-    pub serves_round : (before mid now gone later : NetworkEntry L) (old went left new : ConnectionTable L) (at behind : ServedOffice S) (moment : ℕ)
-        → ServesOn settings stream state_of before mid old went at behind → now ≡ with_moment mid moment → AreClosedByRule (IsClosedByRule (timeout_rule moment)) now gone went left
-        → All (λ (c : Client L). moment - c.since < timeout) left.clients.items → GoesOn settings stream [] gone later left new
-        → Trace gated stream [] (Some moment) (Some moment) gone later left.clients.items new.clients.items → ServesOn settings stream state_of before later old new at behind
-    serves_round before mid now gone later old went left new at behind moment on shown late none more trace =
-        serves_then before mid later old went new at behind behind on
-        (serves_none mid later went new behind
-        (goes_then [] [] mid now later went went new (goes_none mid now went (ap (λ (d : NetworkEntry L). d.came) shown, ap (λ (d : NetworkEntry L). d.left) shown))
-        (goes_then [] [] now gone later went left new (goes_without (IsClosedByRule (timeout_rule moment)) (late_outs moment) now gone went left late) more))
-        (λ from. (
-          Some moment,
-          trace_then gated stream [] [] from (Some moment) (Some moment) mid gone later went.clients.items left.clients.items new.clients.items
-              (course_look gated stream from moment mid now gone went left shown late none) trace,
-        )))
+    -- nobody more had a turn
+    pub serves_more : (before mid later : NetworkEntry L) (old went new : ConnectionTable L) (at behind : ServedOffice S) → ServesOn settings stream state_of before mid old went at behind
+        → GoesOn settings stream [] mid later went new → CourseBy [] mid later went.clients.items new.clients.items → ServesOn settings stream state_of before later old new at behind
+    serves_more before mid later old went new at behind on more trace = serves_then before mid later old went new at behind behind on (serves_none mid later went new behind more trace)
 
     -- there was no room, so nobody came in
     pub nobody_served : (before : NetworkEntry L) (most : Option ℕ) (at : OfficeValue S) → ServesConnections settings stream state_of before before most at at (Err ended.Memory)
@@ -605,11 +629,6 @@ pub all_closed : {E : Type 0} (result : Result (Unit {0}) E) (connections : Opti
 all_closed (Ok value) connections most none came closed is first few same all = let at_most = few (omega (arith, first)) in most_all connections most closed is (omega (arith, at_most, same)) (omega (arith, all, same))
 all_closed (Err why) connections most none came closed is first few same all = tt
 
--- there was a failure, so nothing is said of an end without one
-pub on_err : {A E : Type 0} (result : Result A E) (P : Type 0) → IsErr result → OnOk result P
-on_err (Ok a) P failed = absurd (cc failed)
-on_err (Err e) P failed = tt
-
 -- ---- calls of the doors
 
 module _ {L : Type 0} where
@@ -635,27 +654,16 @@ module _ {L : Type 0} where
   pub unfailed_then : {A : Type 0} (result : Result A Broken) (before mid later : NetworkEntry L) → IsUnfailed before mid → IsCalled result mid later → IsCalled result before later
   unfailed_then result before mid later (failed, waits) (failed_then, waits_then) = (failed_then ∙ ap (failed_after result) failed, waits_then ∙ waits)
 
-  pub then_unfailed : {A : Type 0} (result : Result A Broken) (before mid later : NetworkEntry L) → IsCalled result before mid → IsUnfailed mid later → IsCalled result before later
-  then_unfailed result before mid later (failed, waits) (failed_then, waits_then) = (failed_then ∙ failed, waits_then ∙ waits)
-
-  pub unfailed_leavers : (before later : NetworkEntry L) (old new : ConnectionTable L) (Goes : List (Client L) → Removed L → List (Client L) → Type 0) → AreClosedByRule Goes before later old new → IsUnfailed before later
+  unfailed_leavers : (before later : NetworkEntry L) (old new : ConnectionTable L) (Goes : List (Client L) → Removed L → List (Client L) → Type 0) → AreClosedByRule Goes before later old new → IsUnfailed before later
   unfailed_leavers before later old new Goes it = (ap (λ (d : NetworkEntry L). d.failed) it.back, ap (λ (d : NetworkEntry L). d.waits) it.back)
 
-  -- two calls failed alike
-  pub called_as : {A B : Type 0} (result : Result A Broken) (other : Result B Broken) (before later : NetworkEntry L) → IsErr result → IsErr other → IsCalled result before later → IsCalled other before later
-  called_as (Err broken) (Err again) before later err also it = it
-  called_as (Ok value) other before later err also it = absurd (cc err)
-  called_as (Err broken) (Ok value) before later err also it = absurd (cc also)
-
-  -- nothing more was known of them
-  pub unfailed_known : (before mid later : NetworkEntry L) → IsUnfailed before mid → later ≡ mid → IsUnfailed before later
-  unfailed_known before mid later (failed, waits) is = (ap (λ (d : NetworkEntry L). d.failed) is ∙ failed, ap (λ (d : NetworkEntry L). d.waits) is ∙ waits)
-
--- what is so of the reason for which one leaves, if it does
-pub leaves_by : {A E : Type 0} (P : A → Type 0) (result : Result (Option A) E) → IfOk result (λ next. IfSome next P) → (next : Option A) → result ≡ Ok next → (why : A) → next ≡ Some why → P why
-leaves_by {A} {E} P result it next is why some =
-    let there : IfSome next P = subst (λ (r : Result (Option A) E). IfOk r (λ n. IfSome n P)) is it in
-    subst (λ (n : Option A). IfSome n P) some there
+  -- one that was serviced was settled
+  pub settled_still : (reason : Option CloseReason) (place : ℕ) (client : Client L) (before later : NetworkEntry L) (old new : ConnectionTable L) → IsSettled reason place client before later old new
+      → IsUnfailed before later × (new.came ≡ old.came) × (new.counted ≡ old.counted)
+  settled_still (Some why) place client before later old new (is, still) =
+      ((ap (λ (d : NetworkEntry L). d.failed) is, ap (λ (d : NetworkEntry L). d.waits) is), ap (λ (t : ConnectionTable L). t.came) still, ap (λ (t : ConnectionTable L). t.counted) still)
+  settled_still None place client before later old new (back, stands, gone) =
+      (unfailed_leavers before later back new IsClosedForBytes gone, gone.came ∙ stands.came, gone.counted ∙ stands.counted)
 
 -- ---- how many waits there were
 

@@ -1,6 +1,6 @@
 -- A server: which connections it accepts and closes, and what is promised of all of them.
-use Rattle.std.specs.Prelude.{◌≡◌, ◌≤◌, ◌<◌, ◌+◌, ◌-◌, ◌^◌, Bool, true, false, List, [], ◌++◌, IfSome, None, OnOk, Option, Result, Ok, Err, is_some, length, map, option_map, slice_index_or, ℕ}
-use Rattle.std.specs.List.{FoldsTo}
+use Rattle.std.specs.Prelude.{◌≡◌, ◌≤◌, ◌<◌, ◌+◌, ◌-◌, ◌^◌, Bool, true, false, List, [], ◌++◌, IfSome, None, OnOk, Option, Result, Ok, Err, Some, is_some, length, map, option_map, slice_index_or, ℕ}
+use Rattle.std.specs.List.{FoldsTo, insert}
 use Rattle.sqlite.specs.Held.{Held}
 use Rattle.sqlite.specs.State.{HasCleanDisk, State}
 use Rattle.register.specs.Machine.{after}
@@ -9,13 +9,15 @@ use Rattle.register.specs.declared.command.Request.{Request}
 use Rattle.store.specs.Offices.{IsAt}
 use Rattle.office.specs.Values.{OfficeValue}
 use Rattle.streams.specs.declared.streams.Broken.{Broken}
-use Rattle.connections.specs.Closing.{IsClosed, with_all_removed}
+use Rattle.connections.specs.Closing.{AreClosedByRule, IsClosed, IsClosedForBytes, with_all_removed}
+use Rattle.connections.specs.Removals.{removed_of}
 use Rattle.connections.specs.Traces.{Trace, ResponseAt}
 use Rattle.connections.specs.Streams.{Stream, failed_after, one_more}
-use Rattle.connections.specs.Tables.{NetworkEntry, clients_among}
+use Rattle.connections.specs.Tables.{NetworkEntry, clients_among, with_removed}
 use Rattle.connections.specs.declared.client.Client.{Client}
 use Rattle.connections.specs.declared.client.Accepted.{Accepted}
 use Rattle.connections.specs.declared.removed.Removed.{Removed}
+use Rattle.connections.specs.declared.removed.CloseReason.{CloseReason}
 use Rattle.connections.specs.declared.table.ConnectionTable.{ConnectionTable}
 use Rattle.server.specs.ServedConnections.{AreIn, ServedConnection, HasLeft, AllHadExchanges}
 use Rattle.server.specs.declared.serve_error.ServeError.{ServeError}
@@ -62,6 +64,18 @@ ServesOn settings stream state_of before later old new at behind =
 -- the connection at a place has this number
 abbrev pub IsNumbered : {L : Type 0} → List (Client L) → ℕ → ℕ → Type 0
 IsNumbered {L} clients place number = (client : Client L) → (slice_index_or clients place client).number ≡ number
+
+-- a connection stands at its place of the table again
+pub record StandsAgain {L : Type 0} (place : ℕ) (client : Client L) (old new : ConnectionTable L) : Type 0 where
+  pub clients : new.clients.items ≡ insert old.clients.items place client
+  pub came : new.came ≡ old.came
+  pub counted : new.counted ≡ old.counted
+
+-- What became of a connection that was serviced, and taken out of the table for that. It was closed for its reason. Or it stands at its place again, and then connections
+-- were closed while too many bytes were in memory.
+abbrev pub IsSettled : {L : Type 0} → Option CloseReason → ℕ → Client L → NetworkEntry L → NetworkEntry L → ConnectionTable L → ConnectionTable L → Type 0
+IsSettled (Some why) place client before later old new = (later ≡ with_removed before (removed_of client why)) × (new ≡ old)
+IsSettled {L} None place client before later old new = (back : ConnectionTable L) × StandsAgain place client old back × AreClosedByRule IsClosedForBytes before later back new
 
 -- How all of them were accepted, serviced and closed, step by step. At first no connection is open, and the clock hasn't shown a moment yet. The connections that are open
 -- as serving ends are closed then, one after the other. After an end without a failure there are none.

@@ -6,6 +6,9 @@
 //! bytes that were received, an order's by its message, in the same open office. So no connection waits for another's stream, and
 //! the office does one thing at a time.
 //!
+//! A keying comes from [`serve_connections`] to the office by `serve_rounds`, `service_ready`, `service_one`, [`service`],
+//! `answer_client`, `answer_request`, and [`wire::answer_keying`]. `end_round` does what a round has besides.
+//!
 //! Whenever more of a client's request has arrived, [`wire::parse`] parses its head, with routes that are made once. From that
 //! one result the server knows whether the request is complete, whose code it has, whether it must wait, what it reads, and what
 //! the office is asked. Responses to reads are cached by what is asked, not by the bytes of the request, and a cached response is

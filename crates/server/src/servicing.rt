@@ -9,7 +9,7 @@ ghost use Rattle.connections.specs.declared.removed.CloseReason.{CloseReason};
 ghost use Rattle.wire.specs.Gates.{HttpSettingsEntry, settings_entry};
 ghost use Rattle.wire.specs.Parsing.{IsParsed};
 ghost use Rattle.wire.specs.Responses.{fault_response};
-ghost use Rattle.wire.specs.Serving.{IsServed};
+ghost use Rattle.wire.specs.Serving.{IsPut, IsServed};
 ghost use Rattle.wire.specs.Told.{IsWritten};
 ghost use Rattle.server.specs.Settings.{settings_in};
 ghost use Rattle.server.specs.Servicing.{Services, IsCome, IsLostOnly, IsSameClient, HasSentNothing, answer_of};
@@ -33,8 +33,9 @@ use sqlite::Alter;
 use std::alloc::Global;
 use streams::Broken;
 use wire::{
-    Completeness, HttpRequest, HttpSettings, MAX_HEAD_BYTES, Parsed, Resource, Routes, Served,
-    parse, respond, tell_no_memory, write_gone_response, write_wait_response,
+    Completeness, HttpRequest, HttpSettings, MAX_HEAD_BYTES, Parsed, Resource, Response, Routes,
+    Served, answer_keying, parse, respond, tell_no_memory, write_gone_response, write_response,
+    write_wait_response,
 };
 
 /// The status of a response with a fault, which isn't cached.
@@ -165,6 +166,19 @@ fn answer_reading<S: Alter>(
     PendingResponse { bytes, sent: 0 }
 }
 
+/// Returns a response in memory; nothing of it was sent yet. If an allocation fails, it is only a beginning.
+fn written(alloc: Global, response: &Response) -> PendingResponse
+    ensures put { EndsIn result.bytes.items (λ old new served. IsPut old new response.now served) }
+    ensures untold { result.sent ≡ 0 }
+{
+    let mut writer = VecSink::new(alloc);
+    let _ = write_response(&mut writer, response);
+    PendingResponse {
+        bytes: writer.into_bytes(),
+        sent: 0,
+    }
+}
+
 /// Returns the response to a client that is let in, of which these bytes were received; nothing of it was sent yet. The cache is
 /// emptied before a keying, and if an allocation for the request fails.
 fn answer_request<S: Alter>(
@@ -188,8 +202,8 @@ fn answer_request<S: Alter>(
         HttpRequest::Resource(what) => answer_reading(what, office, kept),
         HttpRequest::Keying(keying) => {
             kept.reads.empty();
-            let (bytes, _) = response_to(kept.alloc, HttpRequest::Keying(keying), office);
-            PendingResponse { bytes, sent: 0 }
+            let response = answer_keying(kept.alloc, office, keying);
+            written(kept.alloc, &response)
         }
         HttpRequest::Denied(why) => {
             let (bytes, _) = response_to(kept.alloc, HttpRequest::Denied(why), office);
@@ -259,7 +273,7 @@ fn answer_client<A: SideJobs, S: Alter>(
     kept: &mut ServerMemory,
 ) -> PendingResponse
     requires { IsParsed (settings_entry server_settings.http) due.got.now due.parsed }
-    ensures meets { (number : ℕ) → RespondsToClient (settings_entry server_settings.entry.settings) (state S.Store) (served_office office.old (memory_entry kept.old))
+    ensures meets { (number : ℕ) → RespondsToClient (settings_entry server_settings.entry.http) (state S.Store) (served_office office.old (memory_entry kept.old))
         (record { listener = Listener.Clients; number = number; moment = due.entry.moment; got = due.entry.got.now; answer = result.bytes.items }) (served_office office.new (memory_entry kept.new)) }
     ensures untold { result.sent ≡ 0 }
 {
@@ -335,41 +349,6 @@ fn begin_answer<L: Stream>(
         Serviced::Waits => (client, Serviced::Served),
         Serviced::Served => (client, Serviced::Served),
         Serviced::Leaves(why) => (client, Serviced::Leaves(why)),
-    }
-}
-
-/// Services a client without a response: receives its request and, once that is complete, processes it.
-fn attend_client<L: Stream, A: SideJobs, S: Alter>(
-    server_settings: ServerSettings<'_, A>,
-    now: u64,
-    client: Client<L>,
-    office: &mut Office<S>,
-    kept: &mut ServerMemory,
-) -> (Client<L>, Serviced)
-    requires listener { client.listener ≡ Listener.Clients }
-    requires fresh { HasTaken (L.taken client.stream) [] }
-    requires unanswered { client.answer ≡ None }
-    ensures is { (start : L) → IsOf (stream_of L.held L.taken L.failed) start client → IsOf (stream_of L.held L.taken L.failed) start result.0 }
-    ensures same { IsSameClient client result.0 }
-    ensures turn { Services (settings_in server_settings.entry) (stream_of L.held L.taken L.failed) (state S.Store) now result.1 client result.0
-        (served_office office.old (memory_entry kept.old)) (served_office office.new (memory_entry kept.new)) }
-    ensures leaves { (why : CloseReason) → result.1 ≡ Serviced.Leaves why → EndsFor (stream_of L.held L.taken L.failed) why result.0 }
-{
-    let mut client = client;
-    match hear_request(&mut client, server_settings.http, &kept.routes) {
-        Ok(Some(parsed)) => {
-            let got = client.got.as_slice();
-            let unread = parsed.body_to_come(got.len());
-            let due = Due {
-                parsed,
-                got,
-                moment: now,
-            };
-            let answer = answer_client(server_settings, due, office, kept);
-            begin_answer(kept.alloc, client, answer, unread)
-        }
-        Ok(None) => (client, Serviced::Waits),
-        Err(why) => (client, Serviced::Leaves(why)),
     }
 }
 
@@ -449,8 +428,22 @@ pub fn service<L: Stream, A: SideJobs, S: Alter>(
         let told = send_more(&mut client);
         return (client, told);
     }
-    match client.listener {
-        Listener::Clients => attend_client(server_settings, now, client, office, kept),
-        Listener::Orders => attend_order(server_settings, now, client, office, kept),
+    let Listener::Clients = client.listener else {
+        return attend_order(server_settings, now, client, office, kept);
+    };
+    match hear_request(&mut client, server_settings.http, &kept.routes) {
+        Ok(Some(parsed)) => {
+            let got = client.got.as_slice();
+            let unread = parsed.body_to_come(got.len());
+            let due = Due {
+                parsed,
+                got,
+                moment: now,
+            };
+            let answer = answer_client(server_settings, due, office, kept);
+            begin_answer(kept.alloc, client, answer, unread)
+        }
+        Ok(None) => (client, Serviced::Waits),
+        Err(why) => (client, Serviced::Leaves(why)),
     }
 }

@@ -1,22 +1,20 @@
 //! The server: connections are accepted, serviced side by side, and their requests are processed one after the other.
 
-ghost use Rattle.std.specs.Prelude.{◌≡◌, ◌≤◌, ◌*◌, ◌<◌, ⊤, ℕ, Bool, List, [], IfSome, Ok, OnOk, Result, Some, is_some, length, map, true};
+ghost use Rattle.std.specs.Prelude.{◌≡◌, ◌≤◌, ◌*◌, ◌<◌, ⊤, ℕ, Bool, [], IfSome, Ok, OnOk, Option, Some, is_some, length, true};
 ghost use Rattle.std.specs.Duration.{as_nanos};
-ghost use Rattle.std.specs.List.{insert};
 ghost use Rattle.sqlite.specs.State.{HasCleanDisk};
 ghost use Rattle.sqlite.specs.Held.{state};
 ghost use Rattle.connections.specs.Streams.{stream_of};
 ghost use Rattle.connections.specs.Clients.{IsOf};
 ghost use Rattle.connections.specs.Closing.{IsWithin};
-ghost use Rattle.connections.specs.Traces.{IsServiceOutcome, Trace};
-ghost use Rattle.connections.specs.Tables.{NetworkEntry, after_ready};
+ghost use Rattle.connections.specs.Traces.{Trace};
+ghost use Rattle.connections.specs.Tables.{most_clients};
 ghost use Rattle.server.specs.Blind.{ServersAnswerAsSeen};
 ghost use Rattle.server.specs.ServedConnections.{IsSound};
 ghost use Rattle.server.specs.Reads.{served_office, memory_entry};
 ghost use Rattle.server.specs.Settings.{ServerSettingsEntry, settings_in};
-ghost use Rattle.server.specs.Servicing.{HasExchanges, HasSentNothing, LooksAtGate, WasServiced, response_at};
-ghost use Rattle.server.specs.Exchanges.{Exchange};
-ghost use Rattle.server.specs.Servers.{GoesOn, IsCalled, IsEndedBy, IsNumbered, IsRound, IsUnfailed, ServesConnections, ServesOn};
+ghost use Rattle.server.specs.Servicing.{HasSentNothing, LooksAtGate, WasServiced};
+ghost use Rattle.server.specs.Servers.{GoesOn, IsCalled, IsEndedBy, IsRound, IsSettled, IsUnfailed, ServesConnections, ServesOn};
 
 use crate::blind::servers_answer_as_seen;
 use crate::serve_error::ServeError;
@@ -90,74 +88,33 @@ fn service_one<D: Network, A: SideJobs, S: Alter>(
     }
 }
 
-/// The one at a place goes on. If it is done or lost, it leaves. If the clock fails, it stays where it was.
-fn service_at<D: Network, A: SideJobs, S: Alter>(
+/// Puts a connection that was serviced back at its place, and closes others until the bytes in memory are within the limit; or
+/// closes the connection, if there is a reason.
+fn settle<D: Network>(
     network: &mut D,
-    server_settings: ServerSettings<'_, A>,
     table: &mut ConnectionTable<D::Stream>,
     place: usize,
-    office: &mut Office<S>,
-    kept: &mut ServerMemory,
-) -> Result<(), Broken>
-    requires place { place < length table.old.clients.items }
-    requires sound { IsSound (settings_in server_settings) (stream_of D.Stream.held D.Stream.taken D.Stream.failed) table.old }
+    client: Client<D::Stream>,
+    reason: Option<CloseReason>,
+)
+    requires place { (place ≤ length table.old.clients.items) × (length table.old.clients.items < most_clients) }
     requires within { IsWithin table.old }
-    ensures goes_on { (number : ℕ) → IsNumbered table.old.clients.items place number → (before : NetworkEntry D.Stream) → D.known network.old ≡ after_ready (Some number) before
-        → ServesOn (settings_in server_settings.entry) (stream_of D.Stream.held D.Stream.taken D.Stream.failed) (state S.Store) before (D.known network.new) table.old table.new
-        (served_office office.old (memory_entry kept.old)) (served_office office.new (memory_entry kept.new)) }
-    ensures came { table.new.came ≡ table.old.came }
-    ensures counted { table.new.counted ≡ table.old.counted }
-    ensures within { OnOk result (IsWithin table.new) }
-    ensures called { IsCalled result (D.known network.old) (D.known network.new) }
+    ensures settles { IsSettled reason place client (D.known network.old) (D.known network.new) table.old table.new }
+    ensures within { IsWithin table.new }
 {
-    let client = table.remove_at(place);
-    let (client, next) = service_one(network, server_settings, client, office, kept);
-    let reason = match next {
-        Ok(reason) => reason,
-        Err(Broken) => {
-            table.put_back_at(place, client);
-            return Err(Broken);
-        }
-    };
     match reason {
         Some(why) => {
             network.close(client.into_removed(why));
-            Ok(())
         }
         None => {
             table.put_back_at(place, client);
             keep_within(network, table);
-            Ok(())
         }
     }
 }
 
-/// The one with a number goes on, if it is in.
-fn service_numbered<D: Network, A: SideJobs, S: Alter>(
-    network: &mut D,
-    server_settings: ServerSettings<'_, A>,
-    table: &mut ConnectionTable<D::Stream>,
-    number: u64,
-    office: &mut Office<S>,
-    kept: &mut ServerMemory,
-) -> Result<(), Broken>
-    requires sound { IsSound (settings_in server_settings) (stream_of D.Stream.held D.Stream.taken D.Stream.failed) table.old }
-    requires within { IsWithin table.old }
-    ensures goes_on { (before : NetworkEntry D.Stream) → D.known network.old ≡ after_ready (Some number) before
-        → ServesOn (settings_in server_settings.entry) (stream_of D.Stream.held D.Stream.taken D.Stream.failed) (state S.Store) before (D.known network.new) table.old table.new
-        (served_office office.old (memory_entry kept.old)) (served_office office.new (memory_entry kept.new)) }
-    ensures came { table.new.came ≡ table.old.came }
-    ensures counted { table.new.counted ≡ table.old.counted }
-    ensures within { OnOk result (IsWithin table.new) }
-    ensures called { IsCalled result (D.known network.old) (D.known network.new) }
-{
-    match place_of_number(table.clients.as_slice(), number) {
-        Some(place) => service_at(network, server_settings, table, place, office, kept),
-        None => Ok(()),
-    }
-}
-
-/// Services each connection that is ready, in the order in which the network reports them.
+/// Services each connection that is ready, in the order in which the network reports them, if it is open. One that is done or
+/// lost is closed. If the clock fails, it stays where it was.
 fn service_ready<D: Network, A: SideJobs, S: Alter>(
     network: &mut D,
     server_settings: ServerSettings<'_, A>,
@@ -179,7 +136,16 @@ fn service_ready<D: Network, A: SideJobs, S: Alter>(
         let Some(number) = network.next_ready() else {
             return Ok(());
         };
-        service_numbered(network, server_settings, table, number, office, kept)?;
+        let Some(place) = place_of_number(table.clients.as_slice(), number) else {
+            continue;
+        };
+        let client = table.remove_at(place);
+        let (client, next) = service_one(network, server_settings, client, office, kept);
+        let Ok(reason) = next else {
+            table.put_back_at(place, client);
+            return Err(Broken);
+        };
+        settle(network, table, place, client, reason);
     }
     Ok(())
 }
@@ -282,37 +248,35 @@ impl<A> Clone for Serving<'_, A> {
 
 impl<A> Copy for Serving<'_, A> {}
 
-/// Serves one round: services the connections that are ready, closes those that are timed out, accepts pending ones, and waits
-/// for events. Returns whether all clients were accepted and all connections are closed.
-fn serve_round<D: Network, A: SideJobs, S: Alter>(
+/// Ends a round: closes the connections that are timed out, accepts pending ones, and waits for events. Returns whether all
+/// clients were accepted and all connections are closed.
+fn end_round<D: Network>(
+    alloc: Global,
     network: &mut D,
-    serving: Serving<'_, A>,
     table: &mut ConnectionTable<D::Stream>,
-    office: &mut Office<S>,
-    kept: &mut ServerMemory,
+    most: u64,
 ) -> Result<bool, Broken>
-    requires sound { IsSound (settings_in serving.server_settings) (stream_of D.Stream.held D.Stream.taken D.Stream.failed) table.old }
-    requires within { IsWithin table.old }
-    ensures goes_on { ServesOn (settings_in serving.entry.server_settings) (stream_of D.Stream.held D.Stream.taken D.Stream.failed) (state S.Store) (D.known network.old)
-        (D.known network.new) table.old table.new
-        (served_office office.old (memory_entry kept.old)) (served_office office.new (memory_entry kept.new)) }
-    ensures few { table.old.counted ≤ serving.entry.most → table.new.counted ≤ serving.entry.most }
+    requires { IsWithin table.old }
+    ensures goes_on { (settings : ServerSettingsEntry) → GoesOn settings (stream_of D.Stream.held D.Stream.taken D.Stream.failed) [] (D.known network.old) (D.known network.new) table.old table.new }
+    ensures trace { (gated : Bool) (from : Option ℕ) → (to : Option ℕ) × Trace gated (stream_of D.Stream.held D.Stream.taken D.Stream.failed) [] from to
+        (D.known network.old) (D.known network.new) table.old.clients.items table.new.clients.items }
+    ensures few { table.old.counted ≤ most → table.new.counted ≤ most }
     ensures within { OnOk result (IsWithin table.new) }
-    ensures all { result ≡ Ok true → (serving.entry.most ≤ table.new.counted) × (table.new.clients.items ≡ []) }
+    ensures all { result ≡ Ok true → (most ≤ table.new.counted) × (table.new.clients.items ≡ []) }
     ensures round { IsRound result (D.known network.old) (D.known network.new) }
 {
-    service_ready(network, serving.server_settings, table, office, kept)?;
     let now = network.now()?;
     close_timed_out(network, table, now);
-    let look = accept_pending(kept.alloc, network, table, serving.most, now);
-    if table.counted >= serving.most && table.clients.is_empty() {
+    let look = accept_pending(alloc, network, table, most, now);
+    if table.counted >= most && table.clients.is_empty() {
         return Ok(true);
     }
     network.wait(pause(table, look, now))?;
     Ok(false)
 }
 
-/// Serves until all clients were accepted, and all connections are closed.
+/// Serves in rounds, until all clients were accepted and all connections are closed. In each round the connections that are ready
+/// are serviced first.
 fn serve_rounds<D: Network, A: SideJobs, S: Alter>(
     network: &mut D,
     serving: Serving<'_, A>,
@@ -331,7 +295,10 @@ fn serve_rounds<D: Network, A: SideJobs, S: Alter>(
     ensures ended { IsEndedBy (D.known network.old) (D.known network.new) result }
 {
     for round in 0..ROUNDS {
-        match serve_round(network, serving, table, office, kept) {
+        let Ok(()) = service_ready(network, serving.server_settings, table, office, kept) else {
+            return Err(ServeError::Network);
+        };
+        match end_round(kept.alloc, network, table, serving.most) {
             Ok(true) => return Ok(()),
             Ok(false) => {}
             Err(Broken) => return Err(ServeError::Network),

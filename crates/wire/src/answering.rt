@@ -65,8 +65,8 @@ fn answered(alloc: Global, answer: &Answer) -> Response
     }
 }
 
-/// Sends a clerk's keying to the office, and returns the response.
-fn answer_keying<S: Alter>(alloc: Global, office: &mut Office<S>, keying: Keying) -> Response
+/// Sends a clerk's keying to the office, and returns the response. A closed office stays as it is.
+pub fn answer_keying<S: Alter>(alloc: Global, office: &mut Office<S>, keying: Keying) -> Response
     ensures answers { HasCleanDisk (state S.Store office.new.held) → office.old.closed ≡ false → (s : OfficeState) → IsAt s (state S.Store office.old.held)
         → Readies s (http_request_entry (HttpRequest.Keying keying)) result office.new.closed (state S.Store office.new.held) }
     ensures closed { office.old.closed ≡ true → office.new ≡ office.old }

@@ -4,10 +4,11 @@
 //! `GET /wards/{w}/result`; and with codes also `GET /clerks/{c}/`, `GET /clerks/{c}/leave` and
 //! `GET /clerks/{c}/batches/{b}/candidates`. [`Routes`] has these seven, and a server makes it once.
 //!
-//! [`parse`] parses the head of a request once. What it returns, [`Parsed`], says whether bytes are still lacking ([`Completeness`]), and
-//! under whose number the request asks ([`Authentication`]). With the bytes it says what is asked, [`HttpRequest`], or why that is denied before the
-//! office is asked, [`RequestError`]. [`respond`] asks the office, and writes the response. [`serve_one`] serves one connection from any
-//! reader: it reads what is asked ([`read_request`]) by the same head.
+//! [`parse`] parses the head of a request once. What it returns, [`Parsed`], says whether bytes are still lacking
+//! ([`Completeness`]), and under whose number the request asks ([`Authentication`]). With the bytes it says what is asked,
+//! [`HttpRequest`], or why that is denied before the office is asked, [`RequestError`]. [`respond`] asks the office, and writes
+//! the response. A server that has a keying sends it by [`answer_keying`], and writes the response by [`write_response`].
+//! [`serve_one`] serves one connection from any reader: it reads what is asked ([`read_request`]) by the same head.
 //!
 //! [`HttpSettings`] are the settings of HTTP: the [`Origin`] of pages that come through a proxy, and the [`Gate`], if any.
 //! [`plain`] serves a connection without either. A request with a header which shows that a page from elsewhere sent it is
@@ -21,10 +22,10 @@
 //! each outcome of a connection leaves.
 //!
 //! ```text
-//! let parsed = parse(given, &routes, got);
-//! match parsed.lacks(got.len()) {
-//!     Lacks::AtLeast(wanted) => ..,     // more is to come
-//!     Lacks::Complete => respond(alloc, parsed.asked(alloc, given, got)?, &mut writer, &mut office),
+//! let parsed = parse(settings, &routes, got);
+//! match parsed.completeness_of(got.len()) {
+//!     Completeness::AtLeast(wanted) => ..,     // more is to come
+//!     Completeness::Complete => respond(alloc, parsed.asked(alloc, settings, got)?, &mut writer, &mut office),
 //! }
 //! ```
 #![tactic(auto)]
@@ -53,6 +54,7 @@ mod work;
 mod answering;
 mod serving;
 
+pub use answering::answer_keying;
 pub use authentication::Authentication;
 pub use completeness::Completeness;
 pub use head::MAX_HEAD_BYTES;
@@ -61,8 +63,10 @@ pub use parsed::{Head, Parsed, parse};
 pub use read_failure::ReadFailure;
 pub use request::{HttpRequest, Keying, read_request};
 pub use request_error::{RequestError, Verb};
+pub use response::Response;
 pub use serving::{
-    Served, respond, serve_one, tell_no_memory, write_gone_response, write_wait_response,
+    Served, respond, serve_one, tell_no_memory, write_gone_response, write_response,
+    write_wait_response,
 };
 pub use settings::{Gate, HttpSettings, Page, Show};
 pub use target::{Resource, Routes};

@@ -41,9 +41,9 @@ impl Bytes {
 
 /// A response, ready to be written.
 #[derive(Drop)]
-pub(crate) struct Response {
-    pub status: u16,
-    pub bytes: Bytes,
+pub struct Response {
+    pub(crate) status: u16,
+    pub(crate) bytes: Bytes,
 }
 
 /// The responses to requests that are rejected before the office is asked.

@@ -33,7 +33,9 @@ pub enum Served {
 }
 
 /// Writes a response.
-fn put<W: Sink>(writer: &mut W, response: &Response) -> Served
+///
+/// `WriteFailed` comes only from the writer, which counts one failure more: a beginning of the response was written.
+pub fn write_response<W: Sink>(writer: &mut W, response: &Response) -> Served
     requires { W.failed writer.old < 2 ^ 64 - 1 }
     ensures puts { IsPut (W.taken writer.old) (W.taken writer.new) response.now result }
     ensures answered { OnAnswered result (W.failed writer.new ≡ W.failed writer.old) }
@@ -54,7 +56,7 @@ pub fn write_wait_response<W: Sink>(writer: &mut W) -> Served
     ensures answered { OnAnswered result (W.failed writer.new ≡ W.failed writer.old) }
     ensures write_failed { OnWriteFailed result (W.failed writer.new ≡ W.failed writer.old + 1) }
 {
-    put(writer, &Response::waits())
+    write_response(writer, &Response::waits())
 }
 
 /// Writes that the file of the office is gone or replaced (113).
@@ -66,7 +68,7 @@ pub fn write_gone_response<W: Sink>(writer: &mut W) -> Served
     ensures answered { OnAnswered result (W.failed writer.new ≡ W.failed writer.old) }
     ensures write_failed { OnWriteFailed result (W.failed writer.new ≡ W.failed writer.old + 1) }
 {
-    put(writer, &Response::gone())
+    write_response(writer, &Response::gone())
 }
 
 /// Writes that an allocation failed (101).
@@ -78,7 +80,7 @@ pub fn tell_no_memory<W: Sink>(writer: &mut W) -> Served
     ensures answered { OnAnswered result (W.failed writer.new ≡ W.failed writer.old) }
     ensures write_failed { OnWriteFailed result (W.failed writer.new ≡ W.failed writer.old + 1) }
 {
-    put(writer, &Response::no_memory())
+    write_response(writer, &Response::no_memory())
 }
 
 /// Processes a request in the office, and writes the response.
@@ -102,7 +104,7 @@ pub fn respond<W: Sink, S: Alter>(
     ensures clean { HasCleanDisk (state S.Store office.new.held) → HasCleanDisk (state S.Store office.old.held) }
 {
     let response = answer(alloc, office, asked);
-    put(writer, &response)
+    write_response(writer, &response)
 }
 
 /// Serves one connection: reads a request, processes it in the office, and writes the response.

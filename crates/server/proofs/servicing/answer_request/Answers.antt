@@ -7,7 +7,7 @@ use Rattle.wire.specs.Gates.{settings_entry}
 use Rattle.wire.specs.declared.request.HttpRequest.{HttpRequest}
 use Rattle.wire.specs.declared.request.HttpRequest.TheVariants as variant
 use Rattle.server.specs.Reads.{memory_entry, reads_in}
-use Rattle.server.proofs.AnswerLemmas.{keeps_same, served_anew, served_none}
+use Rattle.server.proofs.AnswerLemmas.{keeps_same, put_answers, served_anew, served_none}
 use Rattle.server.proofs.servicing.answer_request.Goals as goal
 
 pub returns-in_default-clause-served : goal.returns-in_default-clause-served
@@ -23,15 +23,17 @@ returns-in-Resource-clause-served g c = λ number moment.
 pub returns-in-Keying-clause-served : goal.returns-in-Keying-clause-served
 returns-in-Keying-clause-served g c = λ number moment.
     let its = settings_entry c.args.settings in
-    let did = c.response_to-bytes in
+    let did = c.answer_keying-response in
+    let asked = http_request_entry (variant.Keying c.in-Keying.keying) in
     served_anew its (state g.S.Store) c.args.office.now did.new.office (memory_entry c.args.kept.now) (record { reads = reads_in c.empty-in-Keying.new.self; limit = limit_entry c.args.kept.now.limit })
-    number moment c.args.got.now (http_request_entry (variant.Keying c.in-Keying.keying))
-    did.result.0.items (subst (λ (a : HttpRequest). Asks its c.args.got.now (http_request_entry a)) c.in-Keying.is (c.in-Ok.ensures c.requires)) did.ensures.answers (inl c.empty-in-Keying.ensures)
+    number moment c.args.got.now asked c.written.result.bytes.items (subst (λ (a : HttpRequest). Asks its c.args.got.now (http_request_entry a)) c.in-Keying.is (c.in-Ok.ensures c.requires))
+    (put_answers (state g.S.Store) c.args.office.now did.new.office asked c.written.result.bytes.items did.result c.written.ensures.put did.ensures.answers did.ensures.closed_told did.ensures.closed did.ensures.clean)
+    (inl c.empty-in-Keying.ensures)
 
 pub returns-in-Denied-clause-served : goal.returns-in-Denied-clause-served
 returns-in-Denied-clause-served g c = λ number moment.
     let its = settings_entry c.args.settings in
-    let did = c.response_to-bytes-in-Denied in
+    let did = c.response_to-bytes in
     let kept = memory_entry c.args.kept.now in
     let asked = http_request_entry (variant.Denied c.in-Denied.why) in
     let asks = subst (λ (a : HttpRequest). Asks its c.args.got.now (http_request_entry a)) c.in-Denied.is (c.in-Ok.ensures c.requires) in

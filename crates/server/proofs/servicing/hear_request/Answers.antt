@@ -5,12 +5,12 @@ use Rattle.wire.specs.Parsing.{IsParsed}
 use Rattle.server.proofs.ServicingLemmas.{come_ended, come_whole, lasts_for}
 use Rattle.server.proofs.servicing.hear_request.Goals as goal
 
-pub returns-in-Nothing-clause-come : goal.returns-in-Nothing-clause-come
-returns-in-Nothing-clause-come g c =
+pub returns-in-Complete-clause-come : goal.returns-in-Complete-clause-come
+returns-in-Complete-clause-come g c =
     let client = c.receive.new.self in
     let its = settings_entry c.args.settings in
     let parsed = c.parse-parsed in
-    come_whole its (g.L.Stream.held client.stream) client.got.items parsed.result c.completeness_of.result _ (ap length c.as_slice-got.ensures.value) c.in-Nothing.is c.completeness_of.ensures
+    come_whole its (g.L.Stream.held client.stream) client.got.items parsed.result c.completeness_of.result _ (ap length c.as_slice-got.ensures.value) c.in-Complete.is c.completeness_of.ensures
     (subst (λ (xs : List ℕ). IsParsed its xs parsed.result) c.as_slice-got.ensures.value parsed.ensures.is)
 
 pub returns-in-Ended-clause-come : goal.returns-in-Ended-clause-come

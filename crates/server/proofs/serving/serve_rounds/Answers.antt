@@ -1,11 +1,11 @@
 -- Why `serve_rounds` keeps its promise.
-use Rattle.std.proofs.Common.{◌∙◌, Bool, Ok, refl, subst}
+use Rattle.std.proofs.Common.{◌∙◌, Bool, Ok, ap, arith, is_some, refl, subst}
 use Rattle.sqlite.specs.Held.{state}
-use Rattle.connections.specs.Streams.{stream_of}
+use Rattle.connections.specs.Streams.{one_more, stream_of}
 use Rattle.server.specs.Reads.{served_office, memory_entry}
 use Rattle.server.specs.Servers.{IsRound}
 use Rattle.server.specs.Settings.{settings_in}
-use Rattle.server.proofs.ServerLemmas.{more_by_none, more_by_one, serves_still, serves_then, sound_later}
+use Rattle.server.proofs.ServerLemmas.{more_by_none, more_by_one, serves_more, serves_still, serves_then, sound_later}
 use Rattle.server.proofs.serving.serve_rounds.Goals as goal
 
 pub loop-round-init : goal.loop-round-init
@@ -22,39 +22,67 @@ loop-round-init g c =
       waits = more_by_none known.waits;
     }
 
+-- the room is as sound as it was
+pub service_ready-requires-clause-sound : goal.service_ready-requires-clause-sound
+service_ready-requires-clause-sound g c =
+    sound_later (settings_in c.args.serving.server_settings) (stream_of g.D.Stream.Stream.held g.D.Stream.Stream.taken g.D.Stream.Stream.failed) (state g.S.Store) (g.D.Network.known c.args.network.now) (g.D.Network.known c.loop-round.network) c.args.table.now c.loop-round.table
+    (served_office c.args.office.now (memory_entry c.args.kept.now)) (served_office c.loop-round.office (memory_entry c.loop-round.kept)) c.loop-round.invariant.goes_on c.requires.sound
+
+pub returns-in_default-clause-goes_on : goal.returns-in_default-clause-goes_on
+returns-in_default-clause-goes_on g c =
+    let known = g.D.Network.known in
+    let went = c.service_ready in
+    serves_then (settings_in c.args.serving.server_settings) (stream_of g.D.Stream.Stream.held g.D.Stream.Stream.taken g.D.Stream.Stream.failed) (state g.S.Store) (known c.args.network.now) (known c.loop-round.network) (known went.new.network) c.args.table.now c.loop-round.table went.new.table
+    (served_office c.args.office.now (memory_entry c.args.kept.now)) (served_office c.loop-round.office (memory_entry c.loop-round.kept)) (served_office went.new.office (memory_entry went.new.kept)) c.loop-round.invariant.goes_on
+    went.ensures.goes_on
+
 pub loop-round-preserved : goal.loop-round-preserved
 loop-round-preserved g c =
     let settings = settings_in c.args.serving.server_settings in
     let stream = stream_of g.D.Stream.Stream.held g.D.Stream.Stream.taken g.D.Stream.Stream.failed in
     let known = g.D.Network.known in
     let so_far = c.loop-round.invariant in
-    let went = c.serve_round in
-    let round = subst (λ (b : Bool). IsRound (Ok b) (known c.loop-round.network) (known went.new.network)) c.in-Ok-false.field-0-test c.in-Ok-false.ensures.round in
+    let went = c.service_ready in
+    let ended = c.end_round in
+    let behind = served_office went.new.office (memory_entry went.new.kept) in
+    let calls = c.in-Ok.ensures.called in
+    let round = subst (λ (b : Bool). IsRound (Ok b) (known went.new.network) (known ended.new.network)) c.in-Ok-false.field-0-test c.in-Ok-false.ensures.round in
     record {
-      goes_on = serves_then settings stream (state g.S.Store) (known c.args.network.now) (known c.loop-round.network) (known went.new.network) c.args.table.now c.loop-round.table went.new.table
-          (served_office c.args.office.now (memory_entry c.args.kept.now)) (served_office c.loop-round.office (memory_entry c.loop-round.kept)) (served_office went.new.office (memory_entry went.new.kept)) so_far.goes_on went.ensures.goes_on;
-      few = λ few. went.ensures.few (so_far.few few);
+      goes_on = serves_more settings stream (state g.S.Store) (known c.args.network.now) (known went.new.network) (known ended.new.network) c.args.table.now went.new.table ended.new.table
+          (served_office c.args.office.now (memory_entry c.args.kept.now)) behind
+          (serves_then settings stream (state g.S.Store) (known c.args.network.now) (known c.loop-round.network) (known went.new.network) c.args.table.now c.loop-round.table went.new.table
+          (served_office c.args.office.now (memory_entry c.args.kept.now)) (served_office c.loop-round.office (memory_entry c.loop-round.kept)) behind so_far.goes_on went.ensures.goes_on)
+          (ended.ensures.goes_on settings) (ended.ensures.trace (is_some settings.clients.gate));
+      few = λ few. ended.ensures.few (omega (arith, so_far.few few, went.ensures.counted));
       within = c.in-Ok-false.ensures.within;
-      failed = round.0 ∙ so_far.failed;
-      waits = more_by_one (known c.args.network.now).waits (known c.loop-round.network).waits (known went.new.network).waits c.loop-round.round so_far.waits round.1;
+      failed = round.0 ∙ calls.0 ∙ so_far.failed;
+      waits = more_by_one (known c.args.network.now).waits (known c.loop-round.network).waits (known ended.new.network).waits c.loop-round.round so_far.waits (round.1 ∙ ap one_more calls.1);
     }
 
 pub returns-in-Ok-true-clause-goes_on : goal.returns-in-Ok-true-clause-goes_on
 returns-in-Ok-true-clause-goes_on g c =
+    let settings = settings_in c.args.serving.server_settings in
+    let stream = stream_of g.D.Stream.Stream.held g.D.Stream.Stream.taken g.D.Stream.Stream.failed in
     let known = g.D.Network.known in
-    let went = c.serve_round in
-    serves_then (settings_in c.args.serving.server_settings) (stream_of g.D.Stream.Stream.held g.D.Stream.Stream.taken g.D.Stream.Stream.failed) (state g.S.Store) (known c.args.network.now) (known c.loop-round.network) (known went.new.network) c.args.table.now c.loop-round.table went.new.table
-    (served_office c.args.office.now (memory_entry c.args.kept.now)) (served_office c.loop-round.office (memory_entry c.loop-round.kept)) (served_office went.new.office (memory_entry went.new.kept)) c.loop-round.invariant.goes_on went.ensures.goes_on
+    let went = c.service_ready in
+    let ended = c.end_round in
+    let behind = served_office went.new.office (memory_entry went.new.kept) in
+    serves_more settings stream (state g.S.Store) (known c.args.network.now) (known went.new.network) (known ended.new.network) c.args.table.now went.new.table ended.new.table
+    (served_office c.args.office.now (memory_entry c.args.kept.now)) behind
+    (serves_then settings stream (state g.S.Store) (known c.args.network.now) (known c.loop-round.network) (known went.new.network) c.args.table.now c.loop-round.table went.new.table
+    (served_office c.args.office.now (memory_entry c.args.kept.now)) (served_office c.loop-round.office (memory_entry c.loop-round.kept)) behind c.loop-round.invariant.goes_on went.ensures.goes_on)
+    (ended.ensures.goes_on settings) (ended.ensures.trace (is_some settings.clients.gate))
 
 pub returns-in-Err-clause-goes_on : goal.returns-in-Err-clause-goes_on
 returns-in-Err-clause-goes_on g c =
+    let settings = settings_in c.args.serving.server_settings in
+    let stream = stream_of g.D.Stream.Stream.held g.D.Stream.Stream.taken g.D.Stream.Stream.failed in
     let known = g.D.Network.known in
-    let went = c.serve_round in
-    serves_then (settings_in c.args.serving.server_settings) (stream_of g.D.Stream.Stream.held g.D.Stream.Stream.taken g.D.Stream.Stream.failed) (state g.S.Store) (known c.args.network.now) (known c.loop-round.network) (known went.new.network) c.args.table.now c.loop-round.table went.new.table
-    (served_office c.args.office.now (memory_entry c.args.kept.now)) (served_office c.loop-round.office (memory_entry c.loop-round.kept)) (served_office went.new.office (memory_entry went.new.kept)) c.loop-round.invariant.goes_on went.ensures.goes_on
-
--- the room is as sound as it was
-pub serve_round-requires-clause-sound : goal.serve_round-requires-clause-sound
-serve_round-requires-clause-sound g c =
-    sound_later (settings_in c.args.serving.server_settings) (stream_of g.D.Stream.Stream.held g.D.Stream.Stream.taken g.D.Stream.Stream.failed) (state g.S.Store) (g.D.Network.known c.args.network.now) (g.D.Network.known c.loop-round.network) c.args.table.now c.loop-round.table
-    (served_office c.args.office.now (memory_entry c.args.kept.now)) (served_office c.loop-round.office (memory_entry c.loop-round.kept)) c.loop-round.invariant.goes_on c.requires.sound
+    let went = c.service_ready in
+    let ended = c.end_round in
+    let behind = served_office went.new.office (memory_entry went.new.kept) in
+    serves_more settings stream (state g.S.Store) (known c.args.network.now) (known went.new.network) (known ended.new.network) c.args.table.now went.new.table ended.new.table
+    (served_office c.args.office.now (memory_entry c.args.kept.now)) behind
+    (serves_then settings stream (state g.S.Store) (known c.args.network.now) (known c.loop-round.network) (known went.new.network) c.args.table.now c.loop-round.table went.new.table
+    (served_office c.args.office.now (memory_entry c.args.kept.now)) (served_office c.loop-round.office (memory_entry c.loop-round.kept)) behind c.loop-round.invariant.goes_on went.ensures.goes_on)
+    (ended.ensures.goes_on settings) (ended.ensures.trace (is_some settings.clients.gate))
