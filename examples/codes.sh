@@ -90,6 +90,9 @@ let_in() {
     stat --format '%a' "$folder/made.txt"
     sed 's/[a-z2-7]\{4\}-[a-z2-7]\{4\}-[a-z2-7]\{4\}$/CODE/' "$folder/made.txt" | sed -n '1p;$p'
     sort -k 2 -u "$folder/made.txt" | wc -l
+    # a second file has no code of the first
+    play town.db codes second.txt 1-40
+    sed 's/.* //' "$folder/made.txt" "$folder/second.txt" | sort | uniq -d | wc -l
     # what is there is left
     play town.db codes made.txt 1-40
     # it needs no database

@@ -12,7 +12,7 @@ use checker::{ArgumentsFault, InputFiles, NotRead, run};
 use std::io::{Error, ErrorKind};
 use std::process::ExitCode;
 use std::{env, fs};
-use votes::Counted;
+use streams::Counted;
 
 /// The files of this machine.
 #[derive(Clone, Copy)]

@@ -63,14 +63,16 @@ module _ (candidates : List (ℕ × Text)) (withdrawn : List ℕ) where
       by : (b : Bool) → (x.0 == k) ≡ b
           → (Rise (k + 1) end left → ((c : ℕ) → k + 1 ≤ c → name_at candidates c ≡ name_at left c) → ((c : ℕ) → k + 1 ≤ c → c < end → list_any (nat_eq c) withdrawn ≡ is_none (name_at candidates c))
           → candidates_from withdrawn (k + 1) (map (name_of candidates) (range_with_len (k + 1) n)) ≡ left)
-          → (Rise (k + 1) end (x ∷ left) → ((c : ℕ) → k + 1 ≤ c → name_at candidates c ≡ name_at (x ∷ left) c) → ((c : ℕ) → k + 1 ≤ c → c < end → list_any (nat_eq c) withdrawn ≡ is_none (name_at candidates c))
+          → (Rise (k + 1) end (x ∷ left) → ((c : ℕ) → k + 1 ≤ c → name_at candidates c ≡ name_at (x ∷ left) c)
+          → ((c : ℕ) → k + 1 ≤ c → c < end → list_any (nat_eq c) withdrawn ≡ is_none (name_at candidates c))
           → candidates_from withdrawn (k + 1) (map (name_of candidates) (range_with_len (k + 1) n)) ≡ x ∷ left)
           → candidates_from withdrawn k (map (name_of candidates) (range_with_len k (suc n))) ≡ x ∷ left
       by true e taken passed =
           let number = eqb-true x.0 k e in
           let named : name_at candidates k ≡ Some x.1 = same k (omega arith) ∙ rw e refl in
           let stands : list_any (nat_eq k) withdrawn ≡ false = missing k (omega arith) (omega (arith, is)) ∙ ap is_none named in
-          let others = taken (subst (λ m. Rise (m + 1) end left) number rise.2) (λ c low. same c (omega arith) ∙ rw (ne_eqb x.0 c (λ m. omega (arith, m, number))) refl) (λ c low high. missing c (omega arith) high) in
+          let others = taken (subst (λ m. Rise (m + 1) end left) number rise.2) (λ c low. same c (omega arith) ∙ rw (ne_eqb x.0 c (λ m. omega (arith, m, number))) refl)
+          (λ c low high. missing c (omega arith) high) in
           rw (stands, named, others) (ap (λ m. (m, x.1) ∷ left) (sym number))
       by false e taken passed =
           let differ = eqb-false x.0 k e in

@@ -30,8 +30,10 @@ finished (end.LotNeeded stage among) is = absurd (cc is)
 finished (end.LotNotAmong stage) is = absurd (cc is)
 
 -- what comes of a text where it is
-pub counted_so : (ward : SheetEntry) (bundles : List Bundle) (lots : List (ℕ × ℕ)) (text : List ℕ) (checked : Checked) (contest : Contest) (stages : List Stage) (history : History) (why : CountEnd) (elected : List ℕ)
-    → IsContest contest → contest ≡ contest_in ward bundles → reverse stages ≡ history → IsWholeCount contest lots history → end_after contest lots history ≡ Some why → None ≡ problem_of why → elected ≡ elected_after contest history → None ≡ undrawn contest lots
+pub counted_so : (ward : SheetEntry) (bundles : List Bundle) (lots : List (ℕ × ℕ)) (text : List ℕ) (checked : Checked) (contest : Contest) (stages : List Stage)
+    (history : History) (why : CountEnd) (elected : List ℕ)
+    → IsContest contest → contest ≡ contest_in ward bundles → reverse stages ≡ history → IsWholeCount contest lots history → end_after contest lots history ≡ Some why
+    → None ≡ problem_of why → elected ≡ elected_after contest history → None ≡ undrawn contest lots
     → IsComparison text (sheet ward stages) (declaration ward elected) checked → IsCountedCheck ward bundles lots text checked
 counted_so ward bundles lots text checked contest stages history why elected held same is whole ended none chosen drawn compared = record {
   contest = subst IsContest same held;

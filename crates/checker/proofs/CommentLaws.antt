@@ -25,7 +25,8 @@ use Rattle.checker.proofs.PaperLaws.{state}
 
 unparted : (n : ℕ) → n < 2 ^ 64 → list_any (parts Mark) (decimal n) ≡ false
 unparted n small =
-    none_of is_figure (parts Mark) (λ b h. or_both _ _ (figure_unblank b h) (or_both _ _ (figure_other b 58 h (λ l m. omega arith)) (figure_other b 44 h (λ l m. omega arith)))) (decimal n) (decimal_figures n small).all
+    none_of is_figure (parts Mark) (λ b h. or_both _ _ (figure_unblank b h) (or_both _ _ (figure_other b 58 h (λ l m. omega arith)) (figure_other b 44 h (λ l m. omega arith))))
+    (decimal n) (decimal_figures n small).all
 
 unended : (n : ℕ) → n < 2 ^ 64 → list_any (λ b. b == 10) (decimal n) ≡ false
 unended n small = none_of is_figure (λ b. b == 10) (λ b h. figure_other b 10 h (λ l m. omega arith)) (decimal n) (decimal_figures n small).all
@@ -109,11 +110,13 @@ rejected_unended a b c d e few =
     part_unended a _ few.first (part_unended b _ few.second (part_unended c _ few.third (part_unended d _ few.fourth (part_unended e [] few.fifth refl))))
 
 pub rejected_reads : (papers : PapersEntry) (names : Named) (remarks : Remarks) (a b c d e : ℕ) → AreCounts a b c d e → remarks.rejected ≡ None
-    → Reads (state place.End papers names remarks) (codes "# " ++ rejected_line (a ∷ b ∷ c ∷ d ∷ e ∷ [])) (state place.End papers names (record { ward = remarks.ward; rejected = Some (a ∷ b ∷ c ∷ d ∷ e ∷ []); lots = remarks.lots }))
+    → Reads (state place.End papers names remarks) (codes "# " ++ rejected_line (a ∷ b ∷ c ∷ d ∷ e ∷ []))
+    (state place.End papers names (record { ward = remarks.ward; rejected = Some (a ∷ b ∷ c ∷ d ∷ e ∷ []); lots = remarks.lots }))
 unfolding line
 rejected_reads papers names remarks a b c d e few first =
     let more : Remarks = record { ward = remarks.ward; rejected = Some (a ∷ b ∷ c ∷ d ∷ e ∷ []); lots = remarks.lots } in
-    let read : with_comment remarks (rejected_text a b c d e) ≡ Ok more = ap (with_words remarks (rejected_text a b c d e)) (rejected_pieces a b c d e few) ∙ rw (rejected_back a b c d e few, first) refl in
+    let read : with_comment remarks (rejected_text a b c d e) ≡ Ok more = ap (with_words remarks (rejected_text a b c d e)) (rejected_pieces a b c d e few)
+    ∙ rw (rejected_back a b c d e few, first) refl in
     comment_reads papers names remarks more (rejected_text a b c d e) refl (rejected_unended a b c d e few) read
 
 -- ---- the lots
@@ -150,9 +153,11 @@ none_drawn [] = tt
 none_drawn (lot ∷ lots) = (refl, none_drawn lots)
 
 lots_after : (papers : PapersEntry) (names : Named) (number : Option ℕ) (rejected : Option (List ℕ)) (before lots : List (ℕ × ℕ)) → AreSmall lots → AreOnce lots → Undrawn before lots
-    → Reads (state place.End papers names (record { ward = number; rejected = rejected; lots = before })) (flat_map lot_comment lots) (state place.End papers names (record { ward = number; rejected = rejected; lots = before ++ lots }))
+    → Reads (state place.End papers names (record { ward = number; rejected = rejected; lots = before })) (flat_map lot_comment lots)
+    (state place.End papers names (record { ward = number; rejected = rejected; lots = before ++ lots }))
 lots_after papers names number rejected before [] small once all =
-    subst (λ l. Reads (state place.End papers names (record { ward = number; rejected = rejected; lots = before })) [] (state place.End papers names (record { ward = number; rejected = rejected; lots = l }))) (sym (append-nil before))
+    subst (λ l. Reads (state place.End papers names (record { ward = number; rejected = rejected; lots = before })) []
+    (state place.End papers names (record { ward = number; rejected = rejected; lots = l }))) (sym (append-nil before))
     (reads-nothing (state place.End papers names (record { ward = number; rejected = rejected; lots = before })))
 lots_after papers names number rejected before (lot ∷ lots) small once all =
     let here = state place.End papers names (record { ward = number; rejected = rejected; lots = before }) in
@@ -160,9 +165,11 @@ lots_after papers names number rejected before (lot ∷ lots) small once all =
     let end = state place.End papers names (record { ward = number; rejected = rejected; lots = (before ++ lot ∷ []) ++ lots }) in
     let one = lot_reads papers names (record { ward = number; rejected = rejected; lots = before }) lot.0 lot.1 small.0.0 small.0.1 all.0 in
     let others = lots_after papers names number rejected (before ++ lot ∷ []) lots small.1 once.1 (undrawn_more before lot lots all.1 once.0) in
-    subst (λ l. Reads here (lot_comment lot ++ flat_map lot_comment lots) (state place.End papers names (record { ward = number; rejected = rejected; lots = l }))) (append_assoc before (lot ∷ []) lots)
+    subst (λ l. Reads here (lot_comment lot ++ flat_map lot_comment lots) (state place.End papers names (record { ward = number; rejected = rejected; lots = l })))
+    (append_assoc before (lot ∷ []) lots)
     (reads-then here (lot_comment lot) mid (flat_map lot_comment lots) end one others)
 
 pub lots_read : (papers : PapersEntry) (names : Named) (number : Option ℕ) (rejected : Option (List ℕ)) (lots : List (ℕ × ℕ)) → AreSmall lots → AreOnce lots
-    → Reads (state place.End papers names (record { ward = number; rejected = rejected; lots = [] })) (flat_map lot_comment lots) (state place.End papers names (record { ward = number; rejected = rejected; lots = lots }))
+    → Reads (state place.End papers names (record { ward = number; rejected = rejected; lots = [] })) (flat_map lot_comment lots)
+    (state place.End papers names (record { ward = number; rejected = rejected; lots = lots }))
 lots_read papers names number rejected lots small once = lots_after papers names number rejected [] lots small once (none_drawn lots)

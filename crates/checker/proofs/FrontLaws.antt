@@ -69,7 +69,8 @@ pub bundles_read : (first : Bool) (h s : ℕ) (w : List ℕ) (before bs : List B
     → AllByRecursion (λ (b : Bundle). CanStand h w b.0 b.1) bs → length (papers_of before) + length (papers_of bs) ≤ max_papers
     → Reads (state (papers_at first) (told h s w before) names remarks) (flat_map bundle_line bs ++ end_line) (state place.CandidateNames (told h s w (before ++ bs)) names remarks)
 bundles_read first h s w before [] names remarks bound rise can few =
-    subst (λ l. Reads (state (papers_at first) (told h s w before) names remarks) end_line (state place.CandidateNames (told h s w l) names remarks)) (sym (append-nil before)) (end_reads first h s w before names remarks)
+    subst (λ l. Reads (state (papers_at first) (told h s w before) names remarks) end_line (state place.CandidateNames (told h s w l) names remarks))
+    (sym (append-nil before)) (end_reads first h s w before names remarks)
 bundles_read first h s w before (b ∷ bs) names remarks bound rise can few =
     let here = state (papers_at first) (told h s w before) names remarks in
     let end = state place.CandidateNames (told h s w (before ++ b ∷ bs)) names remarks in
@@ -79,7 +80,8 @@ bundles_read first h s w before (b ∷ bs) names remarks bound rise can few =
     let one = subst (λ l. Reads here (bundle_line b) (state place.PaperTotals (told h s w l) names remarks)) last (bundle_reads first h s w before names remarks b.0 b.1 bound can.0 room) in
     let joined = append_assoc before (b ∷ []) bs in
     let others = bundles_read false h s w (before ++ b ∷ []) bs names remarks bound (subst (λ l. IsStrictlySortedBy list_cmp (lists_of l)) (sym joined) rise) can.1 more in
-    let all = reads-then here (bundle_line b) (state place.PaperTotals (told h s w (before ++ b ∷ [])) names remarks) (flat_map bundle_line bs ++ end_line) (state place.CandidateNames (told h s w ((before ++ b ∷ []) ++ bs)) names remarks) one others in
+    let all = reads-then here (bundle_line b) (state place.PaperTotals (told h s w (before ++ b ∷ [])) names remarks) (flat_map bundle_line bs ++ end_line)
+    (state place.CandidateNames (told h s w ((before ++ b ∷ []) ++ bs)) names remarks) one others in
     subst (λ l. Reads here ((bundle_line b ++ flat_map bundle_line bs) ++ end_line) (state place.CandidateNames (told h s w l) names remarks)) joined
     (subst (λ t. Reads here t (state place.CandidateNames (told h s w ((before ++ b ∷ []) ++ bs)) names remarks)) (sym (append_assoc (bundle_line b) (flat_map bundle_line bs) end_line)) all)
 
@@ -92,7 +94,8 @@ size_reads h s bound some few =
     let words = line_numbers (decimal h) (decimal s ∷ []) (decimal_figures h (omega arith)) (decimal_figures s (omega (arith, few)), tt) in
     let read : with_size nothing_told.papers (decimal h ∷ decimal s ∷ []) ≡ Ok (told h s [] []) =
     rw (number_back max_candidates h (omega arith) bound, number_back max_seats s (omega (arith, few)) few, ne_eqb s 0 (λ e. omega (arith, e))) refl in
-    number_line nothing_told (state place.Withdrawn (told h s [] []) nothing_told.names nothing_told.remarks) (decimal h) (decimal s ∷ []) (decimal_figures h (omega arith)) (decimal_figures s (omega (arith, few)), tt)
+    number_line nothing_told (state place.Withdrawn (told h s [] []) nothing_told.names nothing_told.remarks) (decimal h) (decimal s ∷ [])
+    (decimal_figures h (omega arith)) (decimal_figures s (omega (arith, few)), tt)
     (ap (λ told. and_then told (with_size_line nothing_told)) words ∙ rw read refl)
 
 -- ---- the withdrawn

@@ -173,7 +173,8 @@ reads-then here text there others end first second = record {
   lines = first.lines + second.lines;
   so = λ k rest.
       let sum : k + first.lines + second.lines ≡ k + (first.lines + second.lines) = omega arith in
-      ap (λ t. read_from k here (pieces_of LineFeed [] t)) (append_assoc text others rest) ∙ (first.so k (others ++ rest) ∙ (second.so (k + first.lines) rest ∙ ap (λ n. read_from n end (pieces_of LineFeed [] rest)) sum));
+      ap (λ t. read_from k here (pieces_of LineFeed [] t)) (append_assoc text others rest) ∙
+      (first.so k (others ++ rest) ∙ (second.so (k + first.lines) rest ∙ ap (λ n. read_from n end (pieces_of LineFeed [] rest)) sum));
 }
 
 pub reads-line : (here : ReaderEntry) (body : Text) (there : ReaderEntry) → list_any (λ b. b == 10) body ≡ false → with_line here body ≡ Ok there → Reads here (body ++ 10 ∷ []) there

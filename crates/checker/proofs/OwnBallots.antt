@@ -21,7 +21,8 @@ told_of_own : (P : SheetEntry → List Bundle → List (ℕ × ℕ) → Type 0) 
 told_of_own P ward bundles lots back reading understood told =
     let same : reading ≡ back.reading = cc (sym understood ∙ back.understood) in
     let own = subst (λ (r : ReaderEntry). P (ward_told r) r.papers.bundles r.remarks.lots) same told in
-    subst (λ w. P w bundles lots) back.ward_is (subst (λ bs. P (ward_told back.reading) bs lots) back.bundles_are (subst (λ ls. P (ward_told back.reading) back.reading.papers.bundles ls) back.lots_are own))
+    subst (λ w. P w bundles lots) back.ward_is (subst (λ bs. P (ward_told back.reading) bs lots) back.bundles_are
+    (subst (λ ls. P (ward_told back.reading) back.reading.papers.bundles ls) back.lots_are own))
 
 -- so what comes of a text
 pub own_check : (ward : SheetEntry) (bundles : List Bundle) (lots : List (ℕ × ℕ)) → CanBeReadBack ward bundles lots → (text : List ℕ) (checked : Checked) →

@@ -86,9 +86,11 @@ is_name (x ∷ candidates) c all = found_name (x.0 == c) x (find (λ (candidate 
 
 pub names_read : (candidates : List (ℕ × Text)) (papers : PapersEntry) (remarks : Remarks) (ward : Text) (before : List Text) (k n : ℕ) →
     AllByRecursion (λ (candidate : ℕ × Text). IsName candidate.1) candidates → length before + n ≤ papers.highest
-    → Reads (state place.CandidateNames papers (record { names = before; ward = ward }) remarks) (flat_map (name_line candidates) (range_with_len k n)) (state place.CandidateNames papers (record { names = before ++ map (name_of candidates) (range_with_len k n); ward = ward }) remarks)
+    → Reads (state place.CandidateNames papers (record { names = before; ward = ward }) remarks) (flat_map (name_line candidates) (range_with_len k n))
+    (state place.CandidateNames papers (record { names = before ++ map (name_of candidates) (range_with_len k n); ward = ward }) remarks)
 names_read candidates papers remarks ward before k zero all few =
-    subst (λ l. Reads (state place.CandidateNames papers (record { names = before; ward = ward }) remarks) [] (state place.CandidateNames papers (record { names = l; ward = ward }) remarks)) (sym (append-nil before))
+    subst (λ l. Reads (state place.CandidateNames papers (record { names = before; ward = ward }) remarks) [] (state place.CandidateNames papers (record { names = l; ward = ward }) remarks))
+    (sym (append-nil before))
     (reads-nothing (state place.CandidateNames papers (record { names = before; ward = ward }) remarks))
 names_read candidates papers remarks ward before k (suc n) all few =
     let name = name_of candidates k in

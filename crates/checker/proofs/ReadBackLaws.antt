@@ -131,8 +131,11 @@ module _ (ward : SheetEntry) where
   bundles_stand [] most set each fors few = tt
   bundles_stand (b ∷ bundles) most set each fors few =
       let stands = list_stands b.0 set fors.0 in
-      let sum : length (papers_of (b ∷ bundles)) ≡ b.1 + length (papers_of bundles) = length-append (replicate b.1 b.0) (papers_of bundles) ∙ ap (λ n. n + length (papers_of bundles)) (length-replicate b.1 b.0) in
-      (record { some = each.0.0; few = omega (arith, few, sum); listed = each.0.1; ranking = each.0.2; low = stands.0; standing = stands.1 }, bundles_stand bundles most set each.1 fors.1 (omega (arith, few, sum)))
+      let sum : length (papers_of (b ∷ bundles)) ≡ b.1 + length (papers_of bundles) = length-append (replicate b.1 b.0) (papers_of bundles) ∙ ap
+      (λ n. n + length (papers_of bundles)) (length-replicate b.1 b.0) in (
+        record { some = each.0.0; few = omega (arith, few, sum); listed = each.0.1; ranking = each.0.2; low = stands.0; standing = stands.1 },
+        bundles_stand bundles most set each.1 fors.1 (omega (arith, few, sum)),
+      )
 
   -- what its names tell
   abbrev all_names : List Text
@@ -161,7 +164,16 @@ five_of (a ∷ []) five fit = absurd (omega arith)
 five_of (a ∷ b ∷ []) five fit = absurd (omega arith)
 five_of (a ∷ b ∷ c ∷ []) five fit = absurd (omega arith)
 five_of (a ∷ b ∷ c ∷ d ∷ []) five fit = absurd (omega arith)
-five_of (a ∷ b ∷ c ∷ d ∷ e ∷ []) five fit = record { a = a; b = b; c = c; d = d; e = e; is = refl; counts = record { first = fit.0; second = fit.1.0; third = fit.1.1.0; fourth = fit.1.1.1.0; fifth = fit.1.1.1.1.0 } }
+five_of (a ∷ b ∷ c ∷ d ∷ e ∷ []) five fit = record {
+  a = a;
+  b = b;
+  c = c;
+  d = d;
+  e = e;
+  is = refl;
+  counts
+      = record { first = fit.0; second = fit.1.0; third = fit.1.1.0; fourth = fit.1.1.1.0; fifth = fit.1.1.1.1.0 };
+}
 five_of (a ∷ b ∷ c ∷ d ∷ e ∷ f ∷ others) five fit = absurd (omega arith)
 
 -- the rejected papers that a ward's file tells
@@ -170,7 +182,8 @@ rejected_told None = None
 rejected_told (Some poll) = Some poll.rejected
 
 poll_reads : (poll : Option Poll) (bundles : List Bundle) (n seats : ℕ) (papers : PapersEntry) (names : Named) (number : Option ℕ) → IsPollOf poll bundles n seats
-    → Reads (state place.End papers names (record { ward = number; rejected = None; lots = [] })) (rejected_comment poll) (state place.End papers names (record { ward = number; rejected = rejected_told poll; lots = [] }))
+    → Reads (state place.End papers names (record { ward = number; rejected = None; lots = [] })) (rejected_comment poll)
+    (state place.End papers names (record { ward = number; rejected = rejected_told poll; lots = [] }))
 poll_reads None bundles n seats papers names number is = reads-nothing (state place.End papers names (record { ward = number; rejected = None; lots = [] }))
 poll_reads (Some poll) bundles n seats papers names number is =
     let five = five_of poll.rejected is.1.five is.1.fit in
@@ -250,9 +263,12 @@ module _ (ward : SheetEntry) (bundles : List Bundle) (lots : List (ℕ × ℕ)) 
       let gone = withdrawn_reads number ward.seats (withdrawn ward) nothing_told.names none_told bound missing low in
       let stand = bundles_stand ward bundles 0 can.candidate_set can.bundles_are.each can.for_candidates can.few_papers in
       let papers = bundles_read true number ward.seats (withdrawn ward) [] bundles nothing_told.names none_told bound can.bundles_are.rise stand (omega (arith, can.few_papers)) in
-      subst (λ t. Reads nothing_told t (state place.CandidateNames all_told nothing_told.names none_told)) (sym (append_assoc (size_line ward ++ withdrawn_line (withdrawn ward)) (flat_map bundle_line bundles) end_line))
-      (reads-then nothing_told (size_line ward ++ withdrawn_line (withdrawn ward)) (state place.Withdrawn (told number ward.seats (withdrawn ward) []) nothing_told.names none_told) (flat_map bundle_line bundles ++ end_line) (state place.CandidateNames all_told nothing_told.names none_told)
-      (reads-then nothing_told (size_line ward) (state place.Withdrawn (told number ward.seats [] []) nothing_told.names none_told) (withdrawn_line (withdrawn ward)) (state place.Withdrawn (told number ward.seats (withdrawn ward) []) nothing_told.names none_told) sizes gone)
+      subst (λ t. Reads nothing_told t (state place.CandidateNames all_told nothing_told.names none_told))
+      (sym (append_assoc (size_line ward ++ withdrawn_line (withdrawn ward)) (flat_map bundle_line bundles) end_line))
+      (reads-then nothing_told (size_line ward ++ withdrawn_line (withdrawn ward)) (state place.Withdrawn (told number ward.seats (withdrawn ward) []) nothing_told.names none_told)
+      (flat_map bundle_line bundles ++ end_line) (state place.CandidateNames all_told nothing_told.names none_told)
+      (reads-then nothing_told (size_line ward) (state place.Withdrawn (told number ward.seats [] []) nothing_told.names none_told) (withdrawn_line (withdrawn ward))
+      (state place.Withdrawn (told number ward.seats (withdrawn ward) []) nothing_told.names none_told) sizes gone)
       papers)
 
   names_back : CanBeReadBack ward bundles lots → Reads (state place.CandidateNames all_told nothing_told.names none_told) (name_lines ward) (state place.End all_told names_told none_told)
@@ -270,13 +286,15 @@ module _ (ward : SheetEntry) (bundles : List Bundle) (lots : List (ℕ × ℕ)) 
       let numbered = state place.End all_told names_told (record { ward = Some ward.number; rejected = None; lots = [] }) in
       let polled = state place.End all_told names_told (record { ward = Some ward.number; rejected = rejected_told ward.poll; lots = [] }) in
       reads-then here (ward_comment ward ++ rejected_comment ward.poll) polled (flat_map lot_comment lots) whole
-      (reads-then here (ward_comment ward) numbered (rejected_comment ward.poll) polled (ward_reads all_told names_told none_told ward can.number refl) (poll_reads ward.poll bundles (length ward.candidates) ward.seats all_told names_told (Some ward.number) can.poll))
+      (reads-then here (ward_comment ward) numbered (rejected_comment ward.poll) polled (ward_reads all_told names_told none_told ward can.number refl)
+      (poll_reads ward.poll bundles (length ward.candidates) ward.seats all_told names_told (Some ward.number) can.poll))
       (lots_read all_told names_told (Some ward.number) (rejected_told ward.poll) lots can.lots_small can.lots_once)
 
   all_read : CanBeReadBack ward bundles lots → Reads nothing_told (ballots ward bundles lots) whole
   all_read can =
       reads-then nothing_told (papers_text ward bundles ++ name_lines ward) (state place.End all_told names_told none_told) (comments ward lots) whole
-      (reads-then nothing_told (papers_text ward bundles) (state place.CandidateNames all_told nothing_told.names none_told) (name_lines ward) (state place.End all_told names_told none_told) (front_reads can) (names_back can))
+      (reads-then nothing_told (papers_text ward bundles) (state place.CandidateNames all_told nothing_told.names none_told) (name_lines ward)
+      (state place.End all_told names_told none_told) (front_reads can) (names_back can))
       (comments_back can)
 
   understood_so : CanBeReadBack ward bundles lots → read (ballots ward bundles lots) ≡ Ok whole
@@ -289,7 +307,8 @@ module _ (ward : SheetEntry) (bundles : List Bundle) (lots : List (ℕ × ℕ)) 
   ward_so : CanBeReadBack ward bundles lots → ward_told whole ≡ ward
   ward_so can =
       let candidates = candidates_back ward can.candidate_set in
-      let poll = ap (λ (cs : List (ℕ × Text)). poll_by (rejected_told ward.poll) bundles (length cs) ward.seats) candidates ∙ poll_back ward.poll bundles (length ward.candidates) ward.seats can.poll in
+      let poll = ap (λ (cs : List (ℕ × Text)). poll_by (rejected_told ward.poll) bundles (length cs) ward.seats) candidates ∙ poll_back ward.poll bundles
+      (length ward.candidates) ward.seats can.poll in
       ap (λ (cs : List (ℕ × Text)). record { number = ward.number; name = ward.name; seats = ward.seats; candidates = cs; poll = poll_told whole }) candidates
       ∙ ap (λ (p : Option Poll). record { number = ward.number; name = ward.name; seats = ward.seats; candidates = ward.candidates; poll = p }) poll
 

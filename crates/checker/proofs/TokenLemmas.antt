@@ -10,7 +10,8 @@ piece_more text start i within here =
     let more : i + 1 - start ≡ i - start + 1 = omega arith in
     let inside : i - start < length (drop start text) = omega (arith, length-drop start text) in
     let at : start + (i - start) ≡ i = omega arith in
-    ap (λ n. take n (drop start text)) more ∙ (take_more (drop start text) (i - start) 0 inside ∙ ap (λ x. take (i - start) (drop start text) ++ x ∷ []) (get_or-drop start text (i - start) 0 ∙ ap (λ j. get_or text j 0) at))
+    ap (λ n. take n (drop start text)) more ∙ (take_more (drop start text) (i - start) 0 inside ∙ ap (λ x. take (i - start) (drop start text) ++ x ∷ [])
+    (get_or-drop start text (i - start) 0 ∙ ap (λ j. get_or text j 0) at))
 
 -- a byte that parts nothing belongs to the piece that is begun
 pub goes_on : (s : Separator) (text : List ℕ) (start i : ℕ) → start ≤ i → i < length text → parts s (get_or text i 0) ≡ false

@@ -1,7 +1,7 @@
 -- What two outputs take of a page.
 use Rattle.std.specs.Prelude.{ℕ, ◌≡◌, ◌⊎◌, ◌+◌, List, Option, codes}
 use Rattle.std.specs.Io.KnownBytes.{Appends}
-use Rattle.votes.specs.Streams.{AppendsBeginning}
+use Rattle.streams.specs.Streams.{AppendsBeginning}
 use Rattle.checker.specs.Reports.{ReportEntry}
 use Rattle.checker.specs.Tokens.{Text}
 

@@ -12,7 +12,7 @@ use crate::printing::print_report;
 use crate::problem::Problem;
 use crate::report::Report;
 use std::alloc::Global;
-use votes::Sink;
+use streams::Sink;
 
 /// Why the program's words can't be read.
 #[derive(Clone, Copy)]

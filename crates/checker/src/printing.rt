@@ -6,7 +6,7 @@ ghost use Rattle.checker.specs.Reports.{memory_page, page_of, page_with};
 
 use crate::report::{FAILED, Report, status_of, text_of};
 use std::alloc::Global;
-use votes::{Broken, Sink, put_all};
+use streams::{Broken, Sink, put_all};
 
 /// Prints that the output failed.
 fn print_broken<E: Sink>(err: &mut E) -> u8

@@ -1,5 +1,6 @@
 -- What was drawn, one draw after the other.
-use Rattle.std.proofs.Common.{◌≡◌, ◌∙◌, ◌+◌, ◌-◌, ◌*◌, ◌<◌, ◌≤◌, ◌++◌, ◌∷◌, Bool, true, false, List, [], None, Option, Some, ap, append-nil, append_assoc, arith, inl, inr, length, length-append, not, refl, sym, ℕ}
+use Rattle.std.proofs.Common.{◌≡◌, ◌∙◌, ◌+◌, ◌-◌, ◌*◌, ◌<◌, ◌≤◌, ◌++◌, ◌∷◌, Bool, true, false, List, [], None}
+use Rattle.std.proofs.Common.{Option, Some, ap, append-nil, append_assoc, arith, inl, inr, length, length-append, not, refl, sym, ℕ}
 use Rattle.std.specs.List.{concat, cons_option, list_all}
 use Rattle.std.specs.Io.KnownBytes.{append_known}
 use Rattle.std.proofs.lemmas.Bool.{and_from, eq-eqb}

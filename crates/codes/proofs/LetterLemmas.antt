@@ -1,5 +1,6 @@
 -- The letters that bytes draw.
-use Rattle.std.proofs.Common.{◌≡◌, ◌∙◌, ◌+◌, ◌-◌, ◌<◌, ◌≤◌, ◌∷◌, ◌%◌, Bool, true, false, EachIndex, List, [], None, Option, Some, ap, arith, drop, if◌then◌else◌, length, length-drop, length-take, min, nat_lt, refl, subst, sym, take, ℕ}
+use Rattle.std.proofs.Common.{◌≡◌, ◌∙◌, ◌+◌, ◌-◌, ◌<◌, ◌≤◌, ◌∷◌, ◌%◌, Bool, true, false, EachIndex, List, [], None, Option}
+use Rattle.std.proofs.Common.{Some, ap, arith, drop, if◌then◌else◌, length, length-drop, length-take, min, nat_lt, refl, subst, sym, take, ℕ}
 use Rattle.std.specs.Prelude.{slice_index}
 use Rattle.std.specs.List.{cons_option, list_all}
 use Rattle.std.proofs.lemmas.Bool.{and_from}

@@ -35,7 +35,8 @@ module _ {L : Type 0} where
       subst (λ (cs : List (Client L)). length cs ≤ most_clients) (sym (is ∙ ap (λ (cs : List (Client L)). insert cs place new) out)) (omega (arith, fewer, more, few))
 
   -- and while it is out, there is a place for it
-  pub place_left : (clients taken : List (Client L)) (place : ℕ) → place < length clients → length clients ≤ most_clients → taken ≡ remove clients place → (place ≤ length taken) × (length taken < most_clients)
+  pub place_left : (clients taken : List (Client L)) (place : ℕ) → place < length clients → length clients ≤ most_clients → taken ≡ remove clients place
+      → (place ≤ length taken) × (length taken < most_clients)
   place_left clients taken place within few out =
       let fewer = length-remove clients place within in
       let same = ap (λ (cs : List (Client L)). length cs) out in
@@ -66,7 +67,8 @@ module _ {L : Type 0} where
         omega (arith, fewer, left, rest)
 
     -- some were let go, until no more bytes were held than may be
-    pub within_again : (before later : NetworkEntry L) (old new : ConnectionTable L) → length old.clients.items ≤ most_clients → AreClosedByRule Goes before later old new → bytes_held new.clients.items ≤ most_bytes → IsWithin new
+    pub within_again : (before later : NetworkEntry L) (old new : ConnectionTable L) → length old.clients.items ≤ most_clients → AreClosedByRule Goes before later old new
+        → bytes_held new.clients.items ≤ most_bytes → IsWithin new
     within_again before later old new few it bytes = (omega (arith, few, few_still it.gone old.clients.items new.clients.items it.each), bytes)
 
   -- nobody is in

@@ -1,5 +1,6 @@
 -- Clients that are let go, one after the other.
-use Rattle.std.proofs.Common.{◌≡◌, ◌≤◌, ◌<◌, ◌+◌, ◌-◌, ◌∙◌, ◌⊎◌, ◌∷◌, ◌++◌, Bool, false, true, ℕ, List, [], None, Option, Some, ap, append-nil, append_assoc, arith, get_or, inl, inr, length, map, option_map, refl, remove, subst, sym}
+use Rattle.std.proofs.Common.{◌≡◌, ◌≤◌, ◌<◌, ◌+◌, ◌-◌, ◌∙◌, ◌⊎◌, ◌∷◌, ◌++◌, Bool, false, true, ℕ, List, [], None}
+use Rattle.std.proofs.Common.{Option, Some, ap, append-nil, append_assoc, arith, get_or, inl, inr, length, map, option_map, refl, remove, subst, sym}
 use Rattle.std.proofs.lemmas.List.{get_or_read, map-append, nil_from_length}
 use Rattle.std.proofs.lemmas.List.Edits.{length-remove}
 use Rattle.std.proofs.lemmas.List.Elements.{All-nil, All-weaker}
@@ -14,7 +15,8 @@ use Rattle.connections.specs.declared.removed.Removed.{Removed}
 use Rattle.connections.specs.declared.removed.CloseReason.{CloseReason}
 use Rattle.connections.specs.declared.removed.CloseReason.TheVariants.{Closing}
 use Rattle.connections.specs.declared.table.ConnectionTable.{ConnectionTable}
-use Rattle.connections.specs.Closing.{MayBeClosed, AreFull, AreClosedByRule, IsClosed, IsClosedAt, IsClosedByRule, IsClosedForBytes, IsClosedForRoom, IsOut, ClosesOne, OneIsClosed, byte_limit_rule, eviction_rule, timeout_rule, timeout, with_all_removed}
+use Rattle.connections.specs.Closing.{MayBeClosed, AreFull, AreClosedByRule, IsClosed, IsClosedAt, IsClosedByRule, IsClosedForBytes, IsClosedForRoom}
+use Rattle.connections.specs.Closing.{IsOut, ClosesOne, OneIsClosed, byte_limit_rule, eviction_rule, timeout_rule, timeout, with_all_removed}
 use Rattle.connections.specs.declared.closing.Rule.{Rule}
 
 pub folds_then : {P A : Type 0} (R : P → A → P → Type 0) (xs ys : List A) (old mid new : P) → FoldsTo R old xs mid → FoldsTo R mid ys new → FoldsTo R old (xs ++ ys) new
@@ -27,7 +29,8 @@ pub none_more : {X : Type 0} (count : Option (List X)) → option_map (λ (xs : 
 none_more None = refl
 none_more (Some xs) = ap Some (append-nil xs)
 
-pub more_then : {X : Type 0} (count : Option (List X)) (a b : List X) → option_map (λ (xs : List X). xs ++ b) (option_map (λ (xs : List X). xs ++ a) count) ≡ option_map (λ (xs : List X). xs ++ (a ++ b)) count
+pub more_then : {X : Type 0} (count : Option (List X)) (a b : List X) → option_map (λ (xs : List X). xs ++ b) (option_map (λ (xs : List X). xs ++ a) count)
+    ≡ option_map (λ (xs : List X). xs ++ (a ++ b)) count
 more_then None a b = refl
 more_then (Some xs) a b = ap Some (append_assoc xs a b)
 
@@ -39,7 +42,8 @@ with_none {L} network =
 pub with_both : {L : Type 0} (network : NetworkEntry L) (a b : List (Removed L)) → with_all_removed (with_all_removed network a) b ≡ with_all_removed network (a ++ b)
 with_both {L} network a b =
     let first : Option (List (Event L)) = option_map (λ (xs : List (Event L)). xs ++ map handed_back b) (option_map (λ (xs : List (Event L)). xs ++ map handed_back a) network.events) in
-    let again = more_then network.events (map handed_back a) (map handed_back b) ∙ ap (λ (es : List (Event L)). option_map (λ (xs : List (Event L)). xs ++ es) network.events) (sym (map-append handed_back a b)) in
+    let again = more_then network.events (map handed_back a) (map handed_back b) ∙ ap (λ (es : List (Event L)). option_map (λ (xs : List (Event L)). xs ++ es) network.events)
+    (sym (map-append handed_back a b)) in
     ap (λ (left : Option (List (Removed L))). record network { left = left; events = first }) (more_then network.left a b)
     ∙ ap (λ (events : Option (List (Event L))). record network { left = option_map (λ (xs : List (Removed L)). xs ++ (a ++ b)) network.left; events = events }) again
 
@@ -53,9 +57,11 @@ module _ {L : Type 0} (Goes : List (Client L) → Removed L → List (Client L) 
   pub let_go_maybe : (one : Bool) (before later : NetworkEntry L) (old new : ConnectionTable L) → ClosesOne Goes one before later old new → AreClosedByRule Goes before later old new
   let_go_maybe true before later old new goes = let_go_one before later old new goes
   let_go_maybe false before later old new (same, still) =
-      subst (λ (table : ConnectionTable L). AreClosedByRule Goes before later old table) (sym same) (subst (λ (network : NetworkEntry L). AreClosedByRule Goes before network old old) (sym still) (let_go_none before old))
+      subst (λ (table : ConnectionTable L). AreClosedByRule Goes before later old table) (sym same)
+      (subst (λ (network : NetworkEntry L). AreClosedByRule Goes before network old old) (sym still) (let_go_none before old))
 
-  pub let_go_then : (before mid later : NetworkEntry L) (old went new : ConnectionTable L) → AreClosedByRule Goes before mid old went → AreClosedByRule Goes mid later went new → AreClosedByRule Goes before later old new
+  pub let_go_then : (before mid later : NetworkEntry L) (old went new : ConnectionTable L) → AreClosedByRule Goes before mid old went
+      → AreClosedByRule Goes mid later went new → AreClosedByRule Goes before later old new
   let_go_then before mid later old went new a b = record {
     came = b.came ∙ a.came;
     counted = b.counted ∙ a.counted;
@@ -65,8 +71,10 @@ module _ {L : Type 0} (Goes : List (Client L) → Removed L → List (Client L) 
   }
 
 -- one is let go from a full room, or none
-pub let_go_full : {L : Type 0} (now : ℕ) (one : Bool) (before later : NetworkEntry L) (old new : ConnectionTable L) → AreFull old.clients.items → ClosesOne (IsClosedByRule (eviction_rule now)) one before later old new → AreClosedByRule (IsClosedForRoom now) before later old new
-let_go_full {L} now true before later old new full goes = let_go_one (IsClosedForRoom now) before later old new (record { came = goes.came; counted = goes.counted; removed = goes.removed; goes = (full, goes.goes); back = goes.back })
+pub let_go_full : {L : Type 0} (now : ℕ) (one : Bool) (before later : NetworkEntry L) (old new : ConnectionTable L) → AreFull old.clients.items
+    → ClosesOne (IsClosedByRule (eviction_rule now)) one before later old new → AreClosedByRule (IsClosedForRoom now) before later old new
+let_go_full {L} now true before later old new full goes = let_go_one (IsClosedForRoom now) before later old new
+    (record { came = goes.came; counted = goes.counted; removed = goes.removed; goes = (full, goes.goes); back = goes.back })
 let_go_full {L} now false before later old new full goes = let_go_maybe (IsClosedForRoom now) false before later old new goes
 
 -- ---- who is out
@@ -129,12 +137,15 @@ module _ {L : Type 0} (rule : Rule) where
 
   pub none_due_unseen : (clients seen : List (Client L)) → seen ≡ clients → AreUnseen rule.orders_too seen → NoneDue clients
   none_due_unseen clients seen same unseen =
-      subst NoneDue same (All-weaker (λ (c : Client L). is_among rule.orders_too c.listener ≡ false) (λ (c : Client L). is_among rule.orders_too c.listener ≡ true → rule.now - c.since < rule.least) (λ c no yes. absurd (cc (no, yes))) seen unseen)
+      subst NoneDue same (All-weaker (λ (c : Client L). is_among rule.orders_too c.listener ≡ false) (λ (c : Client L). is_among rule.orders_too c.listener ≡ true
+      → rule.now - c.since < rule.least) (λ c no yes. absurd (cc (no, yes))) seen unseen)
 
-  pub none_due_young : (clients seen : List (Client L)) (place : ℕ) (one : Client L) → seen ≡ clients → place < length seen → ((c : Client L) → HasWaitedLongest rule.orders_too seen (get_or seen place c))
+  pub none_due_young : (clients seen : List (Client L)) (place : ℕ) (one : Client L) → seen ≡ clients → place < length seen
+      → ((c : Client L) → HasWaitedLongest rule.orders_too seen (get_or seen place c))
       → one ≡ get_or clients place one → rule.now - one.since < rule.least → NoneDue clients
   none_due_young clients seen place one same within longest_waiting is young =
-      subst NoneDue same (All-weaker (λ (c : Client L). is_among rule.orders_too c.listener ≡ true → one.since ≤ c.since) (λ (c : Client L). is_among rule.orders_too c.listener ≡ true → rule.now - c.since < rule.least)
+      subst NoneDue same (All-weaker (λ (c : Client L). is_among rule.orders_too c.listener ≡ true → one.since ≤ c.since)
+      (λ (c : Client L). is_among rule.orders_too c.listener ≡ true → rule.now - c.since < rule.least)
       (λ c first yes. let le = first yes in omega (arith, le, young)) seen first_of_all)
     where
       first_of_all : All (λ (c : Client L). is_among rule.orders_too c.listener ≡ true → one.since ≤ c.since) seen
@@ -156,7 +167,8 @@ none_there [] none = refl
 none_there (c ∷ cs) none = let never = none 0 c (omega arith) (seen_too c.listener) in absurd (omega (arith, never))
 
 pub none_unseen : {L : Type 0} (clients : List (Client L)) → All (λ (c : Client L). is_among false c.listener ≡ true → 0 - c.since < 0) clients → AreUnseen false clients
-none_unseen {L} clients none = All-weaker (λ (c : Client L). is_among false c.listener ≡ true → 0 - c.since < 0) (λ (c : Client L). is_among false c.listener ≡ false) (λ c never. unseen c.since c.listener never) clients none
+none_unseen {L} clients none = All-weaker (λ (c : Client L). is_among false c.listener ≡ true → 0 - c.since < 0) (λ (c : Client L). is_among false c.listener ≡ false)
+    (λ c never. unseen c.since c.listener never) clients none
   where
     unseen : (since : ℕ) (listener : Listener) → (is_among false listener ≡ true → 0 - since < 0) → is_among false listener ≡ false
     unseen since Clients never = let none = never refl in absurd (omega (arith, none))
@@ -173,7 +185,8 @@ thinner {L} first old new turns less (inl so_far) = inl (omega (arith, less, so_
 thinner {L} first old new turns less (inr empty) = let zero : length old ≡ 0 = ap (λ (cs : List (Client L)). length cs) empty in absurd (omega (arith, less, zero))
 
 -- one was let go for bytes, or nobody was there
-pub thinner_maybe : {L : Type 0} (first : List (Client L)) (turns : ℕ) (one : Bool) (before later : NetworkEntry L) (old new : ConnectionTable L) → ClosesOne IsClosedForBytes one before later old new → (one ≡ false → old.clients.items ≡ [])
+pub thinner_maybe : {L : Type 0} (first : List (Client L)) (turns : ℕ) (one : Bool) (before later : NetworkEntry L) (old new : ConnectionTable L)
+    → ClosesOne IsClosedForBytes one before later old new → (one ≡ false → old.clients.items ≡ [])
     → IsThinner first turns old.clients.items → IsThinner first (turns + 1) new.clients.items
 thinner_maybe first turns true before later old new goes none it = thinner first old.clients.items new.clients.items turns (one_fewer IsClosedForBytes bytes_outs old new before later goes) it
 thinner_maybe first turns false before later old new (same, still) none it = inr (ap (λ (r : ConnectionTable _). r.clients.items) same ∙ none refl)
@@ -187,7 +200,8 @@ pub none_held : {L : Type 0} (last : List (Client L)) (most : ℕ) → last ≡ 
 none_held {L} last most empty = subst (λ (cs : List (Client L)). bytes_held cs ≤ most) (sym empty) (omega arith)
 
 -- the one at a place is handed back, for a reason
-pub closed_at : {L : Type 0} (why : CloseReason) (place : ℕ) (old new : List (Client L)) (client : Client L) (removed : Removed L) (before later : NetworkEntry L) → place < length old → client ≡ get_or old place client → new ≡ remove old place
+pub closed_at : {L : Type 0} (why : CloseReason) (place : ℕ) (old new : List (Client L)) (client : Client L) (removed : Removed L) (before later : NetworkEntry L)
+    → place < length old → client ≡ get_or old place client → new ≡ remove old place
     → removed ≡ removed_of client why → later ≡ with_removed before removed → IsClosedAt why place old before new later
 closed_at {L} why place old new client removed before later within here left is back = (
   removed,
@@ -200,13 +214,16 @@ pub none_late : {L : Type 0} (now : ℕ) (clients : List (Client L)) → clients
 none_late {L} now clients empty = subst (All (λ (c : Client L). now - c.since < timeout)) (sym empty) (All-nil (λ (c : Client L). now - c.since < timeout))
 
 -- one goes for bytes: a client, or an order where no client is in
-pub client_for_bytes : {L : Type 0} (rule : Rule) (one : Bool) (before later : NetworkEntry L) (old new : ConnectionTable L) → rule ≡ byte_limit_rule false → most_bytes < bytes_held old.clients.items → one ≡ true
+pub client_for_bytes : {L : Type 0} (rule : Rule) (one : Bool) (before later : NetworkEntry L) (old new : ConnectionTable L) → rule ≡ byte_limit_rule false
+    → most_bytes < bytes_held old.clients.items → one ≡ true
     → OneIsClosed (IsClosedByRule rule) before later old new → ClosesOne IsClosedForBytes one before later old new
 client_for_bytes {L} rule one before later old new is over went it =
     let goes = subst (λ (r : Rule). OneIsClosed (IsClosedByRule r) before later old new) is it in
-    subst (λ (b : Bool). ClosesOne IsClosedForBytes b before later old new) (sym went) (record { came = goes.came; counted = goes.counted; removed = goes.removed; goes = (over, inl goes.goes); back = goes.back })
+    subst (λ (b : Bool). ClosesOne IsClosedForBytes b before later old new) (sym went)
+    (record { came = goes.came; counted = goes.counted; removed = goes.removed; goes = (over, inl goes.goes); back = goes.back })
 
-pub order_for_bytes : {L : Type 0} (rule : Rule) (one : Bool) (before mid later : NetworkEntry L) (old went new : ConnectionTable L) → rule ≡ byte_limit_rule true → most_bytes < bytes_held old.clients.items → AreUnseen false old.clients.items
+pub order_for_bytes : {L : Type 0} (rule : Rule) (one : Bool) (before mid later : NetworkEntry L) (old went new : ConnectionTable L) → rule ≡ byte_limit_rule true
+    → most_bytes < bytes_held old.clients.items → AreUnseen false old.clients.items
     → went ≡ old → mid ≡ before → ClosesOne (IsClosedByRule rule) one mid later went new → ClosesOne IsClosedForBytes one before later old new
 order_for_bytes {L} rule one before mid later old went new is over unseen same still it =
     by one
@@ -219,7 +236,8 @@ order_for_bytes {L} rule one before mid later old went new is over unseen same s
     by false stays = stays
 
 -- the first one is closed
-pub goes_first : {L : Type 0} (why : CloseReason) (before later : NetworkEntry L) (old new : ConnectionTable L) → why ≡ Closing → IsClosedAt why 0 old.clients.items before new.clients.items later → new.came ≡ old.came → new.counted ≡ old.counted → OneIsClosed IsClosed before later old new
+pub goes_first : {L : Type 0} (why : CloseReason) (before later : NetworkEntry L) (old new : ConnectionTable L) → why ≡ Closing
+    → IsClosedAt why 0 old.clients.items before new.clients.items later → new.came ≡ old.came → new.counted ≡ old.counted → OneIsClosed IsClosed before later old new
 goes_first why before later old new is (removed, out, back) came counted = record {
   came = came;
   counted = counted;

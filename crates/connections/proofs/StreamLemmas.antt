@@ -76,7 +76,8 @@ module _ {L : Type 0} (stream : Stream L) where
   }
 
   -- the next bytes were told
-  pub delivers_one : (old new : L) (answer : List ℕ) (sent n : ℕ) → (sent ≤ length answer → sent + n ≤ length answer) → Grows (stream.taken old) (stream.taken new) (take n (drop sent answer)) → Keeps (stream.held old) (stream.held new)
+  pub delivers_one : (old new : L) (answer : List ℕ) (sent n : ℕ) → (sent ≤ length answer → sent + n ≤ length answer)
+      → Grows (stream.taken old) (stream.taken new) (take n (drop sent answer)) → Keeps (stream.held old) (stream.held new)
       → Delivers stream old new answer sent (sent + n)
   delivers_one old new answer sent n within took unheard = record { within = within; bytes = take n (drop sent answer); is = take-add sent n answer; took = took; unheard = unheard }
 
@@ -97,7 +98,8 @@ module _ {L : Type 0} (stream : Stream L) where
   delivers_next first mid new answer before sent n bytes so_far is within took unheard =
       let few = subst (λ (xs : List ℕ). n ≤ length xs) is within in
       delivers_then first mid new answer before sent (sent + n) so_far
-      (delivers_one mid new answer sent n (λ within. omega (arith, few, within, length-drop sent answer)) (subst (λ (xs : List ℕ). Grows (stream.taken mid) (stream.taken new) (take n xs)) is took) unheard)
+      (delivers_one mid new answer sent n (λ within. omega (arith, few, within, length-drop sent answer))
+      (subst (λ (xs : List ℕ). Grows (stream.taken mid) (stream.taken new) (take n xs)) is took) unheard)
 
   -- a client who was told more of his answer
   pub told_more : (old new : L) (answer : List ℕ) (before after : ℕ) → IsSent stream old answer before → Delivers stream old new answer before after → IsSent stream new answer after

@@ -17,11 +17,13 @@ IsFirst orders_too clients since = All (λ other. is_among orders_too other.list
 abbrev pub IsFound : {L : Type 0} → Bool → List (Client L) → Option (ℕ × ℕ) → Type 0
 IsFound orders_too clients None = AreUnseen orders_too clients
 IsFound {L} orders_too clients (Some it) =
-    (it.0 < length clients) × ((c : Client L) → ((get_or clients it.0 c).since ≡ it.1) × (is_among orders_too (get_or clients it.0 c).listener ≡ true)) × All (λ other. is_among orders_too other.listener ≡ true → it.1 ≤ other.since) clients
+    (it.0 < length clients) × ((c : Client L) → ((get_or clients it.0 c).since ≡ it.1) × (is_among orders_too (get_or clients it.0 c).listener ≡ true))
+    × All (λ other. is_among orders_too other.listener ≡ true → it.1 ≤ other.since) clients
 
 module _ {L : Type 0} (orders_too : Bool) where
   -- one more, which isn't looked at
-  pub found_past : (clients : List (Client L)) (found : Option (ℕ × ℕ)) (c : Client L) → is_among orders_too c.listener ≡ false → IsFound orders_too clients found → IsFound orders_too (clients ++ c ∷ []) found
+  pub found_past : (clients : List (Client L)) (found : Option (ℕ × ℕ)) (c : Client L) → is_among orders_too c.listener ≡ false → IsFound orders_too clients found
+      → IsFound orders_too (clients ++ c ∷ []) found
   found_past clients None c unseen none = All-push (λ (o : Client L). is_among orders_too o.listener ≡ false) clients c none unseen
   found_past clients (Some it) c unseen found =
       let long = length_push clients c in
@@ -40,7 +42,8 @@ module _ {L : Type 0} (orders_too : Bool) where
       still d = subst (λ (x : Client L). (x.since ≡ it.1) × (is_among orders_too x.listener ≡ true)) (sym (get_or_append_left clients (c ∷ []) d it.0 found.0)) (found.1 d)
 
   -- one more, which has waited at least as long as any other
-  found_at_end : (clients : List (Client L)) (c : Client L) → is_among orders_too c.listener ≡ true → IsFirst orders_too clients c.since → IsFound orders_too (clients ++ c ∷ []) (Some (length clients, c.since))
+  found_at_end : (clients : List (Client L)) (c : Client L) → is_among orders_too c.listener ≡ true → IsFirst orders_too clients c.since
+      → IsFound orders_too (clients ++ c ∷ []) (Some (length clients, c.since))
   found_at_end clients c seen all =
       let long = length_push clients c in
       (omega (arith, long), λ d. there d, All-push (λ (o : Client L). is_among orders_too o.listener ≡ true → c.since ≤ o.since) clients c all (λ same. omega arith))
@@ -51,7 +54,8 @@ module _ {L : Type 0} (orders_too : Bool) where
   pub found_new : (clients : List (Client L)) (found : Option (ℕ × ℕ)) (c : Client L) → is_among orders_too c.listener ≡ true → IsFound orders_too clients found → IfSome found (λ it. c.since < it.1)
       → IsFound orders_too (clients ++ c ∷ []) (Some (length clients, c.since))
   found_new clients None c seen none lt =
-      found_at_end clients c seen (All-weaker (λ (o : Client L). is_among orders_too o.listener ≡ false) (λ (o : Client L). is_among orders_too o.listener ≡ true → c.since ≤ o.since) (λ o unseen is. absurd (cc (unseen, is))) clients none)
+      found_at_end clients c seen (All-weaker (λ (o : Client L). is_among orders_too o.listener ≡ false) (λ (o : Client L). is_among orders_too o.listener ≡ true
+      → c.since ≤ o.since) (λ o unseen is. absurd (cc (unseen, is))) clients none)
   found_new clients (Some it) c seen found lt =
       found_at_end clients c seen (All-weaker (λ (o : Client L). is_among orders_too o.listener ≡ true → it.1 ≤ o.since) (λ (o : Client L). is_among orders_too o.listener ≡ true → c.since ≤ o.since)
       (λ o le is. let below = le is in omega (arith, lt, below)) clients found.2)
@@ -73,7 +77,8 @@ module _ {L : Type 0} (orders_too : Bool) where
   pub found_at : (clients : List (Client L)) (place : ℕ) (c : Client L) (found : Option (ℕ × ℕ)) → place < length clients → c ≡ get_or clients place c → is_among orders_too c.listener ≡ true
       → IsFound orders_too (take place clients) found → IsFound orders_too (take (place + 1) clients) (earlier found true place c.since)
   found_at clients place c found lt is seen it =
-      subst (λ (cs : List (Client L)). IsFound orders_too cs (earlier found true place c.since)) (sym (one_more_of clients place c lt is)) (found_on (take place clients) found c place (length-take-le place clients (omega (arith, lt))) seen it)
+      subst (λ (cs : List (Client L)). IsFound orders_too cs (earlier found true place c.since)) (sym (one_more_of clients place c lt is))
+      (found_on (take place clients) found c place (length-take-le place clients (omega (arith, lt))) seen it)
 
   pub found_by : (clients : List (Client L)) (place : ℕ) (c : Client L) (found : Option (ℕ × ℕ)) → place < length clients → c ≡ get_or clients place c → is_among orders_too c.listener ≡ false
       → IsFound orders_too (take place clients) found → IsFound orders_too (take (place + 1) clients) found
@@ -87,7 +92,8 @@ module _ {L : Type 0} (orders_too : Bool) where
   found_next clients place c (Some one) false lt is seen it = found_by clients place c (Some one) lt is (sym seen) it
 
   -- who was found among all of them
-  pub longest_is : (clients : List (Client L)) (it : ℕ × ℕ) → IsFound orders_too clients (Some it) → (it.0 < length clients) × ((c : Client L) → HasWaitedLongest orders_too clients (get_or clients it.0 c))
+  pub longest_is : (clients : List (Client L)) (it : ℕ × ℕ) → IsFound orders_too clients (Some it)
+      → (it.0 < length clients) × ((c : Client L) → HasWaitedLongest orders_too clients (get_or clients it.0 c))
   longest_is clients it found = (found.0, λ c. record { among = (found.1 c).1; first = λ k d lt is. subst (λ (n : ℕ). n ≤ (get_or clients k d).since) (sym (found.1 c).0) (found.2 k d lt is) })
 
   -- all of them were seen

@@ -1,12 +1,14 @@
 -- A room that goes from one moment to another, step by step.
-use Rattle.std.proofs.Common.{◌≡◌, ◌<◌, ◌-◌, ◌∙◌, ◌∷◌, ◌++◌, Bool, false, true, ℕ, List, [], None, Option, Some, ap, append-nil, get_or, inl, inr, length, map, option_map, refl, remove, set, subst, sym}
+use Rattle.std.proofs.Common.{◌≡◌, ◌<◌, ◌-◌, ◌∙◌, ◌∷◌, ◌++◌, Bool, false, true, ℕ, List, [], None, Option}
+use Rattle.std.proofs.Common.{Some, ap, append-nil, get_or, inl, inr, length, map, option_map, refl, remove, set, subst, sym}
 use Rattle.std.specs.Prelude.{Err, Ok}
 use Rattle.std.specs.List.{All, FoldsTo, flat_map}
 use Rattle.std.proofs.lemmas.List.Concat.{flat_map-append}
-use Rattle.votes.specs.declared.streams.Broken.{Broken}
+use Rattle.streams.specs.declared.streams.Broken.{Broken}
 use Rattle.connections.specs.Clients.{IsNew, IsOf}
 use Rattle.connections.specs.Closing.{AreClosedByRule, IsClosedByRule, IsClosedForBytes, IsClosedForRoom, ClosesOne, eviction_rule, timeout_rule, timeout}
-use Rattle.connections.specs.Traces.{Changes, IsServiceOutcome, Trace, EndsService, ServiceStep, HadResponses, IsForRoom, Leads, ServiceEnd, TraceStep, ResponseAt, anew, closes, enters, events_of, fails, gate_events, goes_on, keeps_out, leaves, looks, makes_way, misses, service_end_events, scene, shown_after, stops, responses_at, waits, with_gate}
+use Rattle.connections.specs.Traces.{Changes, IsServiceOutcome, Trace, EndsService, ServiceStep, HadResponses, IsForRoom, Leads, ServiceEnd, TraceStep, ResponseAt, anew, closes, enters, events_of}
+use Rattle.connections.specs.Traces.{fails, gate_events, goes_on, keeps_out, leaves, looks, makes_way, misses, service_end_events, scene, shown_after, stops, responses_at, waits, with_gate}
 use Rattle.connections.specs.Removals.{removed_of}
 use Rattle.connections.specs.Streams.{Stream}
 use Rattle.connections.specs.Tables.{NetworkEntry, Event, after_accept, after_ready, followed, handed_back, named, showed, with_failure, with_removed, with_moment}
@@ -20,7 +22,8 @@ use Rattle.connections.proofs.ClosingLemmas.{folds_then, more_then, none_more}
 
 -- what happened at doors, where one was named, the clock may have shown a moment at the gate, and so it went on
 at_gate : {L : Type 0} (gate : Option ℕ) (before : NetworkEntry L) (number : ℕ) (rest : List (Event L))
-    → option_map (λ (es : List (Event L)). es ++ rest) (with_gate gate (after_ready (Some number) before)).events ≡ option_map (λ (es : List (Event L)). es ++ (named number ∷ (gate_events gate ++ rest))) before.events
+    → option_map (λ (es : List (Event L)). es ++ rest) (with_gate gate (after_ready (Some number) before)).events ≡ option_map
+    (λ (es : List (Event L)). es ++ (named number ∷ (gate_events gate ++ rest))) before.events
 at_gate None before number rest = more_then before.events (named number ∷ []) rest
 at_gate (Some now) before number rest =
     more_then (followed (named number) before.events) (showed now ∷ []) rest ∙ more_then before.events (named number ∷ []) (showed now ∷ rest)
@@ -42,7 +45,8 @@ module _ {L : Type 0} (gated : Bool) (stream : Stream L) where
   trace_none shown before later clients same = record { steps = []; told = same ∙ sym (none_more before.events); had = refl; each = refl }
 
   -- one step
-  pub course_one : (step : TraceStep L) (shown : Option ℕ) (before later : NetworkEntry L) (old new : List (Client L)) → later.events ≡ option_map (λ (es : List (Event L)). es ++ events_of step) before.events
+  pub course_one : (step : TraceStep L) (shown : Option ℕ) (before later : NetworkEntry L) (old new : List (Client L))
+      → later.events ≡ option_map (λ (es : List (Event L)). es ++ events_of step) before.events
       → Changes gated stream step shown old new → Trace gated stream (responses_at step) shown (shown_after step shown) before later old new
   course_one step shown before later old new told changes = record {
     steps = step ∷ [];
@@ -52,7 +56,8 @@ module _ {L : Type 0} (gated : Bool) (stream : Stream L) where
   }
 
   -- the clock showed a moment, and those were closed that were late
-  pub course_look : (shown : Option ℕ) (now : ℕ) (before mid later : NetworkEntry L) (old new : ConnectionTable L) → mid ≡ with_moment before now → AreClosedByRule (IsClosedByRule (timeout_rule now)) mid later old new
+  pub course_look : (shown : Option ℕ) (now : ℕ) (before mid later : NetworkEntry L) (old new : ConnectionTable L) → mid ≡ with_moment before now
+      → AreClosedByRule (IsClosedByRule (timeout_rule now)) mid later old new
       → All (λ (c : Client L). now - c.since < timeout) new.clients.items → Trace gated stream [] shown (Some now) before later old.clients.items new.clients.items
   course_look shown now before mid later old new is late none =
       course_one (looks now late.gone) shown before later old.clients.items new.clients.items
@@ -65,7 +70,8 @@ module _ {L : Type 0} (gated : Bool) (stream : Stream L) where
   course_fails shown before later clients is = course_one fails shown before later clients clients (ap (λ (d : NetworkEntry L). d.events) is) refl
 
   -- one was named that isn't in
-  pub course_misses : (shown : Option ℕ) (number : ℕ) (before later : NetworkEntry L) (clients : List (Client L)) → later ≡ after_ready (Some number) before → Trace gated stream [] shown shown before later clients clients
+  pub course_misses : (shown : Option ℕ) (number : ℕ) (before later : NetworkEntry L) (clients : List (Client L)) → later ≡ after_ready (Some number) before
+      → Trace gated stream [] shown shown before later clients clients
   course_misses shown number before later clients is = course_one (misses number) shown before later clients clients (ap (λ (d : NetworkEntry L). d.events) is) refl
 
   -- one came in
@@ -82,16 +88,19 @@ module _ {L : Type 0} (gated : Bool) (stream : Stream L) where
       })
 
   -- the system had no room for one more, and one was closed for it, or none
-  pub course_way : (now : ℕ) (one : Bool) (before at later : NetworkEntry L) (old new : ConnectionTable L) → at ≡ after_accept Full before → ClosesOne (IsClosedByRule (eviction_rule now)) one at later old new
+  pub course_way : (now : ℕ) (one : Bool) (before at later : NetworkEntry L) (old new : ConnectionTable L) → at ≡ after_accept Full before
+      → ClosesOne (IsClosedByRule (eviction_rule now)) one at later old new
       → Trace gated stream [] (Some now) (Some now) before later old.clients.items new.clients.items
   course_way now true before at later old new is goes =
       course_one (makes_way goes.removed) (Some now) before later old.clients.items new.clients.items
       (ap (λ (d : NetworkEntry L). d.events) goes.back ∙ ap (λ (d : NetworkEntry L). followed (handed_back goes.removed) d.events) is ∙ more_then before.events _ _) (now, refl, goes.goes)
   course_way now false before at later old new is (same, still) =
-      course_one keeps_out (Some now) before later old.clients.items new.clients.items (ap (λ (d : NetworkEntry L). d.events) still ∙ ap (λ (d : NetworkEntry L). d.events) is) (ap (λ (r : ConnectionTable L). r.clients.items) same)
+      course_one keeps_out (Some now) before later old.clients.items new.clients.items (ap (λ (d : NetworkEntry L). d.events) still ∙ ap (λ (d : NetworkEntry L). d.events) is)
+      (ap (λ (r : ConnectionTable L). r.clients.items) same)
 
   -- some were closed that were due
-  module _ (Goes : List (Client L) → Removed L → List (Client L) → Type 0) (shown : Option ℕ) (due : (old : List (Client L)) (removed : Removed L) (new : List (Client L)) → Goes old removed new → IsForRoom shown old removed new) where
+  module _ (Goes : List (Client L) → Removed L → List (Client L) → Type 0) (shown : Option ℕ) (due : (old : List (Client L)) (removed : Removed L) (new : List (Client L))
+      → Goes old removed new → IsForRoom shown old removed new) where
     closed_events : (gone : List (Removed L)) → map handed_back gone ≡ flat_map events_of (map closes gone)
     closed_events [] = refl
     closed_events (removed ∷ gone) = ap (λ (es : List (Event L)). handed_back removed ∷ es) (closed_events gone)
@@ -104,7 +113,8 @@ module _ {L : Type 0} (gated : Bool) (stream : Stream L) where
     each_due [] old new same = ap (λ (cs : List (Client L)). scene shown cs) same
     each_due (removed ∷ gone) old new (mid, goes, others) = (scene shown mid, (refl, due old removed mid goes), each_due gone mid new others)
 
-    pub course_closes : (before later : NetworkEntry L) (old new : ConnectionTable L) → AreClosedByRule Goes before later old new → Trace gated stream [] shown shown before later old.clients.items new.clients.items
+    pub course_closes : (before later : NetworkEntry L) (old new : ConnectionTable L) → AreClosedByRule Goes before later old new
+        → Trace gated stream [] shown shown before later old.clients.items new.clients.items
     course_closes before later old new it = record {
       steps = map closes it.gone;
       told = ap (λ (d : NetworkEntry L). d.events) it.back ∙ ap (λ (more : List (Event L)). option_map (λ (es : List (Event L)). es ++ more) before.events) (closed_events it.gone);
@@ -121,12 +131,15 @@ module _ {L : Type 0} (gated : Bool) (stream : Stream L) where
 
   -- ---- one went on
 
-  module _ (from : Option ℕ) (clients : List (Client L)) (place number : ℕ) (old new : Client L) (gate : Option ℕ) (turns : List ResponseAt) (within : place < length clients) (here : old ≡ get_or clients place old)
-      (is : old.number ≡ number) (same : (new.listener ≡ old.listener) × (new.number ≡ old.number)) (own : (start : L) → IsOf stream start old → IsOf stream start new) (had : HadResponses gated gate turns old new) where
+  module _ (from : Option ℕ) (clients : List (Client L)) (place number : ℕ) (old new : Client L) (gate : Option ℕ) (turns : List ResponseAt)
+      (within : place < length clients) (here : old ≡ get_or clients place old)
+      (is : old.number ≡ number) (same : (new.listener ≡ old.listener) × (new.number ≡ old.number)) (own : (start : L) → IsOf stream start old
+      → IsOf stream start new) (had : HadResponses gated gate turns old new) where
     abbrev his_going : ServiceEnd L → ServiceStep L
     his_going service_end = record { number = number; gate = gate; turns = turns; service_end = service_end }
 
-    went : (service_end : ServiceEnd L) (before later : NetworkEntry L) (clients_then : List (Client L)) → later.events ≡ option_map (λ (es : List (Event L)). es ++ service_end_events service_end) (with_gate gate (after_ready (Some number) before)).events
+    went : (service_end : ServiceEnd L) (before later : NetworkEntry L) (clients_then : List (Client L))
+        → later.events ≡ option_map (λ (es : List (Event L)). es ++ service_end_events service_end) (with_gate gate (after_ready (Some number) before)).events
         → EndsService stream service_end turns clients place old new clients_then → Trace gated stream turns from (shown_after (goes_on (his_going service_end)) from) before later clients clients_then
     went service_end before later clients_then told ends =
         course_one (goes_on (his_going service_end)) from before later clients clients_then (told ∙ at_gate gate before number (service_end_events service_end))
@@ -136,7 +149,8 @@ module _ {L : Type 0} (gated : Bool) (stream : Stream L) where
     CourseTo before later clients_then = (to : Option ℕ) × Trace gated stream turns from to before later clients clients_then
 
     -- and is in its place again
-    pub course_stays : (before at later : NetworkEntry L) → at ≡ after_ready (Some number) before → IsServiceOutcome stream turns old new (Ok None) (with_gate gate at) later → CourseTo before later (set clients place new)
+    pub course_stays : (before at later : NetworkEntry L) → at ≡ after_ready (Some number) before → IsServiceOutcome stream turns old new (Ok None) (with_gate gate at) later
+        → CourseTo before later (set clients place new)
     course_stays before at later ready comes = by (subst (λ (d : NetworkEntry L). IsServiceOutcome stream turns old new (Ok None) (with_gate gate d) later) ready comes)
       where
         by : IsServiceOutcome stream turns old new (Ok None) (with_gate gate (after_ready (Some number) before)) later → CourseTo before later (set clients place new)
@@ -144,7 +158,8 @@ module _ {L : Type 0} (gated : Bool) (stream : Stream L) where
         by (inr (one, still)) = (_, went (anew new.since) before later (set clients place new) (ap (λ (d : NetworkEntry L). d.events) still) (one, refl, refl))
 
     -- and left
-    pub course_leaves : (why : CloseReason) (before at mid later : NetworkEntry L) → at ≡ after_ready (Some number) before → IsServiceOutcome stream turns old new (Ok (Some why)) (with_gate gate at) mid → later ≡ with_removed mid (removed_of new why)
+    pub course_leaves : (why : CloseReason) (before at mid later : NetworkEntry L) → at ≡ after_ready (Some number) before
+        → IsServiceOutcome stream turns old new (Ok (Some why)) (with_gate gate at) mid → later ≡ with_removed mid (removed_of new why)
         → CourseTo before later (remove clients place)
     course_leaves why before at mid later ready (since, ends, still) back = (
       _,
@@ -154,7 +169,8 @@ module _ {L : Type 0} (gated : Bool) (stream : Stream L) where
     )
 
     -- and the clock failed
-    pub course_stops : (broken : Broken) (before at later : NetworkEntry L) → at ≡ after_ready (Some number) before → IsServiceOutcome stream turns old new (Err broken) (with_gate gate at) later → CourseTo before later (set clients place new)
+    pub course_stops : (broken : Broken) (before at later : NetworkEntry L) → at ≡ after_ready (Some number) before
+        → IsServiceOutcome stream turns old new (Err broken) (with_gate gate at) later → CourseTo before later (set clients place new)
     course_stops broken before at later ready (since, still) = (
       _,
       went stops before later (set clients place new) (ap (λ (d : NetworkEntry L). d.events) still ∙ ap (λ (d : NetworkEntry L). (with_failure (with_gate gate d)).events) ready) (since, refl),

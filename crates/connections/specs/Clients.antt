@@ -2,7 +2,7 @@
 use Rattle.std.specs.Prelude.{◌≡◌, ◌≤◌, ℕ, Bool, true, false, List, [], IsSomeAnd, Option, Some, None, Result, Ok, Err, length, slice_get, take}
 use Rattle.std.specs.Io.KnownBytes.{Consumes}
 use Rattle.std.specs.List.{All}
-use Rattle.votes.specs.declared.streams.Broken.{Broken}
+use Rattle.streams.specs.declared.streams.Broken.{Broken}
 use Rattle.connections.specs.Streams.{HasTaken, Stream as LineEntry, one_more}
 use Rattle.connections.specs.declared.client.PendingResponse.{PendingResponse}
 use Rattle.connections.specs.declared.client.Client.{Client}

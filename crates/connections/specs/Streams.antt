@@ -1,7 +1,7 @@
 -- What a stream gives and accepts, and what is received of it.
 use Rattle.std.specs.Prelude.{◌≡◌, ◌<◌, ◌≤◌, ◌++◌, ◌+◌, ⊤, ℕ, zero, suc, List, Option, None, Some, Result, Ok, Err, length, option_map, take}
 use Rattle.std.specs.Io.KnownBytes.{Consumes, IsAtEnd, Keeps, append_known}
-use Rattle.votes.specs.declared.streams.Broken.{Broken}
+use Rattle.streams.specs.declared.streams.Broken.{Broken}
 use Rattle.connections.specs.declared.stream.Received.{Received}
 use Rattle.connections.specs.declared.stream.Received.TheVariants.{Bytes, Nothing, End}
 

@@ -1,7 +1,7 @@
 -- What happened to the open connections, step by step, as the network sees it.
 use Rattle.std.specs.Prelude.{◌≡◌, ◌<◌, ◌-◌, ◌⊎◌, Bool, true, false, List, [], ◌∷◌, ◌++◌, None, Option, Some, Result, Ok, Err, length, map, option_map, set, slice_index_or, ℕ}
 use Rattle.std.specs.List.{All, FoldsTo, flat_map, remove}
-use Rattle.votes.specs.declared.streams.Broken.{Broken}
+use Rattle.streams.specs.declared.streams.Broken.{Broken}
 use Rattle.connections.specs.Clients.{IsNew, IsOf}
 use Rattle.connections.specs.Closing.{EndsFor, IsClosedByRule, IsClosedForBytes, IsClosedForRoom, eviction_rule, timeout_rule, timeout}
 use Rattle.connections.specs.Removals.{removed_of}

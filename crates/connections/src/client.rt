@@ -9,7 +9,7 @@ ghost use Rattle.connections.specs.Clients.{IsCaused, IsNew, IsOf, IsSameButRece
 use crate::removed::{CloseReason, Removed};
 use crate::stream::{Received, Stream};
 use std::alloc::{AllocError, Global};
-use votes::Broken;
+use streams::Broken;
 
 /// How many bytes are read at once.
 const CHUNK: usize = 16384;

@@ -7,7 +7,7 @@ use crate::client::Accepted;
 use crate::removed::Removed;
 use crate::stream::Stream;
 use std::time::Duration;
-use votes::Broken;
+use streams::Broken;
 
 /// What a listener returned.
 #[derive(Drop)]

@@ -2,7 +2,7 @@
 
 ghost use Rattle.std.specs.Prelude.{Some};
 
-use votes::{Broken, Source};
+use streams::{Broken, Source};
 
 /// The rest of a slice of bytes, as a source. It never fails.
 #[derive(Drop)]

@@ -4,7 +4,7 @@ ghost use Rattle.std.specs.Prelude.{◌≡◌, ℕ, ◌<◌, List, Option, lengt
 ghost use Rattle.std.specs.Io.KnownBytes.{Keeps};
 ghost use Rattle.connections.specs.Streams.{Gives, Takes, failed_after, idle_after_read, idle_after_write};
 
-use votes::Broken;
+use streams::Broken;
 
 /// What a read returned.
 #[derive(Clone, Copy)]

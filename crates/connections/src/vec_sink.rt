@@ -4,7 +4,7 @@ ghost use Rattle.std.specs.Prelude.{◌≡◌, [], Some};
 ghost use Rattle.connections.specs.Clients.{failed_writes, written_in};
 
 use std::alloc::{AllocError, Global};
-use votes::{Broken, Sink};
+use streams::{Broken, Sink};
 
 /// The bytes that were written so far. It fails only if an allocation does.
 #[derive(Drop)]

@@ -69,8 +69,10 @@ kept-terms contest history terms bundles places stages range kept =
     range.quota_is (subst IsContest (sym same) (fair-on contest bundles kept.fair kept.bundles_are)) ∙ same
 
 -- what is told by the terms and stages of a count that was kept, whatever the papers, is told of its contest
-pub kept-tells : {X : Type 0} (tell : Contest → History → X) (x : X) (terms : Terms) (bundles : List Bundle) (places : List Placed) (stages lent : List Stage) (seen : CountKept) (contest : Contest) (history : History) →
-    kept_of terms bundles places stages ≡ seen → lent ≡ stages → IsInRange terms bundles places stages → ((papers : List (List ℕ)) → x ≡ tell (contest_of terms papers) (reverse lent)) → IsKeptOf contest history seen → x ≡ tell contest history
+pub kept-tells : {X : Type 0} (tell : Contest → History → X) (x : X) (terms : Terms) (bundles : List Bundle) (places : List Placed) (stages lent : List Stage)
+    (seen : CountKept) (contest : Contest) (history : History) →
+    kept_of terms bundles places stages ≡ seen → lent ≡ stages → IsInRange terms bundles places stages → ((papers : List (List ℕ)) → x ≡ tell (contest_of terms papers) (reverse lent))
+    → IsKeptOf contest history seen → x ≡ tell contest history
 kept-tells tell x terms bundles places stages lent seen contest history view same range told kept =
     let own : IsKeptOf contest history (kept_of terms bundles places stages) = subst (IsKeptOf contest history) (sym view) kept in
     let stages_are : reverse lent ≡ history = ap reverse (same ∙ own.stages_are) ∙ reverse-reverse history in
@@ -155,7 +157,8 @@ kept-first contest kept fair candidates_are seats_are bundles_are places_are sta
     }
 
 -- what an action that comes next brings a count that was kept to is what comes next in its contest
-pub kept-next : (contest : Contest) (history : History) (lots : List (ℕ × ℕ)) (terms : Terms) (bundles : List Bundle) (places new_places : List Placed) (stages new_stages : List Stage) (action : Action) →
+pub kept-next : (contest : Contest) (history : History) (lots : List (ℕ × ℕ)) (terms : Terms) (bundles : List Bundle) (places new_places : List Placed)
+    (stages new_stages : List Stage) (action : Action) →
     IsInRange terms bundles places stages → IsKeptOf contest history (kept_of terms bundles places stages) →
     ((papers : List (List ℕ)) → Some action ≡ next_action (contest_of terms papers) lots (reverse stages)) →
     (IsDueInBook (contest_on terms bundles) (reverse stages) bundles places action → new_places ≡ places_after (contest_on terms bundles) (reverse new_stages) bundles) →

@@ -103,7 +103,8 @@ passed-same p q rule c [] bundles same = refl
 passed-same p q rule c (at ∷ places) [] same = refl
 passed-same p q rule c (at ∷ places) (b ∷ bs) same =
     let rest : List ℕ = drop 1 (from_first (λ d. eqb d c) b.0) in
-    ap (λ (l : List ℕ). (let m : Placed = record { holder = first_of l; value = new_value rule at.value } in cond (eqb at.holder c) m at) ∷ passed_places p rule c places bs) (from_first-same p q rest same)
+    ap (λ (l : List ℕ). (let m : Placed = record { holder = first_of l; value = new_value rule at.value } in cond (eqb at.holder c) m at) ∷ passed_places p rule c places bs)
+    (from_first-same p q rest same)
     ∙ ap (λ (l : List Placed). passed_at q rule c b.0 at ∷ l) (passed-same p q rule c places bs same)
 
 -- what a surplus passes on, and what an exclusion does
@@ -155,5 +156,7 @@ pub sound-passed : (continues : ℕ → Bool) (rule : TransferRule) (c : ℕ) (p
     AllByRecursion IsSound (passed_places continues rule c places bundles)
 sound-passed continues rule c [] bundles only is sound = tt
 sound-passed continues rule c (at ∷ places) [] only is sound = tt
-sound-passed continues rule c (at ∷ places) (b ∷ bs) only is sound =
-    (passed_sound (eqb at.holder c) _ (new_value rule at.value) at (first-known continues (drop 1 (from_first (λ d. eqb d c) b.0)) only) (new_small rule at.value is sound.0.1) sound.0, sound-passed continues rule c places bs only is sound.1)
+sound-passed continues rule c (at ∷ places) (b ∷ bs) only is sound = (
+  passed_sound (eqb at.holder c) _ (new_value rule at.value) at (first-known continues (drop 1 (from_first (λ d. eqb d c) b.0)) only) (new_small rule at.value is sound.0.1) sound.0,
+  sound-passed continues rule c places bs only is sound.1,
+)

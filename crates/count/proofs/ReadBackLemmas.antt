@@ -227,7 +227,8 @@ right-to : (contest : Contest) (handed : History → Stage → Option ℕ) (hist
     IsRightBy contest handed (s ∷ reverse stages)
 right-to contest handed history stages s later right whole =
     let parts : reverse later ++ (s ∷ reverse stages) ≡ history =
-    ap (λ (b : History). reverse later ++ b) (sym (reverse-newest (stages ++ s ∷ []) stages s refl)) ∙ sym (reverse-append (stages ++ s ∷ []) later) ∙ ap reverse (append_assoc stages (s ∷ []) later ∙ whole) ∙ reverse-reverse history in
+    ap (λ (b : History). reverse later ++ b) (sym (reverse-newest (stages ++ s ∷ []) stages s refl)) ∙ sym (reverse-append (stages ++ s ∷ []) later)
+    ∙ ap reverse (append_assoc stages (s ∷ []) later ∙ whole) ∙ reverse-reverse history in
     right-first contest handed (reverse later) (s ∷ reverse stages) (subst (IsRightBy contest handed) (sym parts) right)
 
 length-stage : (candidates : List ℕ) (s : Stage) (before : History) → length (figures_at candidates (s ∷ before)) ≡ length candidates + 2
@@ -238,7 +239,8 @@ length-stage candidates s before =
 read_stage : (contest : Contest) (handed : History → Stage → Option ℕ) (history : History) (stages later : List Stage) (rest : List Figure) (more : List ℕ) (grown : List Stage) (n : ℕ) →
     IsRightBy contest handed history → n ≡ length contest.candidates + 2 → n ≤ length rest →
     stages ++ later ≡ reverse history → rest ≡ figures_from contest.candidates (reverse stages) later →
-    ((s : Stage) → IsRightBy contest handed (s ∷ reverse stages) → take n rest ≡ figures_at contest.candidates (s ∷ reverse stages) → (grown ≡ stages ++ s ∷ []) × (more ≡ elected_after contest (s ∷ reverse stages))) →
+    ((s : Stage) → IsRightBy contest handed (s ∷ reverse stages) → take n rest ≡ figures_at contest.candidates (s ∷ reverse stages)
+    → (grown ≡ stages ++ s ∷ []) × (more ≡ elected_after contest (s ∷ reverse stages))) →
     AreRead contest history grown more (drop n rest)
 unfolding figures_from
 read_stage contest handed history stages [] rest more grown n right size enough whole left told = absurd (omega (arith, size, enough, ap length left))
@@ -259,7 +261,8 @@ read_stage contest handed history stages (s ∷ later) rest more grown n right s
 pub read-more : (contest : Contest) (handed : History → Stage → Option ℕ) (history : History) (stages : List Stage) (rest : List Figure) (elected more : List ℕ) (grown : List Stage) (n : ℕ) →
     IsRightBy contest handed history → n ≡ length contest.candidates + 2 → n ≤ length rest →
     AreRead contest history stages elected rest →
-    ((s : Stage) → IsRightBy contest handed (s ∷ reverse stages) → take n rest ≡ figures_at contest.candidates (s ∷ reverse stages) → (grown ≡ stages ++ s ∷ []) × (more ≡ elected_after contest (s ∷ reverse stages))) →
+    ((s : Stage) → IsRightBy contest handed (s ∷ reverse stages) → take n rest ≡ figures_at contest.candidates (s ∷ reverse stages)
+    → (grown ≡ stages ++ s ∷ []) × (more ≡ elected_after contest (s ∷ reverse stages))) →
     AreRead contest history grown more (drop n rest)
 read-more contest handed history stages rest elected more grown n right size enough read told =
     read_stage contest handed history stages read.later rest more grown n right size enough read.whole read.rest_is told

@@ -26,11 +26,13 @@ or_some false = refl
 -- the votes of a number by the first candidates, and by one more
 units_own : (f : ℕ → Figure) (xs : List ℕ) (i n : ℕ) → i < length xs → n ≡ slice_index xs i → units_shown f (take (i + 1) xs) n ≡ (f n).units
 units_own f xs i n within same =
-    ap (λ b. cond b (f n).units 0) (list_any_more (nat_eq n) xs i 0 within ∙ ap (λ b. list_any (nat_eq n) (take i xs) || b) (eq-eqb n (slice_index xs i) same) ∙ or_some (list_any (nat_eq n) (take i xs)))
+    ap (λ b. cond b (f n).units 0) (list_any_more (nat_eq n) xs i 0 within ∙ ap (λ b. list_any (nat_eq n) (take i xs) || b) (eq-eqb n (slice_index xs i) same)
+    ∙ or_some (list_any (nat_eq n) (take i xs)))
 
 units_other : (f : ℕ → Figure) (xs : List ℕ) (i n : ℕ) → i < length xs → (n ≡ slice_index xs i → ⊥) → units_shown f (take (i + 1) xs) n ≡ units_shown f (take i xs) n
 units_other f xs i n within other =
-    ap (λ b. cond b (f n).units 0) (list_any_more (nat_eq n) xs i 0 within ∙ ap (λ b. list_any (nat_eq n) (take i xs) || b) (ne_eqb n (slice_index xs i) other) ∙ or_none (list_any (nat_eq n) (take i xs)))
+    ap (λ b. cond b (f n).units 0) (list_any_more (nat_eq n) xs i 0 within ∙ ap (λ b. list_any (nat_eq n) (take i xs) || b) (ne_eqb n (slice_index xs i) other)
+    ∙ or_none (list_any (nat_eq n) (take i xs)))
 
 at_place : (f : ℕ → Figure) (xs : List ℕ) (k : ℕ) → k < 30 → get_or (votes_shown f xs) k 0 ≡ units_shown f xs (k + 1)
 at_place f xs k small = get_or-map-range_with_len (units_shown f xs) 1 30 k (k + 1) 0 small (omega arith)

@@ -140,7 +140,8 @@ surplus-gives contest before s c holdings new is hold is_moved =
     ∙ sum_by-same _ _ contest.papers (λ p. let at = place contest before p in
     ap (λ a. cond (passes_on a at.holder) 0 at.value) is ∙ ap (λ b. cond b 0 at.value) (eqb_swap c at.holder)) in
     let parts : sum_by (λ p. cond (eqb (place contest before p).holder c) 0 (place contest before p).value) contest.papers + value_passed_on contest s before c ≡ all_values contest (s ∷ before) =
-    sym (sum_by-add (λ p. cond (eqb (place contest before p).holder c) 0 (place contest before p).value) (λ p. cond (eqb (place contest before p).holder c) (place contest (s ∷ before) p).value 0) contest.papers)
+    sym (sum_by-add (λ p. cond (eqb (place contest before p).holder c) 0 (place contest before p).value)
+    (λ p. cond (eqb (place contest before p).holder c) (place contest (s ∷ before) p).value 0) contest.papers)
     ∙ sum_by-same _ _ contest.papers (λ p. let at = place contest before p in
     let claim : Action → Type 0 = λ a. cond (eqb at.holder c) 0 at.value + cond (eqb at.holder c) (moved contest before a p at).value 0 ≡ (moved contest before a p at).value in
     subst claim (sym is) (value_choice (eqb at.holder c) _ _ at)) in
@@ -173,7 +174,8 @@ map-numbers f g h = map-range f g 30 (omega arith) h
 
 -- what a stage records after an action is what the definitions tell
 pub records-adds : (terms : Terms) (papers : List (List ℕ)) (before after : History) (action : Action) (holdings new : List Holding) → IsBook (contest_of terms papers) before holdings →
-    IsDue (contest_of terms papers) before action → IsMovedBy (contest_of terms papers) before action holdings new → Records terms before action new after → Adds (contest_of terms papers) before action after
+    IsDue (contest_of terms papers) before action → IsMovedBy (contest_of terms papers) before action holdings new → Records terms before action new after
+    → Adds (contest_of terms papers) before action after
 records-adds terms papers before after action holdings new book due is_moved records =
     let contest : Contest = contest_of terms papers in
     let s : Stage = records.stage in
@@ -188,7 +190,8 @@ records-adds terms papers before after action holdings new book due is_moved rec
         votes_told =
             records.votes_are
             ∙ ap (λ (a : Action). map (votes_with contest.quota before a new) numbers) (sym records.of_action)
-            ∙ map-numbers (votes_with contest.quota before s.action new) (votes_after contest (s ∷ before)) (λ c column. votes-are contest handed before s c holdings new book.right column book.held moved_s);
+            ∙ map-numbers (votes_with contest.quota before s.action new) (votes_after contest (s ∷ before))
+            (λ c column. votes-are contest handed before s c holdings new book.right column book.held moved_s);
         elected_told = records.elected_are;
         non_transferable_told = records.non_transferable_is ∙ non_transferable-are contest handed before s holdings new book.fair book.right due_s book.held moved_s;
         lost_told =

@@ -43,7 +43,8 @@ worth_to-other h holdings i holding within is other =
 -- one holder's worth is within all
 pub worth_to-within : (h : ℕ) (holdings : List Holding) → worth_to h holdings ≤ worth holdings
 worth_to-within h holdings =
-    sum_by-le-sum_by _ _ holdings (λ (q : Holding). sum_by-le-sum_by _ _ q.parcels.items (λ (p : Parcel). sum_by-le-sum_by _ _ p.papers.items (λ (r : Bor (List ℕ)). within_value (eqb q.holder h) p.value)))
+    sum_by-le-sum_by _ _ holdings (λ (q : Holding). sum_by-le-sum_by _ _ q.parcels.items
+    (λ (p : Parcel). sum_by-le-sum_by _ _ p.papers.items (λ (r : Bor (List ℕ)). within_value (eqb q.holder h) p.value)))
 
 holding_worth : Holding → ℕ
 holding_worth holding = total_of (λ rest v. v) holding.parcels.items
@@ -56,6 +57,7 @@ pub worth_to-within-more : (h : ℕ) (holdings : List Holding) (i : ℕ) (holdin
     worth_to h (take i holdings) + total_of (λ rest v. v) holding.parcels.items ≤ worth holdings
 unfolding holding_worth holding_worth_to
 worth_to-within-more h holdings i holding within is =
-    let part : (q : Holding) → holding_worth_to h q ≤ holding_worth q = λ q. sum_by-le-sum_by _ _ q.parcels.items (λ (p : Parcel). sum_by-le-sum_by _ _ p.papers.items (λ (r : Bor (List ℕ)). within_value (eqb q.holder h) p.value)) in
+    let part : (q : Holding) → holding_worth_to h q ≤ holding_worth q = λ q. sum_by-le-sum_by _ _ q.parcels.items
+    (λ (p : Parcel). sum_by-le-sum_by _ _ p.papers.items (λ (r : Bor (List ℕ)). within_value (eqb q.holder h) p.value)) in
     let here : holding_worth (get_or holdings i holding) ≡ holding_worth holding = ap holding_worth (sym is) in
     omega (arith, sum_by_more_le_part (holding_worth_to h) holding_worth holdings i holding within part, here)

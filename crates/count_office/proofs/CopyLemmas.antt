@@ -26,7 +26,8 @@ copy_told s page left old new blank full (inl made) = inl made.0
 copy_told s page left old new blank full (inr (failure, is, ends, leaves)) = inr (inr (failure, is))
 
 -- and, where it is told with status 0, that its log couldn't be put into it
-copy_unclosed : (s : OfficeState) (page : Page) (left : CopyState) (old new blank full : State) → page.status ≡ 0 → IsCopiedOpen s page left old new blank full → IsCopyTold s (below page (failed CopyFailed))
+copy_unclosed : (s : OfficeState) (page : Page) (left : CopyState) (old new blank full : State) → page.status ≡ 0 → IsCopiedOpen s page left old new blank full
+    → IsCopyTold s (below page (failed CopyFailed))
 copy_unclosed s page left old new blank full zero (inl made) = inr (inl (ap (λ (p : Page). below p (failed CopyFailed)) made.0))
 copy_unclosed s page left old new blank full zero (inr (failure, is, ends, leaves)) = let three : page.status ≡ 3 = ap (λ (p : Page). p.status) is in absurd (omega arith)
 
@@ -40,7 +41,8 @@ module _ {O E : Type 0} (taken : O → Option (List ℕ)) (calls : O → ℕ) (t
   outputs out err = outputs_of taken calls taken_err calls_err out err
 
   -- a failure that is told of an office that is left as it is
-  pub failure_told : {S : Type 0} (state_of : Held S → State) (old new : OfficeValue S) (out : O) (err err_new : E) (failure : Failure) (ends : ℕ) → IsErrorTold taken_err calls_err err err_new (failed failure).err 3 ends
+  pub failure_told : {S : Type 0} (state_of : Held S → State) (old new : OfficeValue S) (out : O) (err err_new : E) (failure : Failure) (ends : ℕ)
+      → IsErrorTold taken_err calls_err err err_new (failed failure).err 3 ends
       → Tells (outputs out err) (outputs out err_new) ends (λ cut page. WhenOpenAt state_of old new (λ s. IsCopyTold s page))
   failure_told state_of old new out err err_new failure ends error =
       let told = error_shown taken calls taken_err calls_err out err err_new (failed failure) ends refl error in
@@ -53,7 +55,8 @@ module _ {O E : Type 0} (taken : O → Option (List ℕ)) (calls : O → ℕ) (t
 
     -- what a copy tells, and behind it, with status 0, how its files are closed
     pub closed_told : (out out_new : O) (err err_mid err_new : E) (status ends : ℕ)
-        → Tells (outputs out err) (outputs out_new err_mid) status (λ cut page. HoldsCopy left page blank full × WhenOpenAt state_of old new (λ s. IsCopiedOpen s page left (state_of old.held) (state_of new.held) blank full) × (old.closed ≡ true → page ≡ closed_page))
+        → Tells (outputs out err) (outputs out_new err_mid) status (λ cut page. HoldsCopy left page blank full × WhenOpenAt state_of old new
+        (λ s. IsCopiedOpen s page left (state_of old.held) (state_of new.held) blank full) × (old.closed ≡ true → page ≡ closed_page))
         → (¬ (status ≡ 0) → (ends ≡ status) × (err_new ≡ err_mid)) → (status ≡ 0 → EndsCopy taken_err calls_err err_mid err_new ends)
         → TellsCopy out out_new err err_new ends
     closed_told out out_new err err_mid err_new status ends told other whole = by (status == 0) refl
@@ -77,9 +80,11 @@ module _ {O E : Type 0} (taken : O → Option (List ℕ)) (calls : O → ℕ) (t
             record {
               page = below told.page (failed CopyFailed);
               cut = cut_below told.page.out next.0;
-              shown = shown_last next.0 (outputs out err) (outputs out_new err_mid) (outputs out_new err_new) told.page (failed CopyFailed) status ends first next.1 (λ none. absurd (omega (arith, three, none)));
+              shown = shown_last next.0 (outputs out err) (outputs out_new err_mid) (outputs out_new err_new) told.page (failed CopyFailed) status ends first next.1
+                  (λ none. absurd (omega (arith, three, none)));
               is = λ clean was s at.
-                  copy_unclosed s told.page left (state_of old.held) (state_of new.held) blank full (shown_zero told.cut (outputs out err) (outputs out_new err_mid) told.page status told.shown zero).1 (told.is.1 clean was s at);
+                  copy_unclosed s told.page left (state_of old.held) (state_of new.held) blank full
+                  (shown_zero told.cut (outputs out err) (outputs out_new err_mid) told.page status told.shown zero).1 (told.is.1 clean was s at);
             }
 
         at_zero : status ≡ 0 → EndsCopy taken_err calls_err err_mid err_new ends → TellsCopy out out_new err err_new ends

@@ -49,10 +49,12 @@ served_on serving gate_files numbers file whole stream state_of before opened la
 
 -- the doors weren't opened, or the office was served
 pub shut_or_served : {L S : Type 0} (Tells : List ℕ → ℕ → ℕ → Type 0) (Quiet : Type 0) (status : ℕ) (serving : Serving) (codes_at : CodeFiles) (gate_files : Option GateFiles)
-    (numbers : Option FileNumbers) (stream : Stream L) (state_of : Held S → State) (before later : ℕ → NetworkEntry L) (conn : Held S) (office last : OfficeValue S) (outcome : Result (Unit {0}) Failure)
+    (numbers : Option FileNumbers) (stream : Stream L) (state_of : Held S → State) (before later : ℕ → NetworkEntry L) (conn : Held S) (office last : OfficeValue S)
+    (outcome : Result (Unit {0}) Failure)
     → IsOpenedFrom state_of conn office → IsGateFor codes_at (path_in serving) (option_map gate_at gate_files)
     → MayServe (IsGivenBy serving gate_files numbers) stream state_of serving.port before later serving.connections office last outcome → TellsOutcome Tells Quiet status outcome
-    → IsShut Tells status state_of before later conn last.held ⊎ IsServed Tells Quiet status (AreSettingsFor serving codes_at numbers) stream state_of serving.port before later serving.connections conn last.held
+    → IsShut Tells status state_of before later conn last.held ⊎ IsServed Tells Quiet status (AreSettingsFor serving codes_at numbers) stream state_of
+    serving.port before later serving.connections conn last.held
 shut_or_served Tells Quiet status serving codes_at gate_files numbers stream state_of before later conn office last outcome opened gate (inl (why, is, nobody, stays)) told = inl (record {
   office = office;
   opened = opened;
@@ -61,15 +63,16 @@ shut_or_served Tells Quiet status serving codes_at gate_files numbers stream sta
   nobody = nobody;
   same = ap (λ (o : OfficeValue _). o.held) stays;
 })
-shut_or_served Tells Quiet status serving codes_at gate_files numbers stream state_of before later conn office last outcome opened gate (inr (settings, ends, are_settings, at_network, elsewhere, is)) told = inr (record {
-  office = office;
-  opened = opened;
-  settings = settings;
-  are_settings = given_for serving codes_at gate_files numbers settings gate are_settings;
-  closed = last.closed;
-  ends = ends;
-  told = subst (TellsOutcome Tells Quiet status) is told;
-  at_network = at_network;
-  elsewhere = elsewhere;
-  keeps = λ clean db rests earlier left. at_network.serves.keeps clean opened.is_open earlier (opened.at (at_network.clean clean) db rests _ left).at;
-})
+shut_or_served Tells Quiet status serving codes_at gate_files numbers stream state_of before later conn office last outcome opened gate
+    (inr (settings, ends, are_settings, at_network, elsewhere, is)) told = inr (record {
+      office = office;
+      opened = opened;
+      settings = settings;
+      are_settings = given_for serving codes_at gate_files numbers settings gate are_settings;
+      closed = last.closed;
+      ends = ends;
+      told = subst (TellsOutcome Tells Quiet status) is told;
+      at_network = at_network;
+      elsewhere = elsewhere;
+      keeps = λ clean db rests earlier left. at_network.serves.keeps clean opened.is_open earlier (opened.at (at_network.clean clean) db rests _ left).at;
+    })

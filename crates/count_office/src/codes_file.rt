@@ -11,7 +11,7 @@ use std::io::{self, Read, Write};
 use std::os::unix::fs::{MetadataExt, OpenOptionsExt};
 use std::random::RandomSource;
 use store::Fault;
-use votes::Sink;
+use streams::Sink;
 
 /// The most bytes of a file of codes: more than one with a line for each clerk has.
 const MAX_FILE: usize = 128 << 10;

@@ -19,7 +19,7 @@ use sqlite::{Alter, Connection, FileStore, Files, Wary};
 use sqlite_disk::Disk;
 use store::Fault;
 use store::fault::fault_of;
-use votes::Sink;
+use streams::Sink;
 
 /// Makes a copy of the office at a path where there is nothing yet. The office is only read.
 pub fn copy<S: Alter, O: Sink, E: Sink>(

@@ -63,7 +63,7 @@ use std::io::IsTerminal;
 use std::process::ExitCode;
 use std::{env, io};
 use store::Fault;
-use votes::{Counted, Sink};
+use streams::{Counted, Sink};
 
 /// A database that is held: its path as it was given, what is there, and its file; and what was read of the order's files
 /// before, if anything was.

@@ -17,7 +17,7 @@ use std::os::unix::fs::MetadataExt;
 use std::os::unix::net::UnixStream;
 use std::{env, fs};
 use store::Fault;
-use votes::{Sink, put_all};
+use streams::{Sink, put_all};
 
 /// The most bytes of a frame that are read at once.
 const CHUNK: usize = 8192;

@@ -17,7 +17,7 @@ use std::io::{self, ErrorKind};
 use std::time::{Clock, Duration};
 use store::Fault;
 use store::fault::fault_of;
-use votes::Sink;
+use streams::Sink;
 
 /// The pauses between the attempts of an order whose file is held: ten seconds of them.
 const PAUSES: u32 = 1000;

@@ -15,7 +15,7 @@ use desk::{Failure, tell_failure};
 use std::cell::Cell;
 use std::fs;
 use std::os::unix::fs::MetadataExt;
-use votes::Counted;
+use streams::Counted;
 
 /// What is known of a file: its device, its number there, and its length.
 #[derive(Clone, Copy)]

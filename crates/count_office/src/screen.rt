@@ -7,7 +7,7 @@ ghost use Rattle.std.specs.Prelude.{◌≡◌, ◌≤◌, ◌<◌, ◌+◌, ◌-
 ghost use Rattle.std.specs.Io.KnownBytes.{Appends};
 ghost use Rattle.count_office.specs.Screens.{controls, ends_steering, last_two, masked, shown_byte};
 
-use votes::{Broken, Sink};
+use streams::{Broken, Sink};
 
 /// The most bytes that are written at once.
 const ROOM: usize = 512;

@@ -17,7 +17,7 @@ use server::{FileNumbers, ServeError, ServerSettings, SideJobs, serve_connection
 use sqlite::{Alter, Connection};
 use std::alloc::Global;
 use store::Fault;
-use votes::Sink;
+use streams::Sink;
 use wire::{HttpSettings, Origin};
 
 /// The words of `serve`: its port, the number of clients after which it ends, the origin of a proxy, and the path of a file of

@@ -11,7 +11,7 @@ use server::{Destination, SideJobs};
 use sqlite::{Alter, Connection};
 use std::alloc::{AllocError, Global};
 use store::Fault;
-use votes::Sink;
+use streams::Sink;
 
 /// This machine, and the files of the office that is served.
 #[derive(Drop)]

@@ -103,7 +103,8 @@ module _ (keep : Bool) (line : Option ℕ) (tells : OfficeState → Request → 
   )
 
   -- what comes of the others stands below them
-  pub replied_then : (Then : OfficeState → Course → Type 0) (old : State) (closed : Bool) (st : State) (s : OfficeState) (front : List Request) (said : Page) (end : OfficeState) (others : List Request) (c : Course)
+  pub replied_then : (Then : OfficeState → Course → Type 0) (old : State) (closed : Bool) (st : State) (s : OfficeState) (front : List Request)
+      (said : Page) (end : OfficeState) (others : List Request) (c : Course)
       → Replied s front said end → IsSent old closed st keep line tells Then end others c → IsSent old closed st keep line tells Then s (front ++ others) (told_above front said c)
   replied_then Then old closed st s [] said end others c (none, same) sent =
       subst (λ x. IsSent old closed st keep line tells Then x others (told_above [] said c)) same
@@ -138,13 +139,15 @@ pub record SentSo (keep : Bool) (line : Option ℕ) (tells : OfficeState → Req
   pub open_at : IsOpenAt end closed st
   pub replied : Replied keep line tells s (take i rs) said end
 
-pub none_sent : (keep : Bool) (line : Option ℕ) (tells : OfficeState → Request → Told → Page) (s : OfficeState) (rs : List Request) (closed : Bool) (st : State) → IsOpenAt s closed st → SentSo keep line tells s rs 0 empty_page closed st
+pub none_sent : (keep : Bool) (line : Option ℕ) (tells : OfficeState → Request → Told → Page) (s : OfficeState) (rs : List Request) (closed : Bool) (st : State)
+    → IsOpenAt s closed st → SentSo keep line tells s rs 0 empty_page closed st
 none_sent keep line tells s rs closed st here = record { end = s; open_at = here; replied = (refl, refl) }
 
 -- ---- requests of one turn
 
 -- the machine's answer to a request that was answered and gone past
-pub went_past : (old : State) (closed : Bool) (st : State) (keep : Bool) (tells : OfficeState → Request → Told → Page) (s : OfficeState) (r : Request) (answered : ℕ) (page : Page) → IsAnswered old closed st tells s r answered page
+pub went_past : (old : State) (closed : Bool) (st : State) (keep : Bool) (tells : OfficeState → Request → Told → Page) (s : OfficeState) (r : Request) (answered : ℕ) (page : Page)
+    → IsAnswered old closed st tells s r answered page
     → goes_on keep page.status ≡ true
     → (page ≡ answer tells s r) × IsOpenAt (after_one s r) closed st
 went_past old closed st keep tells s r answered page (inl told) goes = (told.1, told.2)
@@ -198,7 +201,8 @@ answered_since a b closed st tells s r answered page since (inr (none, (fault, i
 answered_since a b closed st tells s r answered page since (inr (none, (fault, is, (inr accepted, leaves)))) = inr (none, (fault, is, (inr accepted, leaves)))
 
 -- the same of requests in turn, where what comes then is turned too
-pub sent_turned : {Then Else : OfficeState → Course → Type 0} {Q : Type 0} (a b : State) (closed : Bool) (st : State) (keep : Bool) (line : Option ℕ) (tells : OfficeState → Request → Told → Page) → TellsSince a b st
+pub sent_turned : {Then Else : OfficeState → Course → Type 0} {Q : Type 0} (a b : State) (closed : Bool) (st : State) (keep : Bool) (line : Option ℕ)
+    (tells : OfficeState → Request → Told → Page) → TellsSince a b st
     → ((x : OfficeState) (e : Course) → Then x e → (WentOn keep e → Q) → Else x e)
     → (s : OfficeState) (rs : List Request) (c : Course) → (WentOn keep c → Q) → IsSent b closed st keep line tells Then s rs c → IsSent a closed st keep line tells Else s rs c
 sent_turned a b closed st keep line tells since turn s [] c gone sent = turn s c sent gone
@@ -276,7 +280,8 @@ Taken keep folder s (turn ∷ turns) own said end =
     × (own ≡ requests ++ others) × (said ≡ below page rest) × Taken keep folder mid turns others rest end
 
 -- one turn more
-taken_more : (keep : Bool) (folder : Folder) (s : OfficeState) (turns : List ScriptStep) (own : List Request) (said : Page) (end : OfficeState) (turn : ScriptStep) (file : File) (requests : List Request) (page : Page) (next : OfficeState)
+taken_more : (keep : Bool) (folder : Folder) (s : OfficeState) (turns : List ScriptStep) (own : List Request) (said : Page) (end : OfficeState)
+    (turn : ScriptStep) (file : File) (requests : List Request) (page : Page) (next : OfficeState)
     → Taken keep folder s turns own said end → IsFileAt folder (file_of turn.errand) file → IsTurned keep turn file end requests page next
     → Taken keep folder s (turns ++ turn ∷ []) (own ++ requests) (below said page) next
 taken_more keep folder s [] own said end turn file requests page next (no_own, no_said, same) found turned = (
@@ -306,12 +311,14 @@ taken_more keep folder s (t ∷ ts) own said end turn file requests page next (f
   taken_more keep folder mid ts others rest end turn file requests page next more found turned,
 )
 
-same_above : (requests left own : List Request) (page rest said : Page) (c : Course) → own ≡ requests ++ left → said ≡ below page rest → told_above requests page (told_above left rest c) ≡ told_above own said c
+same_above : (requests left own : List Request) (page rest said : Page) (c : Course) → own ≡ requests ++ left → said ≡ below page rest
+    → told_above requests page (told_above left rest c) ≡ told_above own said c
 same_above requests left own page rest said c own_is said_is =
     above_joined requests left page rest c ∙ (ap (λ xs. told_above xs (below page rest) c) (sym own_is) ∙ ap (λ p. told_above own p c) (sym said_is))
 
 -- what comes of the others stands below them
-taken_then : (old : State) (closed : Bool) (st : State) (keep : Bool) (folder : Folder) (s : OfficeState) (front : List ScriptStep) (own : List Request) (said : Page) (end : OfficeState) (others : List ScriptStep) (c : Course)
+taken_then : (old : State) (closed : Bool) (st : State) (keep : Bool) (folder : Folder) (s : OfficeState) (front : List ScriptStep) (own : List Request)
+    (said : Page) (end : OfficeState) (others : List ScriptStep) (c : Course)
     → Taken keep folder s front own said end → IsPlayed old closed st keep folder end others c → IsPlayed old closed st keep folder s (front ++ others) (told_above own said c)
 taken_then old closed st keep folder s [] own said end others c (no_own, no_said, same) played =
     subst (λ x. IsPlayed old closed st keep folder x others (told_above own said c)) same
@@ -319,8 +326,10 @@ taken_then old closed st keep folder s [] own said end others c (no_own, no_said
     (subst (λ p. IsPlayed old closed st keep folder end others (told_above [] p c)) (sym no_said) (subst (IsPlayed old closed st keep folder end others) (above_none c) played)))
 taken_then old closed st keep folder s (turn ∷ ts) own said end others c (file, requests, left, page, rest, mid, found, inl (sends, replied), own_is, said_is, more) played =
     let later = taken_then old closed st keep folder mid ts left rest end others c more played in
-    let sent = replied_then keep turn.line (page_answered turn.errand) (λ next e. IsPlayed old closed st keep folder next (ts ++ others) e) old closed st s requests page mid [] (told_above left rest c) replied later in
-    let whole = subst (λ xs. IsSent old closed st keep turn.line (page_answered turn.errand) (λ next e. IsPlayed old closed st keep folder next (ts ++ others) e) s xs (told_above requests page (told_above left rest c))) (append-nil requests) sent in
+    let sent = replied_then keep turn.line (page_answered turn.errand) (λ next e. IsPlayed old closed st keep folder next (ts ++ others) e) old closed st s requests page mid []
+    (told_above left rest c) replied later in
+    let whole = subst (λ xs. IsSent old closed st keep turn.line (page_answered turn.errand) (λ next e. IsPlayed old closed st keep folder next (ts ++ others) e) s xs
+    (told_above requests page (told_above left rest c))) (append-nil requests) sent in
     subst (IsPlayed old closed st keep folder s (turn ∷ (ts ++ others))) (same_above requests left own page rest said c own_is said_is) (file, found, inl (requests, sends, whole))
 taken_then old closed st keep folder s (turn ∷ ts) own said end others c (file, requests, left, page, rest, mid, found, inr (told, is, goes, none, page_is, stays), own_is, said_is, more) played =
     let later = taken_then old closed st keep folder mid ts left rest end others c more played in

@@ -14,7 +14,8 @@ pub turns_of_text : (text : Text) (read : List Numbered) (said : List Typed) (tu
 turns_of_text text read said turns is so are = subst (λ (lines : List Typed). AreTurns lines turns) (so ∙ ap (map typed_line) is) are
 
 -- and what is wrong with a line of them is so with one of it
-pub flaw_of_text : (text : Text) (read : List Numbered) (said : List Typed) (number : ℕ) (flaw : LineFlaw) → read ≡ numbered_from 1 (lines_of text) → said ≡ map typed_line read → IsFirstFlaw said number flaw
+pub flaw_of_text : (text : Text) (read : List Numbered) (said : List Typed) (number : ℕ) (flaw : LineFlaw) → read ≡ numbered_from 1 (lines_of text)
+    → said ≡ map typed_line read → IsFirstFlaw said number flaw
     → IsFirstFlaw (script_lines text) number flaw
 flaw_of_text text read said number flaw is so first = subst (λ (lines : List Typed). IsFirstFlaw lines number flaw) (so ∙ ap (map typed_line) is) first
 
@@ -26,7 +27,8 @@ script_found items text turns are (Ok None) sent = tt
 script_found items text turns are (Err e) sent = tt
 
 -- the files that these turns read are those that the text names
-pub files_found : {V E : Type 0} (paths_of : V → List Text) (text : Text) (turns : List ScriptStep) → AreTurns (script_lines text) turns → (r : Result V E) → IfOk r (λ found. paths_of found ≡ files_of turns)
+pub files_found : {V E : Type 0} (paths_of : V → List Text) (text : Text) (turns : List ScriptStep) → AreTurns (script_lines text) turns → (r : Result V E)
+    → IfOk r (λ found. paths_of found ≡ files_of turns)
     → IfOk r (λ found. AreNamedIn text (paths_of found))
 files_found paths_of text turns are (Ok found) is = inl (turns, are, is)
 files_found paths_of text turns are (Err e) is = tt

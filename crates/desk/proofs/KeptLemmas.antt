@@ -142,7 +142,10 @@ kept_more s r page rest st kept =
     record {
       within = omega (arith, low);
       leaves = λ trees may. let it = kept.leaves trees may in let (k, least, most, inside, is) = it.1 in (it.0, (suc k, omega (arith, least), omega (arith, most), omega (arith, inside), is), it.2);
-      all = λ fine. let same : rest.answered ≡ length rest.requests = kept.all (zero_last page.status rest.page.status fine.0, whole_below page.out (cut_below page.out rest.cut) rest.cut refl fine.1) in omega (arith, same);
+      all = λ fine. let same : rest.answered ≡ length rest.requests = kept.all (
+        zero_last page.status rest.page.status fine.0,
+        whole_below page.out (cut_below page.out rest.cut) rest.cut refl fine.1,
+      ) in omega (arith, same);
     }
 
 -- something that was told, and no request, before others
@@ -152,11 +155,15 @@ kept_above s page rest st kept =
     record {
       within = omega (arith, low);
       leaves = λ trees may. let it = kept.leaves trees may in let (k, least, most, inside, is) = it.1 in (it.0, (k, omega (arith, least), omega (arith, most), inside, is), it.2);
-      all = λ fine. let same : rest.answered ≡ length rest.requests = kept.all (zero_last page.status rest.page.status fine.0, whole_below page.out (cut_below page.out rest.cut) rest.cut refl fine.1) in omega (arith, same);
+      all = λ fine. let same : rest.answered ≡ length rest.requests = kept.all (
+        zero_last page.status rest.page.status fine.0,
+        whole_below page.out (cut_below page.out rest.cut) rest.cut refl fine.1,
+      ) in omega (arith, same);
     }
 
 -- the last that was sent
-kept_last : (old : State) (closed : Bool) (st : State) (keep : Bool) (line : Option ℕ) (tells : OfficeState → Request → Told → Page) (s : OfficeState) (r : Request) (rs : List Request) (answered : ℕ) (page : Page) (cut : Cut)
+kept_last : (old : State) (closed : Bool) (st : State) (keep : Bool) (line : Option ℕ) (tells : OfficeState → Request → Told → Page) (s : OfficeState)
+    (r : Request) (rs : List Request) (answered : ℕ) (page : Page) (cut : Cut)
     → (goes_on keep page.status ≡ true → cut ≢ uncut) → IsAnswered old closed st tells s r answered page
     → Kept s (ended line (r ∷ rs) answered page cut) st
 kept_last old closed st keep line tells s r rs answered page cut ends it = record {
@@ -177,7 +184,8 @@ kept_last old closed st keep line tells s r rs answered page cut ends it = recor
       | inr next ↦ (x.0, (1, omega (arith, none), omega (arith, none), omega arith, next), x.2)
     ]
 
-kept_sent : {Then : OfficeState → Course → Type 0} (old : State) (closed : Bool) (st : State) (keep : Bool) (line : Option ℕ) (tells : OfficeState → Request → Told → Page) → ((x : OfficeState) (e : Course) → Then x e → Kept x e st)
+kept_sent : {Then : OfficeState → Course → Type 0} (old : State) (closed : Bool) (st : State) (keep : Bool) (line : Option ℕ) (tells : OfficeState → Request → Told → Page)
+    → ((x : OfficeState) (e : Course) → Then x e → Kept x e st)
     → (s : OfficeState) (rs : List Request) (c : Course)
     → IsSent old closed st keep line tells Then s rs c → Kept s c st
 kept_sent old closed st keep line tells so s [] c sent = so s c sent
@@ -194,9 +202,11 @@ kept_unsent : {Then : Course → Type 0} (old : State) (closed : Bool) (st : Sta
     → ((e : Course) → Then e → Kept s e st) → IsUnsent old closed st keep line Tells Then s c → Kept s c st
 kept_unsent old closed st keep line Tells s c so (inl (page, rest, told, goes, is, later)) = subst (λ e. Kept s e st) (sym is) (kept_above s (fronted line page) rest st (so rest later))
 kept_unsent old closed st keep line Tells s c so (inr (page, cut, is, ends, inl told)) = subst (λ e. Kept s e st) (sym is) (kept_none s line page cut st told.1.at.leaves)
-kept_unsent old closed st keep line Tells s c so (inr (page, cut, is, ends, inr stopped)) = subst (λ e. Kept s e st) (sym is) (kept_none s line page cut st (stopped_leaves old closed st s page stopped))
+kept_unsent old closed st keep line Tells s c so (inr (page, cut, is, ends, inr stopped)) = subst (λ e. Kept s e st) (sym is)
+    (kept_none s line page cut st (stopped_leaves old closed st s page stopped))
 
-kept_played : (old : State) (closed : Bool) (st : State) (keep : Bool) (folder : Folder) (s : OfficeState) (turns : List ScriptStep) (c : Course) → IsPlayed old closed st keep folder s turns c → Kept s c st
+kept_played : (old : State) (closed : Bool) (st : State) (keep : Bool) (folder : Folder) (s : OfficeState) (turns : List ScriptStep) (c : Course)
+    → IsPlayed old closed st keep folder s turns c → Kept s c st
 kept_played old closed st keep folder s [] c played = subst (λ e. Kept s e st) (sym played.0) (kept_none s None empty_page uncut st played.1.at.leaves)
 kept_played old closed st keep folder s (turn ∷ turns) c (file, found, inl (own, sends, sent)) =
     kept_sent old closed st keep turn.line (page_answered turn.errand) (λ x e more. kept_played old closed st keep folder x turns e more) s own c sent

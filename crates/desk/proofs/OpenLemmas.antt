@@ -29,7 +29,8 @@ module _ (old : State) (closed : Bool) (st : State) where
       let same : rest.answered ≡ rest.answered + 0 = omega arith in
       subst (λ n. IsOpenAt (after s (take n rest.requests)) closed st) same (so was)
 
-  open_last : (line : Option ℕ) (tells : OfficeState → Request → Told → Page) (s : OfficeState) (r : Request) (rs : List Request) (answered : ℕ) (page : Page) (cut : Cut) → IsAnswered old closed st tells s r answered page
+  open_last : (line : Option ℕ) (tells : OfficeState → Request → Told → Page) (s : OfficeState) (r : Request) (rs : List Request) (answered : ℕ) (page : Page) (cut : Cut)
+      → IsAnswered old closed st tells s r answered page
       → IsOpenAfter s (ended line (r ∷ rs) answered page cut)
   open_last line tells s r rs answered page cut (inl told) was = subst (λ n. IsOpenAt (after s (take n (r ∷ rs))) closed st) (sym told.0) told.2
   open_last line tells s r rs answered page cut (inr (none, (fault, is, (cause, inl stays)))) was = subst (λ n. IsOpenAt (after s (take n (r ∷ rs))) closed st) (sym none) stays.open_at

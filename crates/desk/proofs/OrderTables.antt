@@ -16,10 +16,12 @@ parts_are_all : (n : ℕ) (all : List OrderEntry) → map (λ (e : OrderEntry). 
 parts_are_all n all = sym (map-append (λ (e : OrderEntry). e.typed) (take n all) (drop n all)) ∙ ap (map (λ (e : OrderEntry). e.typed)) (take-append-drop n all)
 
 -- a command with the first orders, and with those behind them, has all
-pub has_all : {E : Type 0} (r : Result Command E) (app : App) (n : ℕ) (front back : List OrderWords) → front ≡ map (λ (e : OrderEntry). e.typed) (take n orders) → back ≡ map (λ (e : OrderEntry). e.typed) (drop n orders)
+pub has_all : {E : Type 0} (r : Result Command E) (app : App) (n : ℕ) (front back : List OrderWords) → front ≡ map (λ (e : OrderEntry). e.typed) (take n orders)
+    → back ≡ map (λ (e : OrderEntry). e.typed) (drop n orders)
     → app ≡ with_orders start_words front → IfOk r (λ c. app_of c ≡ with_orders app back) → IfOk r (λ c. app_of c ≡ office_words)
 unfolding office_words
 has_all (Ok c) app n front back front_is back_is one two =
     two ∙ (ap (λ (a : App). with_orders a back) one ∙ (sym (orders_behind start_words front back)
-    ∙ ap (with_orders start_words) (ap (λ (xs : List OrderWords). xs ++ back) front_is ∙ (ap (λ (ys : List OrderWords). map (λ (e : OrderEntry). e.typed) (take n orders) ++ ys) back_is ∙ parts_are_all n orders))))
+    ∙ ap (with_orders start_words) (ap (λ (xs : List OrderWords). xs ++ back) front_is ∙
+    (ap (λ (ys : List OrderWords). map (λ (e : OrderEntry). e.typed) (take n orders) ++ ys) back_is ∙ parts_are_all n orders))))
 has_all (Err e) app n front back front_is back_is one two = tt

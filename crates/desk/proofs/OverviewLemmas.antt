@@ -20,7 +20,8 @@ lines_viewed text view [] = refl
 lines_viewed text view (x ∷ xs) = ap (λ rest. line (text (view x)) ++ rest) (lines_viewed text view xs)
 
 -- lines of what was read, or why there are none, are what is told
-pub lines_found : {W X V : Type 0} (items : W → List X) (text : V → Text) (view : X → V) (s : OfficeState) (told : Result (List V) Reason) (found : Result W Stop) (page : Page) (closed : Bool) (old st : State)
+pub lines_found : {W X V : Type 0} (items : W → List X) (text : V → Text) (view : X → V) (s : OfficeState) (told : Result (List V) Reason)
+    (found : Result W Stop) (page : Page) (closed : Bool) (old st : State)
     → Read (λ w. map view (items w)) s told found closed st
     → IfOk found (λ w. (page ≡ printed (flat_map (λ x. line (text (view x))) (items w))) ⊎ (page ≡ failed (Office Memory)))
     → IfErr found (λ stop. page ≡ page_stopped stop)

@@ -1,5 +1,6 @@
 -- Texts that are put one behind the other, and what was told of a page.
-use Rattle.std.proofs.Common.{◌≡◌, ◌≢◌, ◌∙◌, ◌+◌, ◌<◌, inl, inr, ℕ, Bool, true, false, List, [], ◌∷◌, ◌++◌, length, take, drop, get_or, Option, Some, None, Result, Ok, Err, refl, sym, ap, subst, eqb-true, ne_eqb}
+use Rattle.std.proofs.Common.{◌≡◌, ◌≢◌, ◌∙◌, ◌+◌, ◌<◌, inl, inr, ℕ, Bool, true, false, List, [], ◌∷◌, ◌++◌, length}
+use Rattle.std.proofs.Common.{take, drop, get_or, Option, Some, None, Result, Ok, Err, refl, sym, ap, subst, eqb-true, ne_eqb}
 use Rattle.std.specs.Prelude.{◌==◌, IsErr}
 use Rattle.std.specs.Io.KnownBytes.{Appends}
 use Rattle.std.specs.List.{flat_map}
@@ -7,7 +8,7 @@ use Rattle.std.proofs.KnownBytes.{Appends-nil, Appends-trans}
 use Rattle.std.proofs.lemmas.Grind.{flat_map-append}
 use Rattle.std.proofs.lemmas.List.{append-nil, append_assoc, take_more, take-append-drop}
 use Rattle.clap.specs.Words.{Text}
-use Rattle.votes.proofs.Beginnings.{AppendsBeginning-front, AppendsBeginning-behind}
+use Rattle.streams.proofs.Beginnings.{AppendsBeginning-front, AppendsBeginning-behind}
 use Rattle.desk.specs.declared.lines.Failure.TheVariants.{Output}
 use Rattle.desk.specs.Pages.{Cut, uncut, cut_behind, cut_error, IsErrorTold, IsOutputBroken, IsPut, IsShown, IsWhole, Outputs}
 use Rattle.desk.specs.Pages.{Page, Shows, behind_front, below, cut_below, empty_page, failed, fronted, line_front, outputs_of, printed, status_behind}
@@ -39,7 +40,8 @@ module _ {W : Type 0} {taken : W → Option (List ℕ)} {failed : W → ℕ} {X 
   put_next_failed {old = old} {mid = mid} {new = new} {e = e} f items i d text r within is front next failure =
       let there = subst (λ a. IsPut {X = X} taken failed mid new a (Err e)) is next in
       let cut = subst (λ t. IsPut {X = X} taken failed old new t (Err e)) (sym (pieces_more f items i d within)) (put_behind {F = E} (Err e) front there) in
-      let whole : flat_map f (take (i + 1) items) ++ flat_map f (drop (i + 1) items) ≡ flat_map f items = sym (flat_map-append f (take (i + 1) items) (drop (i + 1) items)) ∙ ap (flat_map f) (take-append-drop (i + 1) items) in
+      let whole : flat_map f (take (i + 1) items) ++ flat_map f (drop (i + 1) items) ≡ flat_map f items = sym (flat_map-append f (take (i + 1) items) (drop (i + 1) items)) ∙ ap
+      (flat_map f) (take-append-drop (i + 1) items) in
       subst (λ t. IsPut taken failed old new t r) whole (put_failed (flat_map f (drop (i + 1) items)) r failure cut)
 
 -- ---- pages
@@ -153,7 +155,8 @@ whole_more old mid new above page before status first next = record {
 
 -- a text on the error output, behind one that was told whole
 error_behind : (old mid new : Outputs) (before text : Text) (status : ℕ) → Appends old.err mid.err before → mid.err_failed ≡ old.err_failed
-    → IsErrorTold (λ (o : Outputs). o.err) (λ (o : Outputs). o.err_failed) mid new text 3 status → IsErrorTold (λ (o : Outputs). o.err) (λ (o : Outputs). o.err_failed) old new (before ++ text) 3 status
+    → IsErrorTold (λ (o : Outputs). o.err) (λ (o : Outputs). o.err_failed) mid new text 3 status
+    → IsErrorTold (λ (o : Outputs). o.err) (λ (o : Outputs). o.err_failed) old new (before ++ text) 3 status
 error_behind old mid new before text status one same (inl whole) = inl (Appends-trans _ _ _ _ _ one whole.0, whole.1 ∙ same, whole.2)
 error_behind old mid new before text status one same (inr part) = inr (AppendsBeginning-behind _ _ _ _ _ one part.0, part.1 ∙ ap (λ n. n + 1) same, part.2)
 
@@ -212,18 +215,22 @@ module _ {O E : Type 0} (taken : O → Option (List ℕ)) (failed_out : O → �
       (rw (fronted_err line page byte bytes some, fronted_status line page) told)
 
   -- a text on the output, and a line on the error output behind the number
-  pub both_fronted : {X F : Type 0} {x : X} (line : Option ℕ) (old new : O) (err told : E) (page : Page) (status byte : ℕ) (bytes : Text) → page.err ≡ byte ∷ bytes → IsPut {E = F} taken failed_out old new page.out (Ok x)
+  pub both_fronted : {X F : Type 0} {x : X} (line : Option ℕ) (old new : O) (err told : E) (page : Page) (status byte : ℕ) (bytes : Text)
+      → page.err ≡ byte ∷ bytes → IsPut {E = F} taken failed_out old new page.out (Ok x)
       → IsErrorTold taken_err failed_err err told (line_front line ++ page.err) page.status status
       → Shows (outputs_of taken failed_out taken_err failed_err old err) (outputs_of taken failed_out taken_err failed_err new told) (fronted line page) status
   both_fronted {X} {F} {x} line old new err told page status byte bytes some put tells =
-      both_shown taken failed_out taken_err failed_err {X = X} {F = F} {x = x} old new err told (fronted line page) status (subst (λ text. IsPut {E = F} taken failed_out old new text (Ok x)) (sym (fronted_out line page)) put)
+      both_shown taken failed_out taken_err failed_err {X = X} {F = F} {x = x} old new err told (fronted line page) status
+      (subst (λ text. IsPut {E = F} taken failed_out old new text (Ok x)) (sym (fronted_out line page)) put)
       (subst (λ text. IsErrorTold taken_err failed_err err told text (fronted line page).status status) (sym (fronted_err line page byte bytes some))
       (subst (λ n. IsErrorTold taken_err failed_err err told (line_front line ++ page.err) n status) (sym (fronted_status line page)) tells))
 
   -- a beginning of the text, which is told behind that line
-  pub both_cut : {X F : Type 0} {f : F} (line : Option ℕ) (old new : O) (err told : E) (page : Page) (status byte : ℕ) (bytes : Text) → page.err ≡ byte ∷ bytes → IsPut {X = X} taken failed_out old new page.out (Err f)
+  pub both_cut : {X F : Type 0} {f : F} (line : Option ℕ) (old new : O) (err told : E) (page : Page) (status byte : ℕ) (bytes : Text) → page.err ≡ byte ∷ bytes
+      → IsPut {X = X} taken failed_out old new page.out (Err f)
       → IsErrorTold taken_err failed_err err told ((line_front line ++ page.err) ++ (failed Output).err) 3 status
       → Shows (outputs_of taken failed_out taken_err failed_err old err) (outputs_of taken failed_out taken_err failed_err new told) (fronted line page) status
   both_cut {X} {F} {f} line old new err told page status byte bytes some put tells =
-      both_broken taken failed_out taken_err failed_err {X = X} {F = F} {f = f} old new err told (fronted line page) status (subst (λ text. IsPut {X = X} taken failed_out old new text (Err f)) (sym (fronted_out line page)) put)
+      both_broken taken failed_out taken_err failed_err {X = X} {F = F} {f = f} old new err told (fronted line page) status
+      (subst (λ text. IsPut {X = X} taken failed_out old new text (Err f)) (sym (fronted_out line page)) put)
       (subst (λ text. IsErrorTold taken_err failed_err err told (text ++ (failed Output).err) 3 status) (sym (fronted_err line page byte bytes some)) tells)

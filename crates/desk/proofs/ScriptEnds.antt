@@ -63,7 +63,8 @@ unread_ends : (page : Page) → IsUnreadScript page → page.status ≢ 0
 unread_ends page (inl is) zero = let three : page.status ≡ 3 = ap (λ (p : Page). p.status) is in absurd (omega arith)
 unread_ends page (inr is) zero = let three : page.status ≡ 3 = ap (λ (p : Page). p.status) is in absurd (omega arith)
 
-unsent_ended : (Tells : Page → Type 0) (old : State) (closed : Bool) (st : State) (s : OfficeState) (page : Page) (cut : Cut) → page.status ≢ 0 → (Tells page × IsOpenAt s closed st) ⊎ IsStopped old closed st s page
+unsent_ended : (Tells : Page → Type 0) (old : State) (closed : Bool) (st : State) (s : OfficeState) (page : Page) (cut : Cut) → page.status ≢ 0
+    → (Tells page × IsOpenAt s closed st) ⊎ IsStopped old closed st s page
     → IsUnsent old closed st false None Tells (λ rest. ⊥) s (ended None [] 0 page cut)
 unsent_ended Tells old closed st s page cut other why = inr (page, cut, refl, (λ goes. absurd (stops_at page other goes)), why)
 
@@ -91,7 +92,8 @@ module _ (folder : Folder) (s : OfficeState) (keep : Bool) (path : Bor Text) (fi
       inr (unsent_ended _ old closed st s (script_page (script.ScriptLine number flaw)) cut (λ zero. absurd (omega arith)) (inl ((file, found, first_flaw file lines number flaw is holds), here)))
 
   -- what comes of the lines of a script
-  pub replay_of : (lines : List Typed) (c : Course) → HoldsText file (λ text. lines ≡ script_lines text) → IsReplayOf keep folder s lines c old closed st → IsDone old closed st folder s (job.Replay path keep) c
+  pub replay_of : (lines : List Typed) (c : Course) → HoldsText file (λ text. lines ≡ script_lines text) → IsReplayOf keep folder s lines c old closed st
+      → IsDone old closed st folder s (job.Replay path keep) c
   replay_of lines c holds (inl (turns, are, played)) = inl (turns, (file, found, holds_turns file lines turns are holds), played)
   replay_of lines c holds (inr (why, cut, is, wrong, here)) = subst (λ e. IsDone old closed st folder s (job.Replay path keep) e) (sym is) (replay_fault lines why cut wrong holds here)
 

@@ -24,7 +24,8 @@ turns_more [] turns line turn none is = (turn, [], ap (λ ts. ts ++ turn ∷ [])
 turns_more (l ∷ ls) turns line turn are is = (are.0, are.1 ++ turn ∷ [], ap (λ ts. ts ++ turn ∷ []) are.2, are.3, turns_more ls are.1 line turn are.4 is)
 
 -- what is wrong with a line that stands behind turns
-pub flaw_behind : (lines : List Typed) (turns : List ScriptStep) (line : Typed) (left : List Typed) (number : ℕ) (flaw : LineFlaw) → AreTurns lines turns → line.number ≡ number → IsFlawOf line.words flaw
+pub flaw_behind : (lines : List Typed) (turns : List ScriptStep) (line : Typed) (left : List Typed) (number : ℕ) (flaw : LineFlaw) → AreTurns lines turns
+    → line.number ≡ number → IsFlawOf line.words flaw
     → IsFirstFlaw (lines ++ line ∷ left) number flaw
 flaw_behind [] turns line left number flaw none here is = inl (here, is)
 flaw_behind (l ∷ ls) turns line left number flaw are here is = inr (are.0, are.3, flaw_behind ls are.1 line left number flaw are.4 here is)
@@ -39,7 +40,8 @@ module _ {X : Type 0} (f : X → List ℕ) where
   pub words_more : (first : Text) (xs : List X) (i : ℕ) (x : X) (texts new : List (Bor Text)) (text : Bor Text) → i < length xs → x ≡ get_or xs i x → new ≡ texts ++ text ∷ [] → text.now ≡ f x
       → map (λ t. t.now) texts ≡ first ∷ map f (take i xs) → map (λ t. t.now) new ≡ first ∷ map f (take (i + 1) xs)
   words_more first xs i x texts new text within is more same so =
-      ap (map (λ (t : Bor Text). t.now)) more ∙ (map-append (λ (t : Bor Text). t.now) texts (text ∷ []) ∙ (ap (λ l. l ++ text.now ∷ []) so ∙ (ap (λ t. first ∷ (map f (take i xs) ++ t ∷ [])) same ∙ ap (λ l. first ∷ l) (sym (one_more xs i x within is)))))
+      ap (map (λ (t : Bor Text). t.now)) more ∙ (map-append (λ (t : Bor Text). t.now) texts (text ∷ []) ∙
+      (ap (λ l. l ++ text.now ∷ []) so ∙ (ap (λ t. first ∷ (map f (take i xs) ++ t ∷ [])) same ∙ ap (λ l. first ∷ l) (sym (one_more xs i x within is)))))
 
   pub text_more : (xs : List X) (i : ℕ) (x : X) → i < length xs → x ≡ get_or xs i x → IsUtf8 (f x) → list_all is_utf8 (map f (take i xs)) ≡ true → list_all is_utf8 (map f (take (i + 1) xs)) ≡ true
   text_more xs i x within is text so =

@@ -106,7 +106,8 @@ module _ (ward : ℕ) (id : Text) where
       first : sent_as r ≡ advance_at ward id k
       first = numbered_first k (suc m) r (q ∷ others) are
 
-      by : (b : Bool) → (is_refused (step_of s r) || k == most_advances) ≡ b → (tail : List Request) × AreAdvances (after_one s r) ward id (suc k) (q ∷ tail) → (tail : List Request) × AreAdvances s ward id k (r ∷ tail)
+      by : (b : Bool) → (is_refused (step_of s r) || k == most_advances) ≡ b → (tail : List Request) × AreAdvances (after_one s r) ward id (suc k) (q ∷ tail)
+          → (tail : List Request) × AreAdvances s ward id k (r ∷ tail)
       by true e behind = ([], (first, rw e refl))
       by false e (tail, behind) = (q ∷ tail, (first, rw e behind))
 
@@ -118,7 +119,8 @@ module _ (ward : ℕ) (id : Text) where
   Going s k (r ∷ rs) end = (sent_as r ≡ advance_at ward id k) × (is_refused (step_of s r) ≡ false) × Going (after_one s r) (suc k) rs end
 
   -- one more
-  pub going_more : (s : OfficeState) (k : ℕ) (rs : List Request) (end : OfficeState) (r : Request) → Going s k rs end → sent_as r ≡ advance_at ward id (k + length rs) → is_refused (step_of end r) ≡ false
+  pub going_more : (s : OfficeState) (k : ℕ) (rs : List Request) (end : OfficeState) (r : Request) → Going s k rs end → sent_as r ≡ advance_at ward id (k + length rs)
+      → is_refused (step_of end r) ≡ false
       → Going s k (rs ++ r ∷ []) (after_one end r)
   going_more s k [] end r same is fine =
       let here : k + 0 ≡ k = omega arith in
@@ -164,7 +166,8 @@ pub record CountedSo (keep : Bool) (line : Option ℕ) (s : OfficeState) (ward :
   pub few : (i + 1) + left ≡ most_advances + 1
   pub numbered : Numbered ward id (i + 1) left (drop i rs)
 
-pub none_counted : (keep : Bool) (line : Option ℕ) (s : OfficeState) (ward : ℕ) (id : Text) (rs : List Request) (closed : Bool) (st : State) → IsOpenAt s closed st → map sent_as rs ≡ advances ward id most_advances
+pub none_counted : (keep : Bool) (line : Option ℕ) (s : OfficeState) (ward : ℕ) (id : Text) (rs : List Request) (closed : Bool) (st : State)
+    → IsOpenAt s closed st → map sent_as rs ≡ advances ward id most_advances
     → CountedSo keep line s ward id rs 0 empty_page closed st
 none_counted keep line s ward id rs closed st here are =
     record { end = s; open_at = here; front = []; many = refl; replied = (refl, refl); going = refl; left = most_advances; few = refl; numbered = are }
@@ -179,7 +182,8 @@ module _ (old : State) (keep : Bool) (line : Option ℕ) (s : OfficeState) (ward
       here = next_left rs i r within is
 
       go : (n : ℕ) → so.left ≡ n → (m : ℕ) × (so.left ≡ suc m) × Numbered ward id (i + 1) (suc m) (r ∷ drop (i + 1) rs)
-      go zero e = absurd (numbered_none ward id (i + 1) r (drop (i + 1) rs) (subst (λ k. Numbered ward id (i + 1) k (r ∷ drop (i + 1) rs)) e (subst (Numbered ward id (i + 1) so.left) here so.numbered)))
+      go zero e = absurd (numbered_none ward id (i + 1) r (drop (i + 1) rs) (subst (λ k. Numbered ward id (i + 1) k (r ∷ drop (i + 1) rs)) e
+          (subst (Numbered ward id (i + 1) so.left) here so.numbered)))
       go (suc n) e = (n, e, subst (λ k. Numbered ward id (i + 1) k (r ∷ drop (i + 1) rs)) e (subst (Numbered ward id (i + 1) so.left) here so.numbered))
 
   -- the next stage was counted
@@ -213,7 +217,8 @@ module _ (old : State) (keep : Bool) (line : Option ℕ) (s : OfficeState) (ward
 
   -- or it was the last that was told
   pub stage_last : (i : ℕ) (r : Request) (said : Page) (was : Bool) (before : State) (page : Page) (cut : Cut) (goes : Bool) (closed : Bool) (st : State) → i < length rs → r ≡ get_or rs i r
-      → (so : CountedSo keep line s ward id rs i said was before) → (known : Bool) → known ≡ is_first id r → IsStage old closed st known so.end r page goes → (goes ≡ true → page.status ≡ 0 → cut ≢ uncut)
+      → (so : CountedSo keep line s ward id rs i said was before) → (known : Bool) → known ≡ is_first id r → IsStage old closed st known so.end r page goes
+      → (goes ≡ true → page.status ≡ 0 → cut ≢ uncut)
       → (answered : ℕ) × (tail : List Request) × IsCounted old closed st keep line s ward id (told_above so.front said (ended line (r ∷ tail) answered page cut))
   stage_last i r said was before page cut goes closed st within is so known known_is (answered, met, goes_is) stops =
       let (n, left_is, numbered) = next_numbered i r said was before within is so in
@@ -260,7 +265,8 @@ module _ (old : State) (keep : Bool) (line : Option ℕ) (s : OfficeState) (ward
           by true e (inl told) =
               let none : tail ≡ [] = none_behind tail are (was_refused told.1 told.0 (λ yes zero. never yes zero refl)) in
               let fine : goes_on keep (answer (page_under id) so.end r).status ≡ true = ap (λ (p : Page). goes_on keep p.status) (sym told.1) ∙ e in
-              let same = ap (λ n. made (r ∷ []) n (fronted line page) uncut) told.0 ∙ (ap (λ p. made (r ∷ []) 1 (fronted line p) uncut) told.1 ∙ above_nothing (r ∷ []) (fronted line (answer (page_under id) so.end r))) in
+              let same = ap (λ n. made (r ∷ []) n (fronted line page) uncut) told.0 ∙
+              (ap (λ p. made (r ∷ []) 1 (fronted line p) uncut) told.1 ∙ above_nothing (r ∷ []) (fronted line (answer (page_under id) so.end r))) in
               subst (λ t. IsSent old closed st keep line (page_under id) (IsOver closed st) so.end (r ∷ t) (ended line (r ∷ t) answered page uncut)) (sym none)
               (inl (nothing_more, fine, same, (refl, told.2)))
 
@@ -271,7 +277,8 @@ module _ (old : State) (keep : Bool) (line : Option ℕ) (s : OfficeState) (ward
     where
       many : length so.front ≡ most_advances
       many =
-          let none : length (map (advance_at ward id) (range_with_len (i + 1) so.left)) ≡ 0 = ap (λ (xs : List Sent). length xs) (sym so.numbered) ∙ ap (λ (xs : List Request). length (map sent_as xs)) (drop_all i rs all) in
+          let none : length (map (advance_at ward id) (range_with_len (i + 1) so.left)) ≡ 0 = ap (λ (xs : List Sent). length xs) (sym so.numbered) ∙ ap
+          (λ (xs : List Request). length (map sent_as xs)) (drop_all i rs all) in
           let left : so.left ≡ 0 = sym (length-map-range_with_len (advance_at ward id) (i + 1) so.left) ∙ none in
           let few = so.few in
           let front = so.many in
@@ -281,7 +288,8 @@ module _ (old : State) (keep : Bool) (line : Option ℕ) (s : OfficeState) (ward
       by [] e = let bad : 0 ≡ most_advances = sym (ap (λ (xs : List Request). length xs) e) ∙ many in absurd (omega arith)
       by (r ∷ front) e = (
         so.front,
-        subst (AreAdvances s ward id 1) (sym e) (going_all ward id s 1 r front so.end (subst (λ xs. Going ward id s 1 xs so.end) e so.going) (let long = sym (ap (λ (xs : List Request). length xs) e) ∙ many in omega (arith, long))),
+        subst (AreAdvances s ward id 1) (sym e) (going_all ward id s 1 r front so.end (subst (λ xs. Going ward id s 1 xs so.end) e so.going)
+            (let long = sym (ap (λ (xs : List Request). length xs) e) ∙ many in omega (arith, long))),
         subst (λ xs. IsSent old closed st keep line (page_under id) (IsOver closed st) s xs (told_above so.front said nothing_more)) (append-nil so.front)
             (replied_then keep line (page_under id) (IsOver closed st) old closed st s so.front said so.end [] nothing_more so.replied (refl, so.open_at)),
       )

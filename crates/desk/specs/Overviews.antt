@@ -9,8 +9,8 @@ use Rattle.register.specs.Texts.{listed}
 use Rattle.register.specs.declared.polls.Judgement.{Judgement}
 use Rattle.register.specs.declared.polls.Judgement.TheVariants.{Valid, Rejected, Open}
 use Rattle.store.specs.Overviews.{BatchView, DifferencesView, DoubtfulPapersView, DoubtfulView, PaperView, PapersView, WardView}
-use Rattle.store.specs.declared.overviews.batches.Standing.{Standing}
-use Rattle.store.specs.declared.overviews.batches.Standing.TheVariants.{Taken, Differing, Waiting}
+use Rattle.store.specs.declared.overviews.batches.BatchStanding.{BatchStanding}
+use Rattle.store.specs.declared.overviews.batches.BatchStanding.TheVariants.{Taken, Differing, Waiting}
 use Rattle.office.specs.Overviews.{batches_told, differences_told, doubtful_told, papers_told, receipts_told, wards_told}
 use Rattle.desk.specs.Names.{name_in, names_of}
 use Rattle.desk.specs.Pages.{Page, line, page_found, printed, replied}
@@ -57,7 +57,7 @@ unfoldable pub clerk_words : ℕ × Bool → Text
 clerk_words c = codes ", clerk " ++ (decimal c.0 ++ (codes " " ++ keyed_word c.1))
 
 -- how it stands, in a word
-abbrev pub standing_word : Standing → Text
+abbrev pub standing_word : BatchStanding → Text
 standing_word Taken = codes "taken"
 standing_word Differing = codes "differing"
 standing_word Waiting = codes "waiting"

@@ -4,7 +4,7 @@ use Rattle.std.specs.Fmt.{decimal}
 use Rattle.std.specs.Io.KnownBytes.{Appends}
 use Rattle.std.specs.List.{flat_map}
 use Rattle.clap.specs.Words.{Text}
-use Rattle.votes.specs.Streams.{AppendsBeginning}
+use Rattle.streams.specs.Streams.{AppendsBeginning}
 use Rattle.register.specs.Offices.{OfficeState}
 use Rattle.register.specs.Keepings.{is_kept_otherwise}
 use Rattle.register.specs.Reasons.{reason_number, reason_text}

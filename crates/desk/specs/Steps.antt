@@ -62,7 +62,8 @@ nominations_words candidates seats = decimal candidates ++ (codes " candidates f
 -- what the seal waits for: it is due once all batches are taken, and all their doubtful papers are judged
 unfoldable pub seal_words : StatusEntry → Text
 seal_words s =
-    if s.batches == 0 then codes "no batch is given out yet" else (if s.taken == s.batches && s.doubtful_open == 0 then codes "the seal comes next" else codes "the seal comes once all are taken and judged")
+    if s.batches == 0 then codes "no batch is given out yet" else (if s.taken == s.batches && s.doubtful_open == 0 then codes "the seal comes next"
+    else codes "the seal comes once all are taken and judged")
 
 -- how many batches of a ward are taken, and how many differ
 unfoldable pub taken_words : StatusEntry → Text

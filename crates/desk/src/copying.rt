@@ -16,7 +16,7 @@ use office::{Holdings, Office};
 use sqlite::{Alter, Connection};
 use std::alloc::{AllocError, Global};
 use store::{CopyFault, Fault};
-use votes::Sink;
+use streams::Sink;
 
 #[tactic(auto, unfolding(crate::specs::Copying::copied_text))]
 /// How much a copy has, in a line without its end.

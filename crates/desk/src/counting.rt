@@ -15,7 +15,7 @@ use crate::lines::{LineOutcome, tell};
 use office::{Answer, Office};
 use register::{Reason, Refusal, Request};
 use sqlite::Alter;
-use votes::Sink;
+use streams::Sink;
 
 /// What comes of a refusal of one stage more: that the count rests is a reply.
 /// Behind the first request a ward in another phase is one that was declared since.

@@ -22,7 +22,7 @@ use rowcheck::Rows;
 use sqlite::{Alter, Connection};
 use std::alloc::{AllocError, Global};
 use store::Fault;
-use votes::Sink;
+use streams::Sink;
 
 /// The text of a journal that isn't tried yet, and the requests that a script's reader finds in it; None where it finds
 /// something else.

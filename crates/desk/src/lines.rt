@@ -14,8 +14,8 @@ use itoa::Buffer;
 use keyfile::{FileFault, Flaw};
 use register::{Refusal, Reply};
 use store::{CopyFault, Fault, Migrated};
+use streams::{Broken, Sink, put_all};
 use thiserror::Error;
-use votes::{Broken, Sink, put_all};
 
 /// What is printed where the journal that was written doesn't make its office, as where its receipts and its other tables don't belong together.
 const NO_JOURNAL: &str = "no journal: what was written does not make this office";

@@ -23,7 +23,7 @@ use paper::Columns;
 use register::Receipt;
 use sqlite::Alter;
 use std::alloc::{AllocError, Global};
-use store::{BatchOverview, ClerkOverview, Differences, Fault, Standing, WardOverview};
+use store::{BatchOverview, BatchStanding, ClerkOverview, Differences, Fault, WardOverview};
 
 /// What is printed in a line.
 trait Lined {
@@ -174,13 +174,13 @@ fn clerks_words(alloc: Global, clerks: &[ClerkOverview]) -> Result<String, Alloc
 }
 
 /// How it stands, in a word.
-fn standing_word(standing: Standing) -> &'static str
+fn standing_word(standing: BatchStanding) -> &'static str
     ensures { result.now ≡ standing_word standing }
 {
     match standing {
-        Standing::Taken => "taken",
-        Standing::Differing => "differing",
-        Standing::Waiting => "waiting",
+        BatchStanding::Taken => "taken",
+        BatchStanding::Differing => "differing",
+        BatchStanding::Waiting => "waiting",
     }
 }
 

@@ -14,7 +14,7 @@ use crate::replaying::follow;
 use office::Office;
 use sqlite::{Alter, Connection};
 use std::alloc::Global;
-use votes::Sink;
+use streams::Sink;
 
 /// Opens the office that a connection has, and does a job in it.
 fn in_office<S: Alter, F: Folder, O: Sink, E: Sink>(

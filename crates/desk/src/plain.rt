@@ -13,7 +13,7 @@ use sqlite::{Alter, Connection};
 use std::alloc::Global;
 use std::cell::Cell;
 use std::io::Read;
-use votes::Sink;
+use streams::Sink;
 
 /// A folder of one file, which is there for the first path that is opened, and for no other one.
 // No clause can say what a cell has, so none says which bytes the file has.

@@ -3,7 +3,7 @@
 ghost use Rattle.std.specs.Prelude.{◌≡◌};
 
 use std::io::Write;
-use votes::{Broken, Sink};
+use streams::{Broken, Sink};
 
 /// The count is printed after so many lines, and after so many more.
 const STEP: u64 = 100;

@@ -33,7 +33,7 @@ use std::alloc::Global;
 use std::io::{ErrorKind, Read};
 use std::slice;
 use store::Fault;
-use votes::Sink;
+use streams::Sink;
 
 /// The file that an errand reads, opened.
 fn opened<F: Folder>(folder: &F, errand: &Errand<'_>) -> Option<F::File>

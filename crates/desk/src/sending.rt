@@ -16,7 +16,7 @@ use office::{Answer, Office, Stop};
 use register::{Reply, Request};
 use sqlite::Alter;
 use store::Fault;
-use votes::Sink;
+use streams::Sink;
 
 /// Whether an order goes on after a page of this status: after one of status 0, and after a refusal where it is to keep
 /// going.

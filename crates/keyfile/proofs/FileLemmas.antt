@@ -95,7 +95,8 @@ module _ {Row : Type 0} (format : Format Row) where
       → IfErr (file_rows format (records ++ others)) (λ fault. length records ≤ fault.record_number)
   file_rows-late [] others rows is = cc
   file_rows-late (header ∷ records) others rows is =
-      rw (file_rows-append (header ∷ records) others rows is) (later (rows_from (read_record format header) (suc (length records)) others) (rows_from-late (read_record format header) (suc (length records)) others))
+      rw (file_rows-append (header ∷ records) others rows is) (later (rows_from (read_record format header) (suc (length records)) others)
+      (rows_from-late (read_record format header) (suc (length records)) others))
     where
       later : (rest : Result (List Row) FileFault) → IfErr rest (λ fault. suc (length records) ≤ fault.record_number) → IfErr (before rows rest) (λ fault. suc (length records) ≤ fault.record_number)
       later (Ok rest) late = tt

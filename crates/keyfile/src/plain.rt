@@ -1,8 +1,7 @@
 //! Import files read without options: no digest is asked for, and a keying's header names neither batch nor clerk.
 
-ghost use Rattle.std.specs.Prelude.{◌≡◌, false, ◌⊎◌, List, ℕ, map, IfOk, IfErr, IfSome, Ok, Err, string_bytes};
+ghost use Rattle.std.specs.Prelude.{◌≡◌, List, ℕ, map, IfOk, IfErr, Ok, string_bytes};
 ghost use Rattle.keyfile.specs.Candidates.{candidate_entry, candidates};
-ghost use Rattle.keyfile.specs.Faults.{is_failed_read};
 ghost use Rattle.keyfile.specs.Files.{IsFaultOf, file_rows};
 ghost use Rattle.keyfile.specs.Keying.{AreReadAsKeyed, plain_keying};
 ghost use Rattle.keyfile.specs.Reading.{Known};

@@ -4,7 +4,8 @@ use Rattle.std.specs.List.{list_all}
 use Rattle.std.specs.Ordering.{nat_cmp, is_eq}
 use Rattle.std.specs.Cmp.{unsigned_tied}
 use Rattle.std.proofs.lemmas.Bool.{and_parts, and_from, or_right, not-true, both_ways, eqb-true, eq-eqb, ne_eqb}
-use Rattle.register.specs.Offices.{BatchEntry, CandidateEntry, JudgedEntry, KeyedEntry, OfficeState, ThirdEntry, batch_at, batch_cmp, batch_compared, candidate_cmp, candidate_compared, candidates_of, changed}
+use Rattle.register.specs.Offices.{BatchEntry, CandidateEntry, JudgedEntry, KeyedEntry, OfficeState, ThirdEntry, batch_at}
+use Rattle.register.specs.Offices.{batch_cmp, batch_compared, candidate_cmp, candidate_compared, candidates_of, changed}
 use Rattle.register.specs.Offices.{judged_cmp, keyed_cmp, keying_of, third_at, third_cmp, third_compared}
 use Rattle.register.specs.Keyed.{is_given_out}
 use Rattle.register.specs.Keyings.{papers_from}
@@ -125,7 +126,8 @@ module _ (s : OfficeState) (n : ℕ) (b : BatchEntry) (m : ℕ) (is : IsState s)
   piles_kept (third_set t) of =
       piles_elsewhere s (with_effect (third_set t) s) n m s.batches (λ x away. pile_kept s (with_effect (third_set t) s) x (file_elsewhere s (third_set t) n of x away)) batches_elsewhere
   piles_kept (papers_keyed papers) of =
-      piles_elsewhere s (with_effect (papers_keyed papers) s) n m s.batches (λ x away. pile_kept s (with_effect (papers_keyed papers) s) x (file_elsewhere s (papers_keyed papers) n of x away)) batches_elsewhere
+      piles_elsewhere s (with_effect (papers_keyed papers) s) n m s.batches (λ x away. pile_kept s (with_effect (papers_keyed papers) s) x
+      (file_elsewhere s (papers_keyed papers) n of x away)) batches_elsewhere
   piles_kept (paper_judged v) of =
       piles_elsewhere s (with_effect (paper_judged v) s) n m s.batches (λ x away. pile_kept s (with_effect (paper_judged v) s) x (file_elsewhere s (paper_judged v) n of x away)) batches_elsewhere
   piles_kept effect of = absurd of

@@ -27,7 +27,8 @@ use Rattle.register.proofs.MachineLemmas.{step_stays}
 use Rattle.register.proofs.MapLemmas.{filter_put}
 use Rattle.register.specs.Standings.{paper_at, work_of}
 use Rattle.register.proofs.SeenLemmas.{paper_seen, ruling_on_seen, stands_alone, unseen_by, work_seen}
-use Rattle.laws.specs.Blindness.{AlikeOfficesAnswerAlike, ClerksAreBlind, DecidedByObserved, Observation, IsUnobserved, OwnAreObserved, SeenIsAlike, SeenIsObserved, asked, decided_alone, observed_at, observed_by, observed_of, is_shown, is_shown_command, made, own_rulings, ruling_on, seen_after}
+use Rattle.laws.specs.Blindness.{AlikeOfficesAnswerAlike, ClerksAreBlind, DecidedByObserved, Observation, IsUnobserved, OwnAreObserved, SeenIsAlike, SeenIsObserved, asked, decided_alone}
+use Rattle.laws.specs.Blindness.{observed_at, observed_by, observed_of, is_shown, is_shown_command, made, own_rulings, ruling_on, seen_after}
 
 -- ---- what of a change is seen
 
@@ -93,7 +94,12 @@ module _ (clerk : ℕ) (s : OfficeState) where
       }
       ≡ seen_by clerk t
   own_again wards t keyings receipts same =
-      ap (λ (ks : List KeyedEntry). record (seen_by clerk t) { wards = wards; keyings = ks; receipts = filter (λ (r : ReceiptEntry). r.actor == clerk) (filter (λ (r : ReceiptEntry). r.actor == clerk) s.receipts) })
+      ap (λ (ks : List KeyedEntry). record (seen_by clerk t) {
+        wards = wards;
+        keyings = ks;
+        receipts = filter (λ (r : ReceiptEntry). r.actor == clerk)
+            (filter (λ (r : ReceiptEntry). r.actor == clerk) s.receipts);
+      })
       (filter_again (λ (k : KeyedEntry). k.clerk == clerk) s.keyings ∙ ap (filter (λ (k : KeyedEntry). k.clerk == clerk)) (sym keyings))
       ∙ ap (λ (rs : List ReceiptEntry). record (seen_by clerk t) { wards = wards; receipts = rs })
       (filter_again (λ (r : ReceiptEntry). r.actor == clerk) s.receipts ∙ ap (filter (λ (r : ReceiptEntry). r.actor == clerk)) (sym receipts))
@@ -218,7 +224,8 @@ module _ (clerk : ℕ) where
   made_seen s (refuses why) by = refl
 
   -- none of his own requests is decided by it
-  none_decided : (seen : OfficeState) (ruling : Ruling) (observed : List Observation) → decided_alone clerk seen (observed_of ruling ++ observed) ≡ decided_alone clerk (seen_after clerk seen (observed_of ruling)) observed
+  none_decided : (seen : OfficeState) (ruling : Ruling) (observed : List Observation)
+      → decided_alone clerk seen (observed_of ruling ++ observed) ≡ decided_alone clerk (seen_after clerk seen (observed_of ruling)) observed
   none_decided seen (accepts change reply) observed =
       elim (is_shown change.effect) as (λ b. decided_alone clerk seen (cond b (made change.effect ∷ []) [] ++ observed)
       ≡ decided_alone clerk (seen_after clerk seen (cond b (made change.effect ∷ []) [])) observed) [ true ↦ refl | false ↦ refl ]

@@ -9,7 +9,7 @@ use checker::{ArgumentsFault, InputFiles, NotRead, run};
 use std::alloc::{AllocError, Global};
 use std::process::Abort;
 use std::test::Fail;
-use votes::{Counted, Sink};
+use streams::{Counted, Sink};
 
 /// What it prints of the sheet.
 const IS_SHEET: &str =

@@ -9,7 +9,7 @@ use sheet::{Poll, Ward, ballots_text, can_be_printed, write_ballots};
 use std::alloc::Global;
 use std::process::Abort;
 use std::test::Fail;
-use votes::{Broken, Sink};
+use streams::{Broken, Sink};
 
 /// Nobody stands at the numbers 2, 4 and 5, and names have what stands in quotation marks with a backslash.
 const GAPS: &str = r#"6 2

@@ -9,7 +9,8 @@ use paper::Columns;
 use std::alloc::{AllocError, Global};
 use std::process::Abort;
 use std::test::Fail;
-use votes::{Broken, Counted, Sink, Votes};
+use streams::{Broken, Counted, Sink};
+use votes::Votes;
 
 /// What is printed. What can't be printed is an error.
 pub trait Printed {

@@ -6,13 +6,13 @@ use crate::sheet_outputs::{Printed, candidates_of, is_text, print, stage_of, thr
 use count::{Action, Stage};
 use paper::Columns;
 use sheet::{
-    ListedWard, Poll, Standing, Ward, can_be_printed, index_text, page_text, write_index,
+    ListedWard, Poll, Ward, WardStanding, can_be_printed, index_text, page_text, write_index,
     write_page,
 };
 use std::alloc::{AllocError, Global};
 use std::process::Abort;
 use std::test::Fail;
-use votes::{Broken, Sink};
+use streams::{Broken, Sink};
 
 /// What stands above the style.
 const HEAD: &str = r##"<!DOCTYPE html>
@@ -399,7 +399,7 @@ fn listed(
     number: u32,
     name: &str,
     seats: u32,
-    standing: Standing,
+    standing: WardStanding,
 ) -> Result<ListedWard, AllocError> {
     Ok(ListedWard {
         number,
@@ -412,7 +412,7 @@ fn listed(
 
 /// A declared ward, with who is elected.
 fn declared(alloc: Global) -> Result<ListedWard, AllocError> {
-    let mut ward = listed(alloc, 7, "<Harbour>", 2, Standing::Declared)?;
+    let mut ward = listed(alloc, 7, "<Harbour>", 2, WardStanding::Declared)?;
     for (c, name) in &[(1, "Ann <b>"), (3, "רות")] {
         ward.elected.push((*c, String::from_str(alloc, *name)?))?;
     }
@@ -420,10 +420,10 @@ fn declared(alloc: Global) -> Result<ListedWard, AllocError> {
 }
 
 /// The wards that aren't declared.
-const OTHERS: [(u32, &str, u32, Standing); 3] = [
-    (8, "Quay", 4, Standing::Sealed),
-    (9, "Mill", 1, Standing::Keying),
-    (10, "Hill", 1, Standing::Nominations),
+const OTHERS: [(u32, &str, u32, WardStanding); 3] = [
+    (8, "Quay", 4, WardStanding::Sealed),
+    (9, "Mill", 1, WardStanding::Keying),
+    (10, "Hill", 1, WardStanding::Nominations),
 ];
 
 /// All wards.

@@ -11,7 +11,8 @@ use sheet::{
 use std::alloc::Global;
 use std::process::Abort;
 use std::test::Fail;
-use votes::{Broken, MAX_PAPERS, Sink};
+use streams::{Broken, Sink};
+use votes::MAX_PAPERS;
 
 const HARBOUR: &str = "Ward 7 Harbour
 Seats 2, valid 9, quota 4.00000

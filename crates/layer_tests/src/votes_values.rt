@@ -6,7 +6,8 @@ use std::io;
 use std::io::{ErrorKind, Read, Write};
 use std::process::Abort;
 use std::test::Fail;
-use votes::{Broken, Counted, Sink, Source, Votes, put_all, quota, transfer_value};
+use streams::{Broken, Counted, Sink, Source, put_all};
+use votes::{Votes, quota, transfer_value};
 
 /// Writes three bytes at a time, and fails once it has room no more.
 #[derive(Drop)]

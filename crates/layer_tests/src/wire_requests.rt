@@ -9,7 +9,7 @@ use std::io;
 use std::io::{ErrorKind, Read};
 use std::process::Abort;
 use std::test::Fail;
-use votes::{Counted, Source};
+use streams::{Counted, Source};
 use wire::{HttpRequest, HttpSettings, Keying, ReadFailure, RequestError, Show, read_request};
 
 /// How long a head may be, in bytes, how many headers it may have, and how long a body may be.

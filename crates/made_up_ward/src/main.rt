@@ -21,7 +21,7 @@ use count::{
     is_contest,
 };
 use paper::{Columns, Prefs};
-use source::Source;
+use source::PaperSource;
 use std::alloc::{AllocError, Global};
 use std::env;
 use votes::MAX_PAPERS;
@@ -43,7 +43,7 @@ fn candidates() -> Columns {
 }
 
 /// So many papers of a source, each for itself.
-fn listed(alloc: Global, source: &mut Source, count: u32) -> Result<Vec<Prefs>, AllocError> {
+fn listed(alloc: Global, source: &mut PaperSource, count: u32) -> Result<Vec<Prefs>, AllocError> {
     let mut papers = Vec::new(alloc);
     for _ in 0..count {
         if let Some(prefs) = source.next_paper() {
@@ -54,7 +54,7 @@ fn listed(alloc: Global, source: &mut Source, count: u32) -> Result<Vec<Prefs>, 
 }
 
 /// So many papers of a source, equal ones kept once.
-fn bundled(alloc: Global, source: &mut Source, count: u32) -> Result<Bundles, AllocError> {
+fn bundled(alloc: Global, source: &mut PaperSource, count: u32) -> Result<Bundles, AllocError> {
     let mut bundles = Bundles::new(alloc);
     for _ in 0..count {
         if let Some(prefs) = source.next_paper() {
@@ -101,7 +101,7 @@ fn main(rt: HostRuntime) -> Result<()> {
     let count = number_or(words.first(), 0)?;
     let lists = number_or(words.get(2), 0)?;
     let stages = number_or(words.get(3), ALL_STAGES)?;
-    let mut source = Source::new(rt.alloc(), lists)?;
+    let mut source = PaperSource::new(rt.alloc(), lists)?;
     let candidates = candidates();
     if words.get(1).is_some_and(|word| word.as_str() == "bundles") {
         let bundles = bundled(rt.alloc(), &mut source, count)?;

@@ -6,7 +6,7 @@ use std::alloc::{AllocError, Global};
 
 /// A source of papers: made up each for itself, or drawn from some lists.
 #[derive(Drop)]
-pub struct Source {
+pub struct PaperSource {
     generator: Generator,
     lists: Vec<Prefs>,
 }
@@ -17,9 +17,9 @@ fn made_up(generator: &mut Generator) -> Option<Prefs> {
     Prefs::from_slice(&order[..len])
 }
 
-impl Source {
+impl PaperSource {
     /// A source that draws from so many lists; with none, each paper is made up.
-    pub fn new(alloc: Global, lists: u32) -> Result<Source, AllocError> {
+    pub fn new(alloc: Global, lists: u32) -> Result<PaperSource, AllocError> {
         let mut generator = Generator::new();
         let mut made = Vec::new(alloc);
         for _ in 0..lists {
@@ -27,7 +27,7 @@ impl Source {
                 made.push(prefs)?;
             }
         }
-        Ok(Source {
+        Ok(PaperSource {
             generator,
             lists: made,
         })

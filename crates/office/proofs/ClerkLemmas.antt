@@ -60,11 +60,14 @@ module _ (clerk : ℕ) where
   first_told s r a rs next given is good same later = go (r.actor == clerk) refl
     where
       go : (b : Bool) → (r.actor == clerk) ≡ b
-          → map told (map (λ (p : Request × Answer). p.1) (cond b ((r, a) ∷ filter (λ (p : Request × Answer). p.0.actor == clerk) (zip rs given)) (filter (λ (p : Request × Answer). p.0.actor == clerk) (zip rs given))))
+          → map told (map (λ (p : Request × Answer). p.1) (cond b ((r, a) ∷ filter (λ (p : Request × Answer). p.0.actor == clerk) (zip rs given))
+          (filter (λ (p : Request × Answer). p.0.actor == clerk) (zip rs given))))
           ≡ map told_of (outcomes (seen_by clerk s) (cond b (r ∷ own_requests clerk next) (own_requests clerk next)))
       go true own =
-          let here : told_of (step_of s r) ≡ told_of (step_of (seen_by clerk s) r) = subst (λ (n : ℕ). told_of (step_of s r) ≡ told_of (step_of (seen_by n s) r)) (eqb-true r.actor clerk own) (told_seen s r.actor (string_bytes r.id) r.command good) in
-          let alone : seen_by clerk (after_one s r) ≡ after_one (seen_by clerk s) r = subst (λ (n : ℕ). seen_by n (after_one s r) ≡ after_one (seen_by n s) r) (eqb-true r.actor clerk own) (stands_alone s r.actor (string_bytes r.id) good is r.command) in
+          let here : told_of (step_of s r) ≡ told_of (step_of (seen_by clerk s) r) = subst (λ (n : ℕ). told_of (step_of s r) ≡ told_of (step_of (seen_by n s) r))
+          (eqb-true r.actor clerk own) (told_seen s r.actor (string_bytes r.id) r.command good) in
+          let alone : seen_by clerk (after_one s r) ≡ after_one (seen_by clerk s) r = subst (λ (n : ℕ). seen_by n (after_one s r) ≡ after_one (seen_by n s) r)
+          (eqb-true r.actor clerk own) (stands_alone s r.actor (string_bytes r.id) good is r.command) in
           ap (λ t. t ∷ map told (own_answers clerk rs given)) (same ∙ here)
           ∙ ap (λ ts. told_of (step_of (seen_by clerk s) r) ∷ ts) (later ∙ ap (λ (x : OfficeState). map told_of (outcomes x (own_requests clerk next))) alone)
       go false other = later ∙ ap (λ (x : OfficeState). map told_of (outcomes x (own_requests clerk next))) (unseen_by s r.actor (string_bytes r.id) good r.command clerk other)

@@ -20,7 +20,8 @@ abbrev views : Vec WardOverview Global → List WardView
 views wards = map ward_view wards.items
 
 -- why no ward is told is why the page isn't; a refusal is none, since the wards are never refused
-pub index_stopped : (title : List ℕ) (s : OfficeState) (stop : Stop) (closed : Bool) (st : State) → Read views s (wards_told s) (Err stop) closed st → Read (string_bytes {Z = Global}) s (index_told title s) (Err stop) closed st
+pub index_stopped : (title : List ℕ) (s : OfficeState) (stop : Stop) (closed : Bool) (st : State) → Read views s (wards_told s) (Err stop) closed st
+    → Read (string_bytes {Z = Global}) s (index_told title s) (Err stop) closed st
 index_stopped title s (Refused why) closed st read = absurd (never read.0)
   where
     never : {x : List WardView} {why : Reason} → ◌≡◌ {A = Result (List WardView) Reason} (Ok x) (Err why) → ⊥

@@ -2,8 +2,8 @@
 use Rattle.std.specs.Prelude.{ℕ, Bool, false, nat_eq, List, map, Option, Some, None, Result, Ok}
 use Rattle.std.specs.List.{filter, list_any}
 use Rattle.sheet.specs.Index.{ListedEntry, index}
-use Rattle.sheet.specs.declared.index.Standing.{Standing}
-use Rattle.sheet.specs.declared.index.Standing.TheVariants as standing
+use Rattle.sheet.specs.declared.index.WardStanding.{WardStanding}
+use Rattle.sheet.specs.declared.index.WardStanding.TheVariants as standing
 use Rattle.register.specs.declared.phase.Phase.{Phase}
 use Rattle.register.specs.declared.phase.Phase.TheVariants.{Nominations, Keying, Sealed, Declared}
 use Rattle.register.specs.declared.refusal.Reason.{Reason}
@@ -12,7 +12,7 @@ use Rattle.store.specs.Overviews.{WardView, ward_views}
 use Rattle.office.specs.Sheets.{candidate_shown}
 
 -- how a ward in a phase stands, for everyone
-abbrev pub standing_in : Phase → Standing
+abbrev pub standing_in : Phase → WardStanding
 standing_in Nominations = standing.Nominations
 standing_in Keying = standing.Keying
 standing_in Sealed = standing.Sealed

@@ -17,20 +17,20 @@ use crate::answers::Stop;
 use crate::offices::Office;
 use paper::Columns;
 use register::{Candidate, Phase};
-use sheet::{ListedWard, Standing, index_text};
+use sheet::{ListedWard, WardStanding, index_text};
 use sqlite::Alter;
 use std::alloc::{AllocError, Global};
 use store::{Fault, WardOverview};
 
 /// How a ward in a phase stands, for everyone.
-fn standing_in(phase: Phase) -> Standing
+fn standing_in(phase: Phase) -> WardStanding
     ensures { result ≡ standing_in phase }
 {
     match phase {
-        Phase::Nominations => Standing::Nominations,
-        Phase::Keying => Standing::Keying,
-        Phase::Sealed => Standing::Sealed,
-        Phase::Declared => Standing::Declared,
+        Phase::Nominations => WardStanding::Nominations,
+        Phase::Keying => WardStanding::Keying,
+        Phase::Sealed => WardStanding::Sealed,
+        Phase::Declared => WardStanding::Declared,
     }
 }
 

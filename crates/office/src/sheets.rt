@@ -172,7 +172,8 @@ fn written(
     text: Text,
 ) -> Result<String, AllocError>
     requires { CanBePrinted ward.now }
-    ensures { IfOk result (λ told. (e : ElectionEntry) → IsCountedWard e counted.now → is_counted e.ward.phase ≡ true → shown ward.now ≡ election_shown e → string_bytes told ≡ text_shown text.entry e) }
+    ensures { IfOk result (λ told. (e : ElectionEntry) → IsCountedWard e counted.now → is_counted e.ward.phase ≡ true
+        → shown ward.now ≡ election_shown e → string_bytes told ≡ text_shown text.entry e) }
 {
     match text {
         Text::Sheet => sheet_text(alloc, ward, stages_of(counted)),

@@ -5,7 +5,8 @@ use Rattle.std.proofs.lemmas.List.{append-nil, length-drop, length-take, take-ap
 use Rattle.std.proofs.lemmas.List.Sums.{fold-append}
 use Rattle.std.proofs.lemmas.Nat.{from_be_bytes-to_be_bytes_4}
 use Rattle.order_protocol.specs.Messages.{string}
-use Rattle.order_protocol.specs.Frames.{AreWhole, Decoded, IsOver, DecoderState, SaysMore, at_kind, behind_length, error_output_of, frame_bytes, decode, decode_at, nothing_decoded, over, said, output_of, said_err}
+use Rattle.order_protocol.specs.Frames.{AreWhole, Decoded, IsOver, DecoderState, SaysMore, at_kind, behind_length, error_output_of}
+use Rattle.order_protocol.specs.Frames.{frame_bytes, decode, decode_at, nothing_decoded, over, said, output_of, said_err}
 
 abbrev whole_heard : List ℕ → List ℕ → Decoded
 whole_heard output error = record { place = at_kind; output = output; error = error }

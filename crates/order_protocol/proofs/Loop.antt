@@ -11,11 +11,13 @@ use Rattle.order_protocol.specs.Reading.{◌>>=◌, Fails, piece_at, pieces_at}
 abbrev pub with_front : List MessagePartEntry → Result (List MessagePartEntry × List ℕ) FormatError → Result (List MessagePartEntry × List ℕ) FormatError
 with_front front read = read >>= λ x. Ok (front ++ x.0, x.1)
 
-regroup : (front : List MessagePartEntry) (n : MessagePartEntry) (read : Result (List MessagePartEntry × List ℕ) FormatError) → with_front front (read >>= λ x. Ok (n ∷ x.0, x.1)) ≡ with_front (front ++ n ∷ []) read
+regroup : (front : List MessagePartEntry) (n : MessagePartEntry) (read : Result (List MessagePartEntry × List ℕ) FormatError)
+    → with_front front (read >>= λ x. Ok (n ∷ x.0, x.1)) ≡ with_front (front ++ n ∷ []) read
 regroup front n (Ok x) = ap (λ (ns : List MessagePartEntry). Ok (ns, x.1)) (simp append_assoc)
 regroup front n (Err f) = refl
 
-pub goes_on : (front : List MessagePartEntry) (count i : ℕ) (bytes : List ℕ) (n : MessagePartEntry) (after : List ℕ) (total : Result (List MessagePartEntry × List ℕ) FormatError) → i < count → piece_at bytes ≡ Ok (n, after)
+pub goes_on : (front : List MessagePartEntry) (count i : ℕ) (bytes : List ℕ) (n : MessagePartEntry) (after : List ℕ) (total : Result (List MessagePartEntry × List ℕ) FormatError)
+    → i < count → piece_at bytes ≡ Ok (n, after)
     → with_front front (pieces_at (count - i) bytes) ≡ total → with_front (front ++ n ∷ []) (pieces_at (count - (i + 1)) after) ≡ total
 unfolding pieces_at
 goes_on front count i bytes n after total lt h so_far =
@@ -32,7 +34,8 @@ ends (errors.FormatError f) front count i bytes total lt h so_far =
     let one : with_front front (pieces_at (count - i) bytes) ≡ Err f = rw (k, h) refl in
     sym so_far ∙ one
 
-pub is_done : (front : List MessagePartEntry) (count i : ℕ) (bytes : List ℕ) (total : Result (List MessagePartEntry × List ℕ) FormatError) → count ≤ i → with_front front (pieces_at (count - i) bytes) ≡ total → total ≡ Ok (front, bytes)
+pub is_done : (front : List MessagePartEntry) (count i : ℕ) (bytes : List ℕ) (total : Result (List MessagePartEntry × List ℕ) FormatError) → count ≤ i
+    → with_front front (pieces_at (count - i) bytes) ≡ total → total ≡ Ok (front, bytes)
 unfolding pieces_at
 is_done front count i bytes total le so_far =
     let k : count - i ≡ 0 = omega arith in

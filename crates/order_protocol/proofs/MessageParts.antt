@@ -12,7 +12,8 @@ use Rattle.order_protocol.specs.declared.fault.FormatError.TheVariants.{Trailing
 use Rattle.order_protocol.specs.declared.fault.DecodeError.{DecodeError}
 use Rattle.order_protocol.specs.declared.order_message.OrderMessage.{OrderMessage}
 use Rattle.order_protocol.specs.declared.order_message.MessagePart.{MessagePart}
-use Rattle.order_protocol.specs.Messages.{Fits, OrderMessageEntry, MessagePartEntry, PieceFits, PiecesFit, order_message_entry, optional, piece, message_part_entries, message_part_entry, pieces, encoding_of, string}
+use Rattle.order_protocol.specs.Messages.{Fits, OrderMessageEntry, MessagePartEntry, PieceFits, PiecesFit, order_message_entry, optional}
+use Rattle.order_protocol.specs.Messages.{piece, message_part_entries, message_part_entry, pieces, encoding_of, string}
 use Rattle.order_protocol.specs.Reading.{◌>>=◌, Gives, order_message_in, list_at, number_at, optional_at, piece_at, pieces_at, string_at}
 use Rattle.order_protocol.proofs.Fields.{IsBytes, bind_ok, ok_is, Takes, Takes-then, wide32, wide64, number_takes, number_again, string_takes, string_again, optional_takes, optional_again}
 
@@ -41,7 +42,8 @@ piece_again p rest fits =
 
 -- ---- pieces
 
-pieces_take : (n : ℕ) (bytes : List ℕ) (x : List MessagePartEntry × List ℕ) → IsBytes bytes → pieces_at n bytes ≡ Ok x → Takes bytes (flat_map piece x.0) x.1 × (length x.0 ≡ n) × AllByRecursion PieceFits x.0
+pieces_take : (n : ℕ) (bytes : List ℕ) (x : List MessagePartEntry × List ℕ) → IsBytes bytes → pieces_at n bytes ≡ Ok x
+    → Takes bytes (flat_map piece x.0) x.1 × (length x.0 ≡ n) × AllByRecursion PieceFits x.0
 unfolding pieces_at
 pieces_take zero bytes x fits e =
     subst (λ (y : List MessagePartEntry × List ℕ). Takes bytes (flat_map piece y.0) y.1 × (length y.0 ≡ 0) × AllByRecursion PieceFits y.0) (ok_is ([], bytes) x e)
@@ -122,7 +124,8 @@ handed_again h fits =
       last,
     ) refl
 
-pub is_found : (bytes : List ℕ) (r : Result OrderMessage DecodeError) → IsBytes bytes → Gives order_message_entry r (order_message_in bytes) → IfOk r (λ h. Fits (order_message_entry h) × (bytes ≡ encoding_of (order_message_entry h)))
+pub is_found : (bytes : List ℕ) (r : Result OrderMessage DecodeError) → IsBytes bytes → Gives order_message_entry r (order_message_in bytes)
+    → IfOk r (λ h. Fits (order_message_entry h) × (bytes ≡ encoding_of (order_message_entry h)))
 is_found bytes (Ok h) fits given = handed_takes bytes (order_message_entry h) fits given
 is_found bytes (Err e) fits given = tt
 

@@ -35,7 +35,8 @@ numbers_shown (c ∷ cs) = ap (λ (ns : List ℕ). c.number ∷ ns) (numbers_sho
 -- ---- bundles
 
 -- papers that have preferences, each once, give bundles
-bundles_from : (bs : List Bundle) (papers : List (List ℕ)) → AreBundles bs → AllByRecursion (λ (paper : List ℕ). 1 ≤ length paper) papers → AreRankings papers → AreBundles (fold (λ cs paper. with_papers cs paper 1) bs papers)
+bundles_from : (bs : List Bundle) (papers : List (List ℕ)) → AreBundles bs → AllByRecursion (λ (paper : List ℕ). 1 ≤ length paper) papers → AreRankings papers
+    → AreBundles (fold (λ cs paper. with_papers cs paper 1) bs papers)
 bundles_from bs [] are some ranked = are
 bundles_from bs (paper ∷ papers) are some ranked = bundles_from (with_papers bs paper 1) papers (bundles-with_papers paper 1 bs (omega arith, some.0, ranked.0) are) some.1 ranked.1
 
@@ -43,7 +44,8 @@ election_bundles : (s : OfficeState) (w : WardEntry) → AreBundles (bundled (el
 unfolding IsStrictlySortedBy
 election_bundles s w =
     let columns : List ℕ = columns_of (candidates_of s w.number) in
-    bundles_from [] (election_of s w).ballots.papers (record { rise = tt; each = tt }) (papers_have_some columns (piles_of s w.number)) (papers_are_rankings columns (piles_of s w.number) (columns_are_set (candidates_of s w.number)))
+    bundles_from [] (election_of s w).ballots.papers (record { rise = tt; each = tt }) (papers_have_some columns (piles_of s w.number))
+    (papers_are_rankings columns (piles_of s w.number) (columns_are_set (candidates_of s w.number)))
 
 no_bundles : AreBundles []
 unfolding IsStrictlySortedBy
@@ -93,7 +95,8 @@ in_range s fine =
     record { wards = a.0; candidates = b.0; batches = c.0; lots = (and_parts (list_all is_lot s.lots) (list_all is_receipt s.receipts) g.1).0 }
 
 -- a ward of a state whose texts can be written, and whose columns are its candidates' numbers
-module _ (s : OfficeState) (w : WardEntry) (is : IsState s) (there : ward_at s w.number ≡ Some w) (columns : columns_of (candidates_of s w.number) ≡ map (λ c. c.number) (candidates_of s w.number)) (textual : IsTextual (election_of s w)) where
+module _ (s : OfficeState) (w : WardEntry) (is : IsState s) (there : ward_at s w.number ≡ Some w)
+    (columns : columns_of (candidates_of s w.number) ≡ map (λ c. c.number) (candidates_of s w.number)) (textual : IsTextual (election_of s w)) where
   abbrev candidates : List CandidateEntry
   candidates = candidates_of s w.number
 

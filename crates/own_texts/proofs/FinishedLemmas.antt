@@ -52,7 +52,8 @@ tied_is_lot (Lot stage kind tied) c is = refl
 tied_is_lot Finished c is = absurd (cc)
 
 -- a contested election whose count is finished, with the bundles of its papers
-module _ (e : ElectionEntry) (poll : Option Poll) (own : map (λ (candidate : ℕ × List ℕ). candidate.0) (map candidate_shown e.candidates) ≡ columns_of e.candidates) (contested : has_count e ≡ true) (finished : is_finished (due_of e) ≡ true) where
+module _ (e : ElectionEntry) (poll : Option Poll) (own : map (λ (candidate : ℕ × List ℕ). candidate.0) (map candidate_shown e.candidates) ≡ columns_of e.candidates)
+    (contested : has_count e ≡ true) (finished : is_finished (due_of e) ≡ true) where
   abbrev on_bundles : Contest
   on_bundles = contest_in (shown_with poll e) (bundled e.ballots.papers)
 
@@ -109,7 +110,8 @@ module _ (e : ElectionEntry) (poll : Option Poll) (own : map (λ (candidate : �
   unfolding dues_of
   drawn lot was small =
       let at : ℕ → Due = λ k. due_after on_bundles (stages_to on_bundles e.lots k) in
-      let found : get_or (map at (range_with_len 0 256)) (lot.0 - 1) Finished ≡ at (lot.0 - 1) = get_or-map-range_with_len at 0 256 (lot.0 - 1) (lot.0 - 1) Finished (omega (arith, small)) (omega arith) in
+      let found : get_or (map at (range_with_len 0 256)) (lot.0 - 1) Finished ≡ at (lot.0 - 1) = get_or-map-range_with_len at 0 256 (lot.0 - 1)
+      (lot.0 - 1) Finished (omega (arith, small)) (omega arith) in
       let tied = (and_parts (nat_le lot.0 (e.ward.done + 1)) _ was).1 in
       ap is_lot (found ∙ same_due (lot.0 - 1)) ∙ tied_is_lot (due_after (contest_of e) (stages_to (contest_of e) e.lots (lot.0 - 1))) lot.1 tied
 

@@ -30,7 +30,8 @@ declared_finished s w of declared = declared_is_finished (election_of s w) (decl
 
 -- by the laws of reading back, of the texts, and of a ward's columns
 module _
-    (read_back : AreReadBack) (checked_so : AreCheckedAsTold) (hindered_so : AreHinderedAsTold) (textual : (s : OfficeState) (w : WardEntry) → IsState s → ward_at s w.number ≡ Some w → IsTextual (election_of s w))
+    (read_back : AreReadBack) (checked_so : AreCheckedAsTold) (hindered_so : AreHinderedAsTold) (textual : (s : OfficeState) (w : WardEntry) → IsState s
+    → ward_at s w.number ≡ Some w → IsTextual (election_of s w))
     (columns : (s : OfficeState) (ward : ℕ) → IsState s → columns_of (candidates_of s ward) ≡ map (λ c. c.number) (candidates_of s ward)) (s : OfficeState) (w : WardEntry)
   where
     can : IsWardOf s w → CanBeReadBack (election_shown (election_of s w)) (bundles_shown (election_of s w)) (lots_shown (election_of s w))

@@ -70,7 +70,8 @@ module _ (e : ElectionEntry) (sealed : is_counted e.ward.phase ≡ true) (right 
       go true contested = none_by_lots (contest_of e) e.lots (stages_of e) (rw declared at (drawn_and_ended contested).1)
 
   module _
-      (columns : map (λ (candidate : ℕ × List ℕ). candidate.0) (map candidate_shown e.candidates) ≡ columns_of e.candidates) (fair : has_count e ≡ true → IsContest (contest_of e)) (small : AreSmall e.lots) (finished : IsFinished e)
+      (columns : map (λ (candidate : ℕ × List ℕ). candidate.0) (map candidate_shown e.candidates) ≡ columns_of e.candidates) (fair : has_count e ≡ true
+      → IsContest (contest_of e)) (small : AreSmall e.lots) (finished : IsFinished e)
     where
       abbrev shown_by : Bool → SheetEntry
       shown_by b = shown_with (cond b (Some (record { valid = length e.ballots.papers; rejected = e.ballots.rejected })) None) e
@@ -79,7 +80,8 @@ module _ (e : ElectionEntry) (sealed : is_counted e.ward.phase ≡ true) (right 
       IsCompared b text told = IsComparison text (sheet (shown_by b) (reverse (stages_of e))) (declaration (shown_by b) (elected_of e)) told
 
       -- what is told of a text that is the sheet or the declaration
-      by_contest : (text : List ℕ) (answer : Checked) → IsYes answer → (b : Bool) → has_count e ≡ b → IsCompared b text answer → HasYes (shown_by b) (cond b (bundled e.ballots.papers) []) (cond b e.lots []) text answer
+      by_contest : (text : List ℕ) (answer : Checked) → IsYes answer → (b : Bool) → has_count e ≡ b → IsCompared b text answer
+          → HasYes (shown_by b) (cond b (bundled e.ballots.papers) []) (cond b e.lots []) text answer
       by_contest text answer is_yes true contested is =
           let poll : Poll = record { valid = length e.ballots.papers; rejected = e.ballots.rejected } in
           let elected = sym (same_elected e (Some poll) columns contested finished) in
@@ -90,5 +92,6 @@ module _ (e : ElectionEntry) (sealed : is_counted e.ward.phase ≡ true) (right 
           let own = subst (λ (h : History). IsComparison text (sheet (shown_by false) (reverse h)) (declaration (shown_by false) (elected_of e)) answer) (no_stages uncontested) is in
           uncontested_has (shown_by false) text answer refl is_yes (subst (λ (cs : List ℕ). IsComparison text (sheet (shown_by false) []) (declaration (shown_by false) cs) answer) all own)
 
-      pub own_yes : (text : List ℕ) (answer : Checked) → IsYes answer → IsComparison text (sheet_of e) (declaration_of e) answer → HasYes (election_shown e) (bundles_shown e) (lots_shown e) text answer
+      pub own_yes : (text : List ℕ) (answer : Checked) → IsYes answer → IsComparison text (sheet_of e) (declaration_of e) answer
+          → HasYes (election_shown e) (bundles_shown e) (lots_shown e) text answer
       own_yes text answer is_yes is = by_contest text answer is_yes (has_count e) refl is

@@ -40,7 +40,8 @@ unfolding stages_to same_marks preferences_from
 finished = refl
 
 is_state : IsState worked
-unfolding stages_to same_marks preferences_from is_ward is_candidate is_batch is_keyed_paper is_judged_paper is_lot is_name is_utf8 chars encode_utf8 are_rounds_to are_numbered all_agreed all_counted IsStrictlySortedBy
+unfolding stages_to same_marks preferences_from is_ward is_candidate is_batch is_keyed_paper is_judged_paper is_lot is_name is_utf8 chars encode_utf8
+    are_rounds_to are_numbered all_agreed all_counted IsStrictlySortedBy
 is_state = record {
   in_range = refl;
   nominated = refl;
@@ -49,7 +50,17 @@ is_state = record {
   judged = refl;
   agreed = refl;
   counted = refl;
-  rise = record { wards = (tt, tt); candidates = ((refl, (refl, tt)), ((refl, tt), (tt, tt))); batches = (tt, tt); thirds = tt; keyings = ((refl, (refl, (refl, tt))), ((refl, (refl, tt)), ((refl, tt), (tt, tt)))); verdicts = (tt, tt); lots = (tt, tt); receipts = tt };
+  rise = record {
+    wards = (tt, tt);
+    candidates = ((refl, (refl, tt)), ((refl, tt), (tt, tt)));
+    batches = (tt, tt);
+    thirds = tt;
+    keyings =
+        ((refl, (refl, (refl, tt))), ((refl, (refl, tt)), ((refl, tt), (tt, tt))));
+    verdicts = (tt, tt);
+    lots = (tt, tt);
+    receipts = tt;
+  };
 }
 
 its_ward : IsWardOf worked harbour

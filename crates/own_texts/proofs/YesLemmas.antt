@@ -74,7 +74,8 @@ pub record HasYes (ward : SheetEntry) (bundles : List Bundle) (lots : List (ℕ 
   pub unhindered : (why : Problem) → IsWardProblem ward.poll ward bundles lots why → why ≡ problem.Memory
 
 -- then it is confirmed by the ward's ballots
-pub confirmed : (ward : SheetEntry) (bundles : List Bundle) (lots : List (ℕ × ℕ)) (text : List ℕ) (answer : Checked) → AreReadBack → AreCheckedAsTold → AreHinderedAsTold → CanBeReadBack ward bundles lots
+pub confirmed : (ward : SheetEntry) (bundles : List Bundle) (lots : List (ℕ × ℕ)) (text : List ℕ) (answer : Checked) → AreReadBack → AreCheckedAsTold
+    → AreHinderedAsTold → CanBeReadBack ward bundles lots
     → HasYes ward bundles lots text answer → IsConfirmed (ballots ward bundles lots) text answer
 confirmed ward bundles lots text answer read_back checked_so hindered_so can has =
     let back : IsReadBack ward bundles lots = read_back ward bundles lots can in
@@ -92,10 +93,12 @@ confirmed ward bundles lots text answer read_back checked_so hindered_so can has
 
 -- ---- an uncontested ward
 
-pub uncontested_has : (ward : SheetEntry) (text : List ℕ) (answer : Checked) → ward.poll ≡ None → IsYes answer → IsComparison text (sheet ward []) (declaration ward (numbers_of ward)) answer → HasYes ward [] [] text answer
+pub uncontested_has : (ward : SheetEntry) (text : List ℕ) (answer : Checked) → ward.poll ≡ None → IsYes answer
+    → IsComparison text (sheet ward []) (declaration ward (numbers_of ward)) answer → HasYes ward [] [] text answer
 uncontested_has ward text answer none is_yes is = record {
   told = subst (λ (poll : Option Poll). IsWardCheck poll ward [] [] text answer) (sym none) is;
-  alone = λ other told. alone_among text (sheet ward []) (declaration ward (numbers_of ward)) (apart ward [] (numbers_of ward)) answer is_yes is other (subst (λ (poll : Option Poll). IsWardCheck poll ward [] [] text other) none told);
+  alone = λ other told. alone_among text (sheet ward []) (declaration ward (numbers_of ward)) (apart ward [] (numbers_of ward)) answer is_yes is other
+      (subst (λ (poll : Option Poll). IsWardCheck poll ward [] [] text other) none told);
   unhindered = λ why told. subst (λ (poll : Option Poll). IsWardProblem poll ward [] [] why) none told;
 }
 
@@ -124,7 +127,8 @@ module _
       compared = is;
     }
 
-    counted_alone : (text : List ℕ) (answer : Checked) → IsYes answer → IsCompared (reverse (stages_of e)) text answer → (other : Checked) → IsCountedCheck ward (bundled e.ballots.papers) e.lots text other → other ≡ answer
+    counted_alone : (text : List ℕ) (answer : Checked) → IsYes answer → IsCompared (reverse (stages_of e)) text answer → (other : Checked)
+        → IsCountedCheck ward (bundled e.ballots.papers) e.lots text other → other ≡ answer
     counted_alone text answer is_yes is other told =
         let same : told.stages ≡ reverse (stages_of e) = stages_alone e (Some poll) own contested finished told.stages end.Finished told.counted in
         let elected : List ℕ = elected_after contest (reverse (reverse (stages_of e))) in

@@ -134,7 +134,8 @@ module _ (s : OfficeState) (effect : EffectEntry) (n : ℕ) (b : BatchEntry) (is
   rounds_elsewhere own =
       let test : BatchEntry → Bool = λ x. are_rounds_to s x x.round in
       let was : list_all test s.batches ≡ true = (and_parts _ _ is.keyed).1 in
-      all_but_number (λ (x : BatchEntry). x.number) s.batches n b test (λ x. are_rounds_to (with_effect effect s) x x.round) is.rise.batches found (λ same. own (found_passes (batch_compared n) test b s.batches was found))
+      all_but_number (λ (x : BatchEntry). x.number) s.batches n b test (λ x. are_rounds_to (with_effect effect s) x x.round) is.rise.batches found
+      (λ same. own (found_passes (batch_compared n) test b s.batches was found))
       (λ x other. rounds_kept s (with_effect effect s) x (file_elsewhere s effect n of x other)) was
 
   -- and so are the verdicts

@@ -76,8 +76,17 @@ each_counted_once : (js : List Judgement) → list_all is_decided js ≡ true
 each_counted_once [] decided = refl
 each_counted_once (j ∷ js) decided =
     let parts = and_parts (is_decided j) (list_all is_decided js) decided in
-    omega
-    (arith, length-append (preferences_by j) (flat_map preferences_by js), counted j js 1, counted j js 2, counted j js 3, counted j js 4, counted j js 5, one_each j parts.0, each_counted_once js parts.1)
+    omega (
+      arith,
+      length-append (preferences_by j) (flat_map preferences_by js),
+      counted j js 1,
+      counted j js 2,
+      counted j js 3,
+      counted j js 4,
+      counted j js 5,
+      one_each j parts.0,
+      each_counted_once js parts.1,
+    )
 
 -- ---- each paper of a batch that is settled is decided
 

@@ -74,7 +74,8 @@ nomination_rows =
     }
 
 pub keyed_rows : KeyedRows
-unfolding step decided is_id keyings.subject_of keyings.reply_to keyings.papers_from first_bad_marks batches.subject_of batches.reply_to verdicts.subject_of verdicts.reply_to counts.subject_of same_marks digits
+unfolding step decided is_id keyings.subject_of keyings.reply_to keyings.papers_from first_bad_marks batches.subject_of batches.reply_to verdicts.subject_of
+    verdicts.reply_to counts.subject_of same_marks digits
 keyed_rows =
     record {
       first_clerk = λ papers are. simp are refl;

@@ -9,7 +9,8 @@ ghost use Rattle.register.specs.Parts.{part_entries};
 ghost use Rattle.register.specs.Effects.{effect_entry};
 ghost use Rattle.register.specs.Elections.{has_finished, is_among};
 ghost use Rattle.register.specs.Additions.{IsAddedBy};
-ghost use Rattle.register.specs.Counts.{is_in_range, is_ready, lot_objection, waits_at, phase_for, own_objections, objections, subject_of, stage_after, next_stage, poll_told, action_told, reply_to, effect_of};
+ghost use Rattle.register.specs.Counts.{is_in_range, is_ready, lot_objection, waits_at, phase_for, own_objections, objections};
+ghost use Rattle.register.specs.Counts.{subject_of, stage_after, next_stage, poll_told, action_told, reply_to, effect_of};
 
 use crate::additions;
 use crate::decision::Effect;

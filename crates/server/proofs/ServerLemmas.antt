@@ -11,7 +11,7 @@ use Rattle.std.proofs.lemmas.List.Sums.{sum_by-append}
 use Rattle.sqlite.specs.Held.{Held}
 use Rattle.sqlite.specs.State.{HasCleanDisk, State}
 use Rattle.office.specs.Values.{OfficeValue}
-use Rattle.votes.specs.declared.streams.Broken.{Broken}
+use Rattle.streams.specs.declared.streams.Broken.{Broken}
 use Rattle.connections.specs.Removals.{removed_of}
 use Rattle.connections.specs.Streams.{HasTaken, Stream, failed_after, one_more}
 use Rattle.connections.specs.Clients.{IsNew, IsOf}

@@ -2,7 +2,7 @@
 use Rattle.std.specs.Io.KnownBytes.{IsAtEnd}
 use Rattle.std.proofs.Common.{◌≡◌, ◌≤◌, ◌∙◌, ◌∷◌, ◌++◌, ℕ, Bool, List, [], false, true, None, Option, Some, ap, inl, inr, is_some, length, map, option_map, refl, subst, sym, true≢false}
 use Rattle.std.specs.Prelude.{Err, IfSome, Ok, Result, not}
-use Rattle.votes.specs.declared.streams.Broken.{Broken as Failure}
+use Rattle.streams.specs.declared.streams.Broken.{Broken as Failure}
 use Rattle.connections.specs.Closing.{EndsFor}
 use Rattle.connections.specs.Traces.{IsServiceOutcome, IsMomentOf}
 use Rattle.connections.specs.Tables.{NetworkEntry, with_failure, with_moment}

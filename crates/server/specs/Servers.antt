@@ -8,7 +8,7 @@ use Rattle.register.specs.Offices.{empty_office}
 use Rattle.register.specs.declared.command.Request.{Request}
 use Rattle.store.specs.Offices.{IsAt}
 use Rattle.office.specs.Values.{OfficeValue}
-use Rattle.votes.specs.declared.streams.Broken.{Broken}
+use Rattle.streams.specs.declared.streams.Broken.{Broken}
 use Rattle.connections.specs.Closing.{AreClosedByRule, IsClosed, IsClosedForBytes, with_all_removed}
 use Rattle.connections.specs.Removals.{removed_of}
 use Rattle.connections.specs.Traces.{Trace, ResponseAt}

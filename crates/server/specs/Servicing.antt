@@ -3,7 +3,7 @@ use Rattle.std.specs.Prelude.{◌≡◌, ◌≢◌, ◌⊎◌, ⊤, Bool, true, 
 use Rattle.std.specs.Io.KnownBytes.{IsAtEnd}
 use Rattle.sqlite.specs.Held.{Held}
 use Rattle.sqlite.specs.State.{State}
-use Rattle.votes.specs.declared.streams.Broken.{Broken}
+use Rattle.streams.specs.declared.streams.Broken.{Broken}
 use Rattle.connections.specs.Traces.{IsServiceOutcome, IsMomentOf, ResponseAt, with_gate}
 use Rattle.connections.specs.Streams.{Receives, HasTaken, Stream}
 use Rattle.connections.specs.Tables.{NetworkEntry, after_look}

@@ -8,7 +8,7 @@ ghost use Rattle.server.specs.FrameSinks.{IsEnded, IsGoingOut, said_through};
 use connections::{PendingResponse, Stream, deliver};
 use order_protocol::{MAX_FRAME, put_end_frame, put_error_frames, put_output};
 use std::alloc::{AllocError, Global};
-use votes::{Broken, Sink};
+use streams::{Broken, Sink};
 
 /// The most bytes of the response to one order. For a longer one, end `serve` first.
 const MAX_ANSWER: usize = 32 << 20;

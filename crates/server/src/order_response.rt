@@ -23,7 +23,7 @@ use order_protocol::{MessagePart, OrderMessage};
 use sqlite::Alter;
 use std::alloc::{AllocError, Global};
 use store::Fault;
-use votes::Sink;
+use streams::Sink;
 
 /// The files that came with an order, and the folder in which it was typed. At any other path there is no file.
 #[derive(Clone, Copy)]

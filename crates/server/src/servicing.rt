@@ -31,7 +31,7 @@ use connections::{
 use office::Office;
 use sqlite::Alter;
 use std::alloc::Global;
-use votes::Broken;
+use streams::Broken;
 use wire::{
     Completeness, HttpRequest, HttpSettings, MAX_HEAD_BYTES, Parsed, Resource, Response, Routes,
     Served, answer_keying, parse, respond, tell_no_memory, write_gone_response, write_response,

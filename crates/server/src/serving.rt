@@ -32,7 +32,7 @@ use office::Office;
 use sqlite::Alter;
 use std::alloc::{AllocError, Global};
 use std::time::Duration;
-use votes::Broken;
+use streams::Broken;
 
 /// How long the next wait may be, in milliseconds, while a connection may be pending that no event reports.
 const LOOK: u64 = 1_000;

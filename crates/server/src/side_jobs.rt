@@ -10,7 +10,7 @@ ghost use Rattle.server.specs.ServedOrders.{IsCopyTold};
 
 use office::Office;
 use sqlite::Alter;
-use votes::Sink;
+use streams::Sink;
 
 /// The destination of a copy: a path, as seen from a folder.
 #[derive(Clone, Copy)]

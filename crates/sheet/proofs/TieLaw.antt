@@ -45,7 +45,8 @@ filter_twice : (p q : ℕ → Bool) (xs : List ℕ) → filter p (filter q xs) �
 filter_twice p q [] = refl
 filter_twice p q (x ∷ xs) = by (q x) (filter_twice p q xs)
   where
-    by : (b : Bool) → filter p (filter q xs) ≡ filter (λ y. q y && p y) xs → filter p (cond b (x ∷ filter q xs) (filter q xs)) ≡ cond (b && p x) (x ∷ filter (λ y. q y && p y) xs) (filter (λ y. q y && p y) xs)
+    by : (b : Bool) → filter p (filter q xs) ≡ filter (λ y. q y && p y) xs → filter p (cond b (x ∷ filter q xs) (filter q xs)) ≡ cond (b && p x)
+        (x ∷ filter (λ y. q y && p y) xs) (filter (λ y. q y && p y) xs)
     by true later = ap (λ l. cond (p x) (x ∷ l) l) later
     by false later = later
 

@@ -6,8 +6,8 @@ use Rattle.std.specs.Io.KnownBytes.{Appends}
 use Rattle.std.specs.Str.{IsUtf8}
 use Rattle.std.proofs.KnownBytes.{Appends-nil, Appends-trans}
 use Rattle.std.proofs.lemmas.Str.{IsUtf8-nil, IsUtf8-append}
-use Rattle.votes.specs.Streams.{AppendsBeginning}
-use Rattle.votes.proofs.Beginnings.{AppendsBeginning-front, AppendsBeginning-behind}
+use Rattle.streams.specs.Streams.{AppendsBeginning}
+use Rattle.streams.proofs.Beginnings.{AppendsBeginning-front, AppendsBeginning-behind}
 use Rattle.sheet.specs.Writing.{Puts, Writes}
 use Rattle.sheet.proofs.Joined.{flat_map-take_more, flat_map-parted}
 

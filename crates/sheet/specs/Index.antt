@@ -5,8 +5,8 @@ use Rattle.std.specs.declared.alloc.Global.{Global}
 use Rattle.sheet.specs.Lines.{line, named}
 use Rattle.sheet.specs.Look.{style}
 use Rattle.sheet.specs.Page.{title_line}
-use Rattle.sheet.specs.declared.index.Standing.{Standing}
-use Rattle.sheet.specs.declared.index.Standing.TheVariants.{Nominations, Keying, Sealed, Declared}
+use Rattle.sheet.specs.declared.index.WardStanding.{WardStanding}
+use Rattle.sheet.specs.declared.index.WardStanding.TheVariants.{Nominations, Keying, Sealed, Declared}
 use Rattle.sheet.specs.declared.index.ListedWard.{ListedWard}
 
 -- a ward with plain texts: its number, its name, its seats, how it stands, and the number and the name of each who is elected, once that is declared
@@ -14,7 +14,7 @@ pub record ListedEntry : Type 0 where
   pub number : ℕ
   pub name : List ℕ
   pub seats : ℕ
-  pub standing : Standing
+  pub standing : WardStanding
   pub elected : List (ℕ × List ℕ)
 
 -- an elected candidate, with his plain name
@@ -26,7 +26,7 @@ abbrev pub listed : ListedWard → ListedEntry
 listed ward = record { number = ward.number; name = string_bytes ward.name; seats = ward.seats; standing = ward.standing; elected = map elected_shown ward.elected.items }
 
 -- how a ward stands
-abbrev pub standing_words : Standing → List ℕ
+abbrev pub standing_words : WardStanding → List ℕ
 standing_words Nominations = codes "nominations are open"
 standing_words Keying = codes "its papers are being keyed"
 standing_words Sealed = codes "sealed, not declared yet"

@@ -2,7 +2,7 @@
 use Rattle.std.specs.Prelude.{◌≡◌, ℕ, ◌+◌, List, Option, Result, OnOk, OnErr}
 use Rattle.std.specs.Io.KnownBytes.{Appends}
 use Rattle.std.specs.Str.{IsUtf8}
-use Rattle.votes.specs.Streams.{AppendsBeginning}
+use Rattle.streams.specs.Streams.{AppendsBeginning}
 
 -- a text in UTF-8 was written whole, and no failure more is counted; or, on an error, a beginning of it was, and one failure more is counted
 pub record Writes {W X E : Type 0} (taken : W → Option (List ℕ)) (failed : W → ℕ) (old new : W) (text : List ℕ) (result : Result X E) : Type 0 where

@@ -14,7 +14,7 @@ use crate::opening::write_rejected_line;
 use crate::ward::{Poll, Ward};
 use count::Bundles;
 use paper::Prefs;
-use votes::{Broken, Sink};
+use streams::{Broken, Sink};
 
 /// The highest number of a candidate, which is the last one's; 0 where there is none.
 fn highest_number(ward: &Ward) -> u8

@@ -1,7 +1,8 @@
 //! What a table on a page shows of a stage.
 
 ghost use Rattle.std.specs.Prelude.{◌≡◌, ◌-◌, ◌^◌, ◌<◌, map};
-ghost use Rattle.sheet.specs.Cells.{apart as apart_of, cell_text, column_head, from_place, name_in as name_with, row, sign as sign_of, standing as standing_of, sum_cell, votes_before as before_of, votes_cell};
+ghost use Rattle.sheet.specs.Cells.{apart as apart_of, cell_text, column_head, from_place, name_in as name_with, row};
+ghost use Rattle.sheet.specs.Cells.{sign as sign_of, standing as standing_of, sum_cell, votes_before as before_of, votes_cell};
 ghost use Rattle.sheet.specs.Entries.{shown};
 ghost use Rattle.sheet.specs.Pieces.{piece_text};
 ghost use Rattle.sheet.specs.Writing.{Writes};
@@ -11,7 +12,8 @@ use crate::line::{Piece, write_line};
 use crate::stage::{Fate, fate_at, votes_of};
 use crate::ward::Ward;
 use count::{Action, Stage};
-use votes::{Broken, Sink, Votes};
+use streams::{Broken, Sink};
+use votes::Votes;
 
 /// A cell of a row, which shows something of a stage.
 #[derive(Clone, Copy)]

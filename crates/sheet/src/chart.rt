@@ -3,7 +3,8 @@
 ghost use Rattle.std.specs.Prelude.{◌≡◌, ◌-◌, ◌+◌, ◌^◌, ◌<◌, ◌≤◌, IfSome, length};
 ghost use Rattle.votes.specs.Units.{max_papers, max_seats};
 ghost use Rattle.sheet.specs.Cells.{votes_or};
-ghost use Rattle.sheet.specs.Chart.{bar, bar_length as length_of, figures, who, chart, chart_head, chart_line, chart_row, ending_by, ending_class as class_of, ending_of as ending_at, ending_stage as stage_of, ending_words as words_of};
+ghost use Rattle.sheet.specs.Chart.{bar, bar_length as length_of, figures, who, chart, chart_head, chart_line};
+ghost use Rattle.sheet.specs.Chart.{chart_row, ending_by, ending_class as class_of, ending_of as ending_at, ending_stage as stage_of, ending_words as words_of};
 ghost use Rattle.sheet.specs.Chart.{elected_place as elected_at_place, excluded_place as excluded_at_place, greatest, greatest_at, most_votes as most_of, scale_of as scale_by};
 ghost use Rattle.sheet.specs.Entries.{shown};
 ghost use Rattle.sheet.specs.Lines.{joined, line};
@@ -16,7 +17,8 @@ use crate::stage::votes_of;
 use crate::told::{OfCandidate, write_each};
 use crate::ward::{Poll, Ward};
 use count::Stage;
-use votes::{Broken, Sink, Votes, quota};
+use streams::{Broken, Sink};
+use votes::{Votes, quota};
 
 /// What bars are measured by, in units: the quota, and the greatest of it and all votes.
 #[derive(Clone, Copy)]

@@ -11,7 +11,7 @@ use crate::opening::write_ward_line;
 use crate::told::{OfCandidate, write_each};
 use crate::ward::Ward;
 use paper::Columns;
-use votes::{Broken, Sink};
+use streams::{Broken, Sink};
 
 /// The line of a candidate who is among the elected.
 #[derive(Clone, Copy)]

@@ -3,7 +3,8 @@
 ghost use Rattle.std.specs.Prelude.{◌≡◌, ◌-◌, ◌^◌, ◌<◌};
 ghost use Rattle.sheet.specs.Cells.{from_place};
 ghost use Rattle.sheet.specs.Entries.{shown};
-ghost use Rattle.sheet.specs.Page.{elected_at, elected_end, elected_items, elected_text, item_at, left_in as left_of_ward, left_words as words_of, seats_left as left_of, stay_empty as are_empty, unopposed_item};
+ghost use Rattle.sheet.specs.Page.{elected_at, elected_end, elected_items, elected_text, item_at};
+ghost use Rattle.sheet.specs.Page.{left_in as left_of_ward, left_words as words_of, seats_left as left_of, stay_empty as are_empty, unopposed_item};
 ghost use Rattle.sheet.specs.Writing.{Writes};
 
 use crate::line::{Piece, write_line};
@@ -11,7 +12,7 @@ use crate::stage::votes_of;
 use crate::told::{OfCandidate, write_each};
 use crate::ward::{Poll, Ward};
 use count::Stage;
-use votes::{Broken, Sink};
+use streams::{Broken, Sink};
 
 /// A candidate who is among those elected at a stage, and the stage's number.
 #[derive(Clone, Copy)]

@@ -4,7 +4,7 @@ ghost use Rattle.std.specs.Prelude.{◌-◌, ◌^◌, ◌<◌};
 ghost use Rattle.sheet.specs.Lines.{plain, plain_byte};
 ghost use Rattle.sheet.specs.Writing.{Puts, Writes};
 
-use votes::{Broken, Sink, put_all};
+use streams::{Broken, Sink, put_all};
 
 /// Puts a byte of a text on a page: one that could be markup by its name.
 fn put_plain_byte<W: Sink>(sink: &mut W, byte: u8) -> Result<(), Broken>

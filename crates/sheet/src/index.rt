@@ -8,11 +8,11 @@ ghost use Rattle.sheet.specs.Writing.{Writes};
 use crate::line::{Piece, write_line, write_text};
 use crate::look::style;
 use crate::page::write_title;
-use votes::{Broken, Sink};
+use streams::{Broken, Sink};
 
 /// How a ward stands, for everyone.
 #[derive(Clone, Copy)]
-pub enum Standing {
+pub enum WardStanding {
     /// Its nominations are open.
     Nominations,
     /// Its papers are being keyed.
@@ -30,19 +30,19 @@ pub struct ListedWard {
     pub number: u32,
     pub name: String,
     pub seats: u32,
-    pub standing: Standing,
+    pub standing: WardStanding,
     pub elected: Vec<(u32, String)>,
 }
 
 /// How a ward stands, in words.
-fn standing_words(standing: Standing) -> &'static str
+fn standing_words(standing: WardStanding) -> &'static str
     ensures { result.now ≡ words_of standing }
 {
     match standing {
-        Standing::Nominations => "nominations are open",
-        Standing::Keying => "its papers are being keyed",
-        Standing::Sealed => "sealed, not declared yet",
-        Standing::Declared => "<b>declared</b>",
+        WardStanding::Nominations => "nominations are open",
+        WardStanding::Keying => "its papers are being keyed",
+        WardStanding::Sealed => "sealed, not declared yet",
+        WardStanding::Declared => "<b>declared</b>",
     }
 }
 

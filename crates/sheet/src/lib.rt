@@ -37,7 +37,7 @@ mod ward;
 pub use ballots::write_ballots;
 pub use declaration::write_declaration;
 pub use fitness::can_be_printed;
-pub use index::{ListedWard, Standing, write_index};
+pub use index::{ListedWard, WardStanding, write_index};
 pub use lots::ties_are_of_the_count;
 pub use page::write_page;
 pub use sheets::write_sheet;

@@ -12,7 +12,8 @@ ghost use Rattle.sheet.specs.Writing.{Puts, Writes};
 use crate::escaping::write_plain;
 use count::Action;
 use itoa::Buffer;
-use votes::{Broken, Sink, Votes, put_all};
+use streams::{Broken, Sink, put_all};
+use votes::Votes;
 
 /// A piece of a line.
 #[derive(Clone, Copy)]

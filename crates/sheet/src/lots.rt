@@ -20,7 +20,7 @@ use crate::stage::{is_excluded_at, votes_of};
 use crate::told::{OfCandidate, write_each};
 use crate::ward::Ward;
 use count::{Action, Stage};
-use votes::{Broken, Sink};
+use streams::{Broken, Sink};
 
 /// Whether the votes of two candidates were equal at each of some stages.
 fn are_equal_at(stages: &[Stage], c: u8, d: u8) -> bool

@@ -8,7 +8,8 @@ ghost use Rattle.sheet.specs.Writing.{Writes};
 
 use crate::line::{Piece, write_line};
 use crate::ward::Ward;
-use votes::{Broken, Sink, quota};
+use streams::{Broken, Sink};
+use votes::quota;
 
 /// Writes the number and the name of a ward.
 pub fn write_ward_line<W: Sink>(sink: &mut W, ward: &Ward) -> Result<(), Broken>

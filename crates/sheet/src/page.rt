@@ -3,7 +3,8 @@
 ghost use Rattle.std.specs.Prelude.{◌≡◌, ◌-◌, ◌^◌, ◌<◌, ◌≤◌};
 ghost use Rattle.votes.specs.Units.{max_papers, max_seats};
 ghost use Rattle.sheet.specs.Entries.{shown};
-ghost use Rattle.sheet.specs.Page.{foot, grounds, note as note_of, opening as opening_of, page, page_head, papers_table, rejected_in_all as in_all, signatures, stages_part, title_line, uncontested_text, ward_heading};
+ghost use Rattle.sheet.specs.Page.{foot, grounds, note as note_of, opening as opening_of, page, page_head, papers_table};
+ghost use Rattle.sheet.specs.Page.{rejected_in_all as in_all, signatures, stages_part, title_line, uncontested_text, ward_heading};
 ghost use Rattle.sheet.specs.Wards.{CanBePrinted};
 ghost use Rattle.sheet.specs.Writing.{Writes};
 
@@ -15,7 +16,8 @@ use crate::lots::write_lots;
 use crate::table::write_tables;
 use crate::ward::{Poll, Ward};
 use count::Stage;
-use votes::{Broken, Sink, quota};
+use streams::{Broken, Sink};
+use votes::quota;
 
 // ---- the head
 

@@ -12,7 +12,7 @@ use crate::opening::{
 use crate::stage::write_stage;
 use crate::ward::Ward;
 use count::Stage;
-use votes::{Broken, Sink};
+use streams::{Broken, Sink};
 
 /// Writes all stages.
 fn write_stages<W: Sink>(sink: &mut W, ward: &Ward, stages: &[Stage]) -> Result<(), Broken>

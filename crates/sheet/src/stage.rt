@@ -11,7 +11,8 @@ use crate::line::{Piece, write_line};
 use crate::told::{OfCandidate, write_each};
 use crate::ward::Ward;
 use count::{Action, Stage};
-use votes::{Broken, Sink, Votes};
+use streams::{Broken, Sink};
+use votes::Votes;
 
 /// How a candidate stands at a stage.
 #[derive(Clone, Copy)]

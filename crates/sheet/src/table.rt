@@ -10,7 +10,7 @@ use crate::line::Piece;
 use crate::told::{OfCandidate, write_each};
 use crate::ward::Ward;
 use count::Stage;
-use votes::{Broken, Sink};
+use streams::{Broken, Sink};
 
 /// A block of stages of a ward: those from a place on.
 #[derive(Clone, Copy)]
@@ -40,11 +40,11 @@ fn write_head_row<W: Sink>(sink: &mut W, block: &Block) -> Result<(), Broken>
 
 /// The row of a candidate.
 #[derive(Clone, Copy)]
-struct CandidateRow<'a> {
+struct CandidateCells<'a> {
     block: &'a Block<'a>,
 }
 
-impl<'a> OfCandidate for CandidateRow<'a> {
+impl<'a> OfCandidate for CandidateCells<'a> {
     ghost text = { λ r. candidate_row r.block.now.place r.block.now.stages.now };
 
     fn write<W: Sink>(&self, sink: &mut W, candidate: &(u8, String)) -> Result<(), Broken> {
@@ -85,7 +85,7 @@ fn write_table<W: Sink>(sink: &mut W, block: &Block) -> Result<(), Broken>
     ensures { Writes W.taken W.failed sink.old sink.new (table (shown block.now.ward.now) block.now.place block.now.stages.now) result }
 {
     write_head_row(sink, block)?;
-    write_each(sink, block.ward, &CandidateRow { block })?;
+    write_each(sink, block.ward, &CandidateCells { block })?;
     write_sum_rows(sink, block)
 }
 

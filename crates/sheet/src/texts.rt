@@ -18,7 +18,7 @@ use crate::ward::Ward;
 use count::{Bundles, Stage};
 use paper::Columns;
 use std::alloc::{AllocError, Global};
-use votes::{Broken, Sink};
+use streams::{Broken, Sink};
 
 /// A sink in memory, which fails where its growth is refused.
 #[derive(Drop)]

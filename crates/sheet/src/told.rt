@@ -6,7 +6,7 @@ ghost use Rattle.sheet.specs.Entries.{shown};
 ghost use Rattle.sheet.specs.Writing.{Writes};
 
 use crate::ward::Ward;
-use votes::{Broken, Sink};
+use streams::{Broken, Sink};
 
 /// Something that is shown of a candidate, in the same way of each.
 pub trait OfCandidate {

@@ -1,7 +1,7 @@
 -- What a line gives and takes that tells none of its bytes.
 use Rattle.std.proofs.Common.{◌≡◌, ◌⊎◌, inl, inr, ◌<◌, ◌≤◌, ℕ, Bool, List, None, Option, Some, Ok, Err, Result, length, refl, subst, suc, sym, true, arith, zero}
 use Rattle.std.specs.Prelude.{IfOk}
-use Rattle.votes.specs.declared.streams.Broken.{Broken}
+use Rattle.streams.specs.declared.streams.Broken.{Broken}
 use Rattle.connections.specs.declared.stream.Received.{Received}
 use Rattle.connections.specs.declared.stream.Received.TheVariants.{Bytes, Nothing, End}
 use Rattle.connections.specs.declared.network.AcceptOutcome.{AcceptOutcome}
@@ -24,7 +24,8 @@ gives_untold read room (Ok End) within told = (tt, tt)
 gives_untold read room (Err broken) within told = tt
 
 -- what was written is within the bytes
-pub takes_untold : {E : Type 0} (written : Result ℕ E) (bytes : List ℕ) (r : Result ℕ Broken) → IfOk written (λ n. n ≤ length bytes) → IfOk r (λ n. (n ≡ 0) ⊎ (written ≡ Ok n)) → Takes None None bytes r
+pub takes_untold : {E : Type 0} (written : Result ℕ E) (bytes : List ℕ) (r : Result ℕ Broken) → IfOk written (λ n. n ≤ length bytes)
+    → IfOk r (λ n. (n ≡ 0) ⊎ (written ≡ Ok n)) → Takes None None bytes r
 takes_untold written bytes (Ok n) within (inl none) = (omega (arith, none), refl)
 takes_untold written bytes (Ok n) within (inr is) = (subst (λ x. IfOk x (λ m. m ≤ length bytes)) is within, refl)
 takes_untold written bytes (Err broken) within told = refl

@@ -1,5 +1,5 @@
 -- What is polled.
-use Rattle.std.specs.Prelude.{◌≡◌, ⊤, Bool, true, false, Option, Some, None}
+use Rattle.std.specs.Prelude.{◌≡◌, ◌||◌, ⊤, Bool, true, false, Option, Some, None}
 use Rattle.mio.specs.declared.net.uds.listener.UnixListener.{UnixListener}
 use Rattle.connections.specs.declared.client.Listener.{Listener}
 use Rattle.connections.specs.declared.client.Listener.TheVariants as listeners
@@ -12,6 +12,7 @@ use Rattle.sockets.specs.declared.socket.Socket.{Socket}
 use Rattle.sockets.specs.declared.socket.Socket.TheVariants as lines
 use Rattle.sockets.specs.declared.poller.Waiting.{Waiting}
 use Rattle.sockets.specs.declared.poller.Waiting.TheVariants as waiting
+use Rattle.sockets.specs.declared.poller.Pending.{Pending}
 use Rattle.sockets.specs.declared.poller.Poller.{Poller}
 use Rattle.connections.specs.Tables.{NetworkEntry}
 
@@ -62,8 +63,38 @@ is_known_waiting waiting.Nobody = false
 is_known_waiting waiting.Unknown = true
 is_known_waiting waiting.Somebody = true
 
+-- what is known of a listener once it has returned this: none is pending; after a connection another one may be; a full system says nothing
+abbrev pub known_after : Waiting → AcceptOutcome Socket → Waiting
+known_after known (One accepted) = waiting.Unknown
+known_after known Nobody = waiting.Nobody
+known_after known NotNow = waiting.Unknown
+known_after known Full = known
+
+-- the same is known of each listener
+abbrev pub known_everywhere : Waiting → Pending
+known_everywhere known = record { ipv4 = known; ipv6 = known; orders = known }
+
+-- what is known of the listener at an address
+abbrev pub known_at : Pending → Address → Waiting
+known_at pending Ipv4 = pending.ipv4
+known_at pending Ipv6 = pending.ipv6
+
+-- a connection may be pending at some listener
+abbrev pub may_be_pending : Pending → Bool
+may_be_pending pending = is_known_waiting pending.ipv4 || is_known_waiting pending.ipv6 || is_known_waiting pending.orders
+
+-- an event reported a connection
+abbrev pub is_somebody : Waiting → Bool
+is_somebody waiting.Nobody = false
+is_somebody waiting.Unknown = false
+is_somebody waiting.Somebody = true
+
+-- an event reported a connection at some listener
+abbrev pub is_reported : Pending → Bool
+is_reported pending = is_somebody pending.ipv4 || is_somebody pending.ipv6 || is_somebody pending.orders
+
 abbrev pub has_pending : Poller → Bool
-has_pending poller = is_known_waiting poller.waiting
+has_pending poller = may_be_pending poller.pending
 
 -- nothing is known of sockets: neither which connections were accepted and closed, nor how many calls failed, nor what the clock showed
 abbrev pub unknown : {L : Type 0} → NetworkEntry L

@@ -1,10 +1,11 @@
 //! What reports which connections are ready, and whether another is pending.
 
-ghost use Rattle.std.specs.Prelude.{◌≡◌, ◌+◌, ◌<◌, ◌⊎◌, IfNone, IfOk, IfSome, None};
+ghost use Rattle.std.specs.Prelude.{◌≡◌, ◌+◌, ◌<◌, ◌⊎◌, IfNone, IfOk, IfSome, None, true};
 ghost use Rattle.connections.specs.declared.client.Listener.{Listener};
 ghost use Rattle.connections.specs.declared.network.AcceptOutcome.{AcceptOutcome};
 ghost use Rattle.connections.specs.Tables.{IsWanted};
 ghost use Rattle.sockets.specs.Pollers.{ComesByListener, IsAtListener, IsWatched, clients_of, has_pending, orders_of, other_address};
+ghost use Rattle.sockets.specs.Pollers.{is_known_waiting, is_reported, known_after, known_at, known_everywhere, may_be_pending};
 ghost use Rattle.sockets.specs.declared.poller.Waiting.{Waiting};
 
 use crate::accept_error::outcome_of_error;
@@ -19,7 +20,7 @@ use std::io;
 use std::io::ErrorKind;
 use std::net::Net;
 use std::time::Duration;
-use votes::Broken;
+use streams::Broken;
 
 /// How many events the system may report at once.
 const EVENTS: usize = 1024;
@@ -46,12 +47,104 @@ fn number_of(token: Token) -> Option<u64>
     (token.0 as u64).checked_sub(3)
 }
 
-/// What is known of pending connections.
+/// What is known of pending connections at a listener: there is none, until an event reports one; there may be some; or an event
+/// reported one.
 #[derive(Clone, Copy)]
 pub enum Waiting {
     Nobody,
     Unknown,
     Somebody,
+}
+
+impl Waiting {
+    /// Returns whether a connection may be pending.
+    fn may_be(self) -> bool
+        ensures { result ≡ is_known_waiting self }
+    {
+        match self {
+            Waiting::Nobody => false,
+            Waiting::Unknown | Waiting::Somebody => true,
+        }
+    }
+
+    /// Returns what is known once the listener has returned this.
+    fn after(self, outcome: &AcceptOutcome<Socket>) -> Waiting
+        ensures { result ≡ known_after self outcome.now }
+    {
+        match outcome {
+            AcceptOutcome::Nobody => Waiting::Nobody,
+            AcceptOutcome::One(_) | AcceptOutcome::NotNow => Waiting::Unknown,
+            AcceptOutcome::Full => self,
+        }
+    }
+}
+
+/// What is known of pending connections at each listener: at 127.0.0.1, at [::1], and of orders.
+#[derive(Clone, Copy)]
+pub struct Pending {
+    ipv4: Waiting,
+    ipv6: Waiting,
+    orders: Waiting,
+}
+
+impl Pending {
+    /// Returns that of each listener this is known.
+    fn everywhere(waiting: Waiting) -> Pending
+        ensures { result ≡ known_everywhere waiting }
+    {
+        Pending {
+            ipv4: waiting,
+            ipv6: waiting,
+            orders: waiting,
+        }
+    }
+
+    /// Returns what is known at an address.
+    fn at(self, address: Address) -> Waiting
+        ensures { result ≡ known_at self address }
+    {
+        match address {
+            Address::Ipv4 => self.ipv4,
+            Address::Ipv6 => self.ipv6,
+        }
+    }
+
+    /// Notes what is known at an address.
+    fn set(&mut self, address: Address, waiting: Waiting)
+        ensures set { known_at self.new address ≡ waiting }
+        ensures other { known_at self.new (other_address address) ≡ known_at self.old (other_address address) }
+        ensures orders { self.new.orders ≡ self.old.orders }
+    {
+        match address {
+            Address::Ipv4 => self.ipv4 = waiting,
+            Address::Ipv6 => self.ipv6 = waiting,
+        }
+    }
+
+    /// Notes that an event reported the listener with this token.
+    fn report(&mut self, token: usize) {
+        match token {
+            IPV4 => self.ipv4 = Waiting::Somebody,
+            IPV6 => self.ipv6 = Waiting::Somebody,
+            _ => self.orders = Waiting::Somebody,
+        }
+    }
+
+    /// Returns whether a connection may be pending somewhere.
+    fn may_be(self) -> bool
+        ensures { result ≡ may_be_pending self }
+    {
+        self.ipv4.may_be() || self.ipv6.may_be() || self.orders.may_be()
+    }
+
+    /// Returns whether an event reported a connection somewhere.
+    fn is_reported(self) -> bool
+        ensures { result ≡ is_reported self }
+    {
+        matches!(self.ipv4, Waiting::Somebody)
+            || matches!(self.ipv6, Waiting::Somebody)
+            || matches!(self.orders, Waiting::Somebody)
+    }
 }
 
 /// The listeners, and the registry of the accepted connections' sockets.
@@ -63,7 +156,7 @@ pub struct Poller {
     clients: Loopback,
     next: Address,
     orders: Option<UnixListener>,
-    waiting: Waiting,
+    pending: Pending,
 }
 
 /// Registers a listener, if there is one.
@@ -116,7 +209,7 @@ impl Poller {
             clients,
             next: Address::Ipv4,
             orders,
-            waiting: Waiting::Unknown,
+            pending: Pending::everywhere(Waiting::Unknown),
         })
     }
 
@@ -132,8 +225,8 @@ impl Poller {
         Ok(stream)
     }
 
-    /// Returns the next order, if one is pending.
-    fn next_order(&self, number: u64) -> AcceptOutcome<Socket>
+    /// Asks the listener of orders for the next one.
+    fn order_pending(&self, number: u64) -> AcceptOutcome<Socket>
         ensures { IsAtListener Listener.Orders result }
     {
         let Some(orders) = &self.orders else {
@@ -152,8 +245,20 @@ impl Poller {
         }
     }
 
-    /// Returns the next client at an address, if one is pending there.
-    fn client_at(&self, address: Address, number: u64) -> AcceptOutcome<Socket>
+    /// Returns the next order, if one may be pending.
+    fn next_order(&mut self, number: u64) -> AcceptOutcome<Socket>
+        ensures { IsAtListener Listener.Orders result }
+    {
+        if !self.pending.orders.may_be() {
+            return AcceptOutcome::Nobody;
+        }
+        let outcome = self.order_pending(number);
+        self.pending.orders = self.pending.orders.after(&outcome);
+        outcome
+    }
+
+    /// Asks the listener at an address for the next client.
+    fn client_pending(&self, address: Address, number: u64) -> AcceptOutcome<Socket>
         ensures { IsAtListener Listener.Clients result }
     {
         let Some(clients) = self.clients.at(address) else {
@@ -170,6 +275,20 @@ impl Poller {
             }),
             Err(error) => outcome_of_error(&error),
         }
+    }
+
+    /// Returns the next client at an address, if one may be pending there.
+    fn client_at(&mut self, address: Address, number: u64) -> AcceptOutcome<Socket>
+        ensures at_door { IsAtListener Listener.Clients result }
+        ensures turn { self.new.next ≡ self.old.next }
+    {
+        let known = self.pending.at(address);
+        if !known.may_be() {
+            return AcceptOutcome::Nobody;
+        }
+        let outcome = self.client_pending(address, number);
+        self.pending.set(address, known.after(&outcome));
+        outcome
     }
 
     /// Returns the next client at either address. The addresses take turns, so that many clients at one of them don't shut out
@@ -213,29 +332,20 @@ impl Poller {
         Ok(())
     }
 
-    /// Notes what the listeners returned, and returns it. The system reports that it is full before it looks whether a connection
-    /// is pending. So unless an event reported one, the result is that none is pending, and the next wait tells whether that is
-    /// so.
-    fn noted(&mut self, outcome: AcceptOutcome<Socket>, clients_too: bool) -> AcceptOutcome<Socket>
+    /// Returns what a listener returned. The system reports that it is full before it looks whether a connection is pending. So
+    /// unless an event reported one, the result is that none is pending, and the next wait tells whether that is so.
+    fn noted(&mut self, outcome: AcceptOutcome<Socket>) -> AcceptOutcome<Socket>
         ensures same { (result ≡ outcome) ⊎ ((outcome ≡ AcceptOutcome.Full) × (result ≡ AcceptOutcome.Nobody)) }
-        ensures seen { self.old.waiting ≡ Waiting.Somebody → result ≡ outcome }
+        ensures seen { is_reported self.old.pending ≡ true → result ≡ outcome }
     {
-        match (&outcome, self.waiting) {
-            (AcceptOutcome::Full, Waiting::Somebody) => {}
-            (AcceptOutcome::Full, _) => {
-                if self.watch_anew().is_ok() {
-                    self.waiting = Waiting::Nobody;
-                    return AcceptOutcome::Nobody;
-                }
-            }
-            (AcceptOutcome::Nobody, _) => {
-                if clients_too {
-                    self.waiting = Waiting::Nobody;
-                }
-            }
-            _ => self.waiting = Waiting::Unknown,
+        if !matches!(&outcome, AcceptOutcome::Full) || self.pending.is_reported() {
+            return outcome;
         }
-        outcome
+        if self.watch_anew().is_err() {
+            return outcome;
+        }
+        self.pending = Pending::everywhere(Waiting::Nobody);
+        AcceptOutcome::Nobody
     }
 }
 
@@ -256,7 +366,7 @@ impl Poller {
             self.told = self.told.saturating_add(1);
             match number_of(event.token()) {
                 Some(number) => return Some(number),
-                None => self.waiting = Waiting::Somebody,
+                None => self.pending.report(event.token().0),
             }
         }
         None
@@ -267,16 +377,13 @@ impl Poller {
         ensures { IsWanted clients_too result }
     {
         let outcome = self.next_at(number, clients_too);
-        self.noted(outcome, clients_too)
+        self.noted(outcome)
     }
 
     /// Returns whether a connection may be pending.
     pub(crate) fn has_pending(&self) -> bool
         ensures { result ≡ has_pending self.now }
     {
-        match self.waiting {
-            Waiting::Nobody => false,
-            Waiting::Unknown | Waiting::Somebody => true,
-        }
+        self.pending.may_be()
     }
 }

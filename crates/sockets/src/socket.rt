@@ -6,7 +6,7 @@ use connections::{Received, Stream};
 use mio::net::{TcpStream, UnixStream};
 use std::io;
 use std::io::{ErrorKind, Read, Write};
-use votes::Broken;
+use streams::Broken;
 
 /// The socket of a client's connection, or of an order's.
 #[derive(Drop)]

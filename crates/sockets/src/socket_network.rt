@@ -8,7 +8,7 @@ use crate::poller::Poller;
 use crate::socket::Socket;
 use connections::{AcceptOutcome, Network, Removed};
 use std::time::{Clock, Duration};
-use votes::Broken;
+use streams::Broken;
 
 /// A poller, and a clock.
 #[derive(Drop)]

@@ -11,12 +11,14 @@ listed : (s : OfficeState) (batch round : ℕ) (c : Clerks)
 listed s batch round c = go c.third
   where
     go : (third : Option ℕ)
-        → of_three (keying_of s batch round c.first) (keying_of s batch round c.second) (keying_for s batch round third) ≡ filter is_keyed (map (keying_of s batch round) (c.first ∷ c.second ∷ third_listed third))
+        → of_three (keying_of s batch round c.first) (keying_of s batch round c.second) (keying_for s batch round third) ≡ filter is_keyed
+        (map (keying_of s batch round) (c.first ∷ c.second ∷ third_listed third))
     go None = refl
     go (Some clerk) = refl
 
 -- the keyings of three clerks, of whom the third may be missing, are those of the batch
-pub keyings_read : (s : OfficeState) (b : BatchEntry) (third : Option ThirdEntry) (c : Clerks) (one two three : List KeyedEntry) → one ≡ keying_of s b.number b.round c.first → two ≡ keying_of s b.number b.round c.second → three ≡ keying_for s b.number b.round c.third
+pub keyings_read : (s : OfficeState) (b : BatchEntry) (third : Option ThirdEntry) (c : Clerks) (one two three : List KeyedEntry)
+    → one ≡ keying_of s b.number b.round c.first → two ≡ keying_of s b.number b.round c.second → three ≡ keying_for s b.number b.round c.third
     → clerk_list c ≡ clerks b third → third ≡ third_at s b.number → of_three one two three ≡ keyings_now s b
 keyings_read s b third c one two three is_first is_second is_third are same =
     let keying = keying_of s b.number b.round in

@@ -77,7 +77,8 @@ copy_stops s t old new is clean survives trees may = elim (survives.crash clean 
 ]
 
 -- which is that of some state
-pub copy_whole : (s : OfficeState) (t : TabulationEntries) (old new : State) → IsTabulatedAs s t → HasCleanDisk new → Survives old new (Stores (tables_with s t)) → (trees : Trees) → new.may_leave trees
+pub copy_whole : (s : OfficeState) (t : TabulationEntries) (old new : State) → IsTabulatedAs s t → HasCleanDisk new → Survives old new (Stores (tables_with s t))
+    → (trees : Trees) → new.may_leave trees
     → old.may_leave trees ⊎ ((x : OfficeState) × StoresState x trees)
 copy_whole s t old new is clean survives trees may = elim (copy_stops s t old new is.1 clean survives trees may) [
   | inl was ↦ inl was

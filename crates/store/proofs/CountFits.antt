@@ -51,7 +51,8 @@ module _ (e : ElectionEntry) where
     | inr one ↦ (column-in _ (columns_of e.candidates) (columns_are_set e.candidates) one).1
   ]
 
-  placed_fit : e.ward.number < 2 ^ 32 → (bs : List Bundle) → AllByRecursion (λ (b : Bundle). b.1 ≤ max_papers) bs → AllByRecursion (λ (b : Bundle). AllByRecursion (λ c. In c (columns_of e.candidates)) b.0) bs
+  placed_fit : e.ward.number < 2 ^ 32 → (bs : List Bundle) → AllByRecursion (λ (b : Bundle). b.1 ≤ max_papers) bs
+      → AllByRecursion (λ (b : Bundle). AllByRecursion (λ c. In c (columns_of e.candidates)) b.0) bs
       → AllByRecursion IsPlacedRow (map row_of_placed (map (placed_after e (stages_of e)) bs))
   placed_fit number [] few among = tt
   placed_fit number (b ∷ bs) few among =
@@ -62,13 +63,15 @@ module _ (e : ElectionEntry) where
         placed_fit number bs few.1 among.1,
       )
 
-  bundles_in_fit : e.ward.number < 2 ^ 32 → length e.ballots.papers ≤ max_papers → AreForCandidates (columns_of e.candidates) e.ballots.papers → AllByRecursion IsPlacedRow (map row_of_placed (bundles_in e))
+  bundles_in_fit : e.ward.number < 2 ^ 32 → length e.ballots.papers ≤ max_papers → AreForCandidates (columns_of e.candidates) e.ballots.papers
+      → AllByRecursion IsPlacedRow (map row_of_placed (bundles_in e))
   bundles_in_fit number few among = go (has_stages e)
     where
       go : (b : Bool) → AllByRecursion IsPlacedRow (map row_of_placed (cond b (map (placed_after e (stages_of e)) (bundled e.ballots.papers)) []))
       go true =
           let all = bundled-length e.ballots.papers in
-          placed_fit number (bundled e.ballots.papers) (each_within max_papers (bundled e.ballots.papers) (omega (arith, all, few))) (lists-from (λ list. AllByRecursion (λ c. In c (columns_of e.candidates)) list) [] e.ballots.papers tt among)
+          placed_fit number (bundled e.ballots.papers) (each_within max_papers (bundled e.ballots.papers) (omega (arith, all, few)))
+          (lists-from (λ list. AllByRecursion (λ c. In c (columns_of e.candidates)) list) [] e.ballots.papers tt among)
       go false = tt
 
 -- ---- figures
@@ -124,7 +127,8 @@ figures_in_fit e number few = go (has_stages e)
 
 -- ---- ward by ward
 
-parts_fit : {X : Type 0} (P : Row → Type 0) (row : X → Row) (parts : WardEntry → List X) (ws : List WardEntry) → AllByRecursion (λ w. AllByRecursion P (map row (parts w))) ws → AllByRecursion P (map row (flat_map parts ws))
+parts_fit : {X : Type 0} (P : Row → Type 0) (row : X → Row) (parts : WardEntry → List X) (ws : List WardEntry) → AllByRecursion (λ w. AllByRecursion P (map row (parts w))) ws
+    → AllByRecursion P (map row (flat_map parts ws))
 parts_fit P row parts [] each = tt
 parts_fit P row parts (w ∷ ws) each =
     subst (AllByRecursion P) (sym (map-append row (parts w) (flat_map parts ws))) (all-append P (map row (parts w)) (map row (flat_map parts ws)) each.0 (parts_fit P row parts ws each.1))
@@ -134,21 +138,24 @@ unfolding is_ward
 number_small w good = small 1 last_ward w.number (omega arith) (and_parts _ _ good).0
 
 module _ (s : OfficeState) (is : IsState s) where
-  each_bundles_fit : (ws : List WardEntry) → list_all is_ward ws ≡ true → AllByRecursion (λ (w : WardEntry). ward_at s w.number ≡ Some w) ws → AllByRecursion (λ w. AllByRecursion IsPlacedRow (map row_of_placed (bundles_in (election_of s w)))) ws
+  each_bundles_fit : (ws : List WardEntry) → list_all is_ward ws ≡ true → AllByRecursion (λ (w : WardEntry). ward_at s w.number ≡ Some w) ws
+      → AllByRecursion (λ w. AllByRecursion IsPlacedRow (map row_of_placed (bundles_in (election_of s w)))) ws
   each_bundles_fit [] good there = tt
   each_bundles_fit (w ∷ ws) good there =
       let both = and_parts _ _ good in
       let few = seats_and_papers_are_few s w is.in_range is.keyed is.rise there.0 in
       (bundles_in_fit (election_of s w) (number_small w both.0) few.2 (papers_are_fair (columns_of (election_of s w).candidates) (piles_of s w.number)), each_bundles_fit ws both.1 there.1)
 
-  each_figures_fit : (ws : List WardEntry) → list_all is_ward ws ≡ true → AllByRecursion (λ (w : WardEntry). w.done < 2 ^ 32) ws → AllByRecursion (λ w. AllByRecursion IsFigureRow (map row_of_figure (figures_in (election_of s w)))) ws
+  each_figures_fit : (ws : List WardEntry) → list_all is_ward ws ≡ true → AllByRecursion (λ (w : WardEntry). w.done < 2 ^ 32) ws
+      → AllByRecursion (λ w. AllByRecursion IsFigureRow (map row_of_figure (figures_in (election_of s w)))) ws
   each_figures_fit [] good few = tt
   each_figures_fit (w ∷ ws) good few = let both = and_parts _ _ good in (figures_in_fit (election_of s w) (number_small w both.0) few.0, each_figures_fit ws both.1 few.1)
 
   -- the rows of what is tabulated read as bundles and as figures
   pub bundles_fit : AllByRecursion IsPlacedRow (tables_of s BundleTable)
   unfolding tables_of tables_with tabulation_of
-  bundles_fit = parts_fit IsPlacedRow row_of_placed (λ (w : WardEntry). bundles_in (election_of s w)) s.wards (each_bundles_fit s.wards (and_parts _ _ is.in_range).0 (wards_there s.wards is.rise.wards))
+  bundles_fit = parts_fit IsPlacedRow row_of_placed (λ (w : WardEntry). bundles_in (election_of s w)) s.wards
+      (each_bundles_fit s.wards (and_parts _ _ is.in_range).0 (wards_there s.wards is.rise.wards))
 
   pub figures_fit : AllByRecursion IsFigureRow (tables_of s Vote)
   unfolding tables_of tables_with tabulation_of

@@ -24,7 +24,8 @@ apart : (x w : WardEntry) → ward_cmp x w ≡ Less → is_eq (nat_cmp w.number 
 apart x w below = ap is_eq (nat_cmp_total.antisymm w.number x.number ∙ ap ordering_reverse below)
 
 -- where a ward stands before others, they are still found
-still_there : (x : WardEntry) (xs ys : List WardEntry) → AllByRecursion (λ y. ward_cmp x y ≡ Less) ys → AllByRecursion (λ w. entry_at (ward_compared w.number) xs ≡ Some w) ys → AllByRecursion (λ w. entry_at (ward_compared w.number) (x ∷ xs) ≡ Some w) ys
+still_there : (x : WardEntry) (xs ys : List WardEntry) → AllByRecursion (λ y. ward_cmp x y ≡ Less) ys → AllByRecursion (λ w. entry_at (ward_compared w.number) xs ≡ Some w) ys
+    → AllByRecursion (λ w. entry_at (ward_compared w.number) (x ∷ xs) ≡ Some w) ys
 still_there x xs [] below all = tt
 still_there x xs (w ∷ ys) below all = (rw (apart x w below.0) all.0, still_there x xs ys below.1 all.1)
 
@@ -52,7 +53,8 @@ done_few s is w there right = go (is_in_count (election_of s w)) refl right
         let none : w.done ≡ 0 = (Decides-eqb w.done 0).0 (and_parts _ _ uncounted).0 in
         omega (arith, none)
 
-each_few : (s : OfficeState) → IsState s → (ws : List WardEntry) → AllByRecursion (λ w. ward_at s w.number ≡ Some w) ws → list_all (λ w. is_counted_right (election_of s w)) ws ≡ true → AllByRecursion (λ w. w.done < 2 ^ 32) ws
+each_few : (s : OfficeState) → IsState s → (ws : List WardEntry) → AllByRecursion (λ w. ward_at s w.number ≡ Some w) ws
+    → list_all (λ w. is_counted_right (election_of s w)) ws ≡ true → AllByRecursion (λ w. w.done < 2 ^ 32) ws
 each_few s is [] there right = tt
 each_few s is (w ∷ ws) there right = let both = and_parts _ _ right in (done_few s is w there.0 both.0, each_few s is ws there.1 both.1)
 

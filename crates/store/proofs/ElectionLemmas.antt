@@ -20,7 +20,8 @@ use Rattle.register.specs.declared.command.Command.TheVariants.{Count as countin
 use Rattle.register.specs.declared.counts.CountCommand.TheVariants.{Advance}
 use Rattle.register.specs.Nominations.{is_contested}
 use Rattle.register.specs.Tabulated.{has_stages, IsCount, IsCountIn, IsCountFor, IsCountedWard}
-use Rattle.store.specs.Elections.{IsFoundFor, polled_part, counted_part, election_in, IsThere, IsContestAt, IsBook, IsHeld, IsWardCount, IsBegun, IsCounted, IsCountedFor, IsShown, IsCountedIn, IsCountedInFor, IsSheet, IsSheetFor}
+use Rattle.store.specs.Elections.{IsFoundFor, polled_part, counted_part, election_in, IsThere, IsContestAt, IsBook, IsHeld, IsWardCount}
+use Rattle.store.specs.Elections.{IsBegun, IsCounted, IsCountedFor, IsShown, IsCountedIn, IsCountedInFor, IsSheet, IsSheetFor}
 
 -- the part with the poll, of a ward that may be there
 pub part_polled : (s : OfficeState) (ward : Option WardEntry) → polled_part (option_map (election_of s) ward) ≡ record empty_part { ward = ward; poll = poll_for s ward }
@@ -65,7 +66,8 @@ pub ward_there : (s : OfficeState) (ward : ℕ) (w : WardEntry) → ward_at s wa
 ward_there s ward w found = subst (λ (n : ℕ). ward_at s n ≡ Some w) (found_number (λ (x : WardEntry). x.number) s.wards ward w found) found
 
 -- whether it is contested by the candidates that were found with it
-pub contested_told : (s : OfficeState) (found : CountedWard) (candidates : List Candidate) (told : Bool) → candidates ≡ found.candidates.items → IsThere s found → told ≡ is_contested (ward_entry found.ward) (map candidate_entry candidates)
+pub contested_told : (s : OfficeState) (found : CountedWard) (candidates : List Candidate) (told : Bool) → candidates ≡ found.candidates.items
+    → IsThere s found → told ≡ is_contested (ward_entry found.ward) (map candidate_entry candidates)
     → has_count (election_in s found) ≡ told
 contested_told s found candidates told same there is = ap (is_contested (ward_entry found.ward)) (sym (ap (map candidate_entry) same ∙ there.1)) ∙ sym is
 
@@ -114,7 +116,8 @@ begun_found e from (Some sheet) of contested fresh fair some same is rejected = 
 )
 
 -- a ward that isn't contested has no count
-pub bare_counted : (s : OfficeState) (ward : ℕ) (found : CountedWard) → IsContestAt s ward (Some found) → has_count (election_in s found) ≡ false → IsCountedFor (option_map (election_of s) (ward_at s ward)) (Some found)
+pub bare_counted : (s : OfficeState) (ward : ℕ) (found : CountedWard) → IsContestAt s ward (Some found) → has_count (election_in s found) ≡ false
+    → IsCountedFor (option_map (election_of s) (ward_at s ward)) (Some found)
 bare_counted s ward found is none =
     let e = election_in s found in
     let held : IsHeld e found.count = subst (IsHeld e) (sym is.2) none in

@@ -9,7 +9,8 @@ use Rattle.sqlite_schema.specs.Rules.{equal}
 use Rattle.sqlite.specs.Collation.TheVariants.{Binary}
 use Rattle.sqlite.specs.Order.{Row}
 use Rattle.sqlite.specs.declared.types.Value.TheVariants.{Int, Text}
-use Rattle.register.specs.Offices.{OfficeState, KeyedEntry, entry_at, ward_at, candidate_compared, candidate_at, candidates_of, keyed_cmp, batch_compared, batch_at, third_compared, third_at, keying_of, judged_compared, verdict_at, verdicts_of, lots_of, receipt_at}
+use Rattle.register.specs.Offices.{OfficeState, KeyedEntry, entry_at, ward_at, candidate_compared, candidate_at, candidates_of, keyed_cmp, batch_compared}
+use Rattle.register.specs.Offices.{batch_at, third_compared, third_at, keying_of, judged_compared, verdict_at, verdicts_of, lots_of, receipt_at}
 use Rattle.register.specs.Papers.{batches_of}
 use Rattle.register.specs.Items.{IsState}
 use Rattle.register.specs.Tabulated.{tabulation_of}
@@ -17,7 +18,8 @@ use Rattle.tables.specs.declared.table.Table.TheVariants.{Ward, Candidate, Batch
 use Rattle.tables.specs.declared.table.Reference.TheVariants.{WardOfBatch}
 use Rattle.tables.specs.Rows.{begins_with, refers_to}
 use Rattle.tables.specs.Reading.{Finds}
-use Rattle.store.specs.EntryRows.{row_of_ward, IsWardRow, row_of_candidate, IsCandidateRow, row_of_batch, IsBatchRow, row_of_third, IsThirdRow, row_of_keyed, IsKeyedRow, row_of_judged, IsJudgedRow, row_of_lot, row_of_receipt, IsReceiptRow, row_of_placed, row_of_figure}
+use Rattle.store.specs.EntryRows.{row_of_ward, IsWardRow, row_of_candidate, IsCandidateRow, row_of_batch, IsBatchRow, row_of_third, IsThirdRow, row_of_keyed}
+use Rattle.store.specs.EntryRows.{IsKeyedRow, row_of_judged, IsJudgedRow, row_of_lot, row_of_receipt, IsReceiptRow, row_of_placed, row_of_figure}
 use Rattle.store.specs.Elections.{bundles_at, figures_at}
 use Rattle.store.specs.Offices.{tables_of, tables_with}
 use Rattle.store.specs.Overviews.{receipts_of}
@@ -78,10 +80,12 @@ unfolding tables_of tables_with
 candidate_fits s is ward number = found_fits IsCandidateRow row_of_candidate _ s.candidates (candidates_fit s is)
 
 -- the rows that begin with a ward's number are those of its candidates, in the order of their numbers
-pub candidates_listed : (s : OfficeState) → IsState s → (ward : ℕ) (rows : List Row) → Finds Candidate (begins_with (Int (pos ward) ∷ [])) (tables_of s) rows → rows ≡ map row_of_candidate (candidates_of s ward)
+pub candidates_listed : (s : OfficeState) → IsState s → (ward : ℕ) (rows : List Row) → Finds Candidate (begins_with (Int (pos ward) ∷ [])) (tables_of s) rows
+    → rows ≡ map row_of_candidate (candidates_of s ward)
 unfolding tables_of tables_with
 candidates_listed s is ward rows finds =
-    listed_as Candidate row_of_candidate (begins_with (Int (pos ward) ∷ [])) (λ c. c.ward == ward) (λ c. same_number ward c.ward) s.candidates (tables_rise s is Candidate refl) rows finds.same finds.sorted
+    listed_as Candidate row_of_candidate (begins_with (Int (pos ward) ∷ [])) (λ c. c.ward == ward) (λ c. same_number ward c.ward) s.candidates
+    (tables_rise s is Candidate refl) rows finds.same finds.sorted
 
 -- ---- batches and their papers
 
@@ -110,7 +114,8 @@ all_batches_listed s is rows finds =
     listed_as Batch row_of_batch (begins_with []) (λ b. true) (λ b. refl) s.batches (tables_rise s is Batch refl) rows finds.same finds.sorted ∙ ap (map row_of_batch) (all_kept s.batches)
 
 -- the rows that refer to a ward are those of its batches
-pub batches_listed : (s : OfficeState) → IsState s → (ward : ℕ) (rows : List Row) → Finds Batch (refers_to WardOfBatch (Int (pos ward))) (tables_of s) rows → rows ≡ map row_of_batch (batches_of s ward)
+pub batches_listed : (s : OfficeState) → IsState s → (ward : ℕ) (rows : List Row) → Finds Batch (refers_to WardOfBatch (Int (pos ward))) (tables_of s) rows
+    → rows ≡ map row_of_batch (batches_of s ward)
 unfolding tables_of tables_with
 batches_listed s is ward rows finds =
     listed_as Batch row_of_batch (refers_to WardOfBatch (Int (pos ward))) (λ b. b.ward == ward) (λ b. equal-number b.ward ward) s.batches (tables_rise s is Batch refl) rows finds.same finds.sorted
@@ -140,10 +145,12 @@ key_of_four_numbers a b c d k l m n =
     both Greater y = refl
 
 pub keyed_found : (s : OfficeState) → IsState s → (batch round clerk paper : ℕ)
-    → filter (begins_with (Int (pos batch) ∷ Int (pos round) ∷ Int (pos clerk) ∷ Int (pos paper) ∷ [])) (tables_of s Keying) ≡ option_to_list (option_map row_of_keyed (entry_at (keyed_compared batch round clerk paper) s.keyings))
+    → filter (begins_with (Int (pos batch) ∷ Int (pos round) ∷ Int (pos clerk) ∷ Int (pos paper) ∷ [])) (tables_of s Keying) ≡ option_to_list
+    (option_map row_of_keyed (entry_at (keyed_compared batch round clerk paper) s.keyings))
 unfolding tables_of tables_with
 keyed_found s is batch round clerk paper =
-    row_found row_of_keyed (Int (pos batch) ∷ Int (pos round) ∷ Int (pos clerk) ∷ Int (pos paper) ∷ []) (keyed_compared batch round clerk paper) (λ k. key_of_four_numbers batch round clerk paper k.batch k.round k.clerk k.paper) apart s.keyings is.rise.keyings
+    row_found row_of_keyed (Int (pos batch) ∷ Int (pos round) ∷ Int (pos clerk) ∷ Int (pos paper) ∷ []) (keyed_compared batch round clerk paper)
+    (λ k. key_of_four_numbers batch round clerk paper k.batch k.round k.clerk k.paper) apart s.keyings is.rise.keyings
   where
     apart : (a b : KeyedEntry) → keyed_compared batch round clerk paper a ≡ Equal → keyed_compared batch round clerk paper b ≡ Equal → keyed_cmp a b ≡ Equal
     apart a b first second =
@@ -175,10 +182,12 @@ unfolding tables_of tables_with
 verdict_fits s is batch paper = found_fits IsJudgedRow row_of_judged _ s.verdicts (verdicts_fit s is)
 
 -- the rows that begin with a batch are those of the verdicts on its papers, in the order of the papers
-pub verdicts_listed : (s : OfficeState) → IsState s → (batch : ℕ) (rows : List Row) → Finds Verdict (begins_with (Int (pos batch) ∷ [])) (tables_of s) rows → rows ≡ map row_of_judged (verdicts_of s batch)
+pub verdicts_listed : (s : OfficeState) → IsState s → (batch : ℕ) (rows : List Row) → Finds Verdict (begins_with (Int (pos batch) ∷ [])) (tables_of s) rows
+    → rows ≡ map row_of_judged (verdicts_of s batch)
 unfolding tables_of tables_with
 verdicts_listed s is batch rows finds =
-    listed_as Verdict row_of_judged (begins_with (Int (pos batch) ∷ [])) (λ v. v.batch == batch) (λ v. same_number batch v.batch) s.verdicts (tables_rise s is Verdict refl) rows finds.same finds.sorted
+    listed_as Verdict row_of_judged (begins_with (Int (pos batch) ∷ [])) (λ v. v.batch == batch) (λ v. same_number batch v.batch) s.verdicts
+    (tables_rise s is Verdict refl) rows finds.same finds.sorted
 
 -- ---- lots
 
@@ -194,13 +203,15 @@ lots_listed s is ward rows finds =
 pub bundles_listed : (s : OfficeState) → IsState s → (ward : ℕ) (rows : List Row) → Finds Bundle (begins_with (Int (pos ward) ∷ [])) (tables_of s) rows → rows ≡ map row_of_placed (bundles_at s ward)
 unfolding tables_of tables_with
 bundles_listed s is ward rows finds =
-    listed_as Bundle row_of_placed (begins_with (Int (pos ward) ∷ [])) (λ b. b.ward == ward) (λ b. same_number ward b.ward) (tabulation_of s).bundles (tables_rise s is Bundle refl) rows finds.same finds.sorted
+    listed_as Bundle row_of_placed (begins_with (Int (pos ward) ∷ [])) (λ b. b.ward == ward) (λ b. same_number ward b.ward) (tabulation_of s).bundles
+    (tables_rise s is Bundle refl) rows finds.same finds.sorted
 
 -- and those of its figures, in the order of stages and candidates
 pub figures_listed : (s : OfficeState) → IsState s → (ward : ℕ) (rows : List Row) → Finds Vote (begins_with (Int (pos ward) ∷ [])) (tables_of s) rows → rows ≡ map row_of_figure (figures_at s ward)
 unfolding tables_of tables_with
 figures_listed s is ward rows finds =
-    listed_as Vote row_of_figure (begins_with (Int (pos ward) ∷ [])) (λ f. f.ward == ward) (λ f. same_number ward f.ward) (tabulation_of s).figures (tables_rise s is Vote refl) rows finds.same finds.sorted
+    listed_as Vote row_of_figure (begins_with (Int (pos ward) ∷ [])) (λ f. f.ward == ward) (λ f. same_number ward f.ward) (tabulation_of s).figures
+    (tables_rise s is Vote refl) rows finds.same finds.sorted
 
 -- ---- receipts
 
@@ -226,7 +237,9 @@ all_receipts_listed s is rows finds =
     listed_as Receipt row_of_receipt (begins_with []) (λ r. true) (λ r. refl) s.receipts (tables_rise s is Receipt refl) rows finds.same finds.sorted ∙ ap (map row_of_receipt) (all_kept s.receipts)
 
 -- the rows that begin with an actor are those of his receipts, by id
-pub receipts_listed : (s : OfficeState) → IsState s → (actor : ℕ) (rows : List Row) → Finds Receipt (begins_with (Int (pos actor) ∷ [])) (tables_of s) rows → rows ≡ map row_of_receipt (receipts_of s (Some actor))
+pub receipts_listed : (s : OfficeState) → IsState s → (actor : ℕ) (rows : List Row) → Finds Receipt (begins_with (Int (pos actor) ∷ [])) (tables_of s) rows
+    → rows ≡ map row_of_receipt (receipts_of s (Some actor))
 unfolding tables_of tables_with
 receipts_listed s is actor rows finds =
-    listed_as Receipt row_of_receipt (begins_with (Int (pos actor) ∷ [])) (λ r. r.actor == actor) (λ r. same_number actor r.actor) s.receipts (tables_rise s is Receipt refl) rows finds.same finds.sorted
+    listed_as Receipt row_of_receipt (begins_with (Int (pos actor) ∷ [])) (λ r. r.actor == actor) (λ r. same_number actor r.actor) s.receipts
+    (tables_rise s is Receipt refl) rows finds.same finds.sorted

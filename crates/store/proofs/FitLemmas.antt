@@ -12,7 +12,8 @@ use Rattle.register.specs.Ranges.{is_between, last_ward, last_clerk, last_batch,
 use Rattle.register.specs.Offices.{WardEntry, CandidateEntry, BatchEntry, ThirdEntry, KeyedEntry, JudgedEntry, LotEntry, ReceiptEntry, OfficeState}
 use Rattle.register.specs.Items.{is_ward, is_candidate, is_batch, is_third, is_keyed_paper, is_judged_paper, is_lot, is_receipt, is_about, IsState}
 use Rattle.tables.specs.declared.table.Table.TheVariants.{Ward, Candidate, Batch, Keying, Verdict, Lot, Receipt, Third}
-use Rattle.store.specs.EntryRows.{row_of_ward, IsWardRow, row_of_candidate, IsCandidateRow, row_of_batch, IsBatchRow, row_of_third, IsThirdRow, row_of_keyed, IsKeyedRow, row_of_judged, IsJudgedRow, row_of_lot, IsLotRow, row_of_receipt, IsReceiptRow}
+use Rattle.store.specs.EntryRows.{row_of_ward, IsWardRow, row_of_candidate, IsCandidateRow, row_of_batch, IsBatchRow, row_of_third, IsThirdRow}
+use Rattle.store.specs.EntryRows.{row_of_keyed, IsKeyedRow, row_of_judged, IsJudgedRow, row_of_lot, IsLotRow, row_of_receipt, IsReceiptRow}
 use Rattle.store.specs.Offices.{tables_of, tables_with}
 use Rattle.store.proofs.DoneLemmas.{wards_few}
 
@@ -155,14 +156,16 @@ candidates_fit s is = all_passed is_candidate IsCandidateRow row_of_candidate ca
 
 -- what the papers and the receipts are in range by
 beyond_candidates : (s : OfficeState) → IsState s
-    → (list_all is_batch s.batches && (list_all is_third s.thirds && (list_all is_keyed_paper s.keyings && (list_all is_judged_paper s.verdicts && (list_all is_lot s.lots && list_all is_receipt s.receipts))))) ≡ true
+    → (list_all is_batch s.batches && (list_all is_third s.thirds &&
+    (list_all is_keyed_paper s.keyings && (list_all is_judged_paper s.verdicts && (list_all is_lot s.lots && list_all is_receipt s.receipts))))) ≡ true
 beyond_candidates s is = (and_parts _ _ (and_parts _ _ is.in_range).1).1
 
 pub batches_fit : (s : OfficeState) → IsState s → AllByRecursion IsBatchRow (tables_of s Batch)
 unfolding tables_of tables_with
 batches_fit s is = all_passed is_batch IsBatchRow row_of_batch batch_fits s.batches (and_parts _ _ (beyond_candidates s is)).0
 
-beyond_batches : (s : OfficeState) → IsState s → (list_all is_third s.thirds && (list_all is_keyed_paper s.keyings && (list_all is_judged_paper s.verdicts && (list_all is_lot s.lots && list_all is_receipt s.receipts)))) ≡ true
+beyond_batches : (s : OfficeState) → IsState s → (list_all is_third s.thirds &&
+    (list_all is_keyed_paper s.keyings && (list_all is_judged_paper s.verdicts && (list_all is_lot s.lots && list_all is_receipt s.receipts)))) ≡ true
 beyond_batches s is = (and_parts _ _ (beyond_candidates s is)).1
 
 pub thirds_fit : (s : OfficeState) → IsState s → AllByRecursion IsThirdRow (tables_of s Third)

@@ -78,7 +78,8 @@ change_stops change s old new honest at tabulated survives trees may = elim (sur
 ]
 
 -- and so the old state or the new one
-pub change_leaves : (change : Change) (s : OfficeState) (old new : State) → HasCleanDisk new → IsAt s old → IsTabulated s change → IsState (with_change (change_entry change) s) → Survives old new (Stores (changed_tables change s))
+pub change_leaves : (change : Change) (s : OfficeState) (old new : State) → HasCleanDisk new → IsAt s old → IsTabulated s change
+    → IsState (with_change (change_entry change) s) → Survives old new (Stores (changed_tables change s))
     → LeavesState new (λ x. (x ≡ s) ⊎ (x ≡ with_change (change_entry change) s))
 change_leaves change s old new honest at tabulated after survives trees may = elim (survives.crash honest trees may) [
   | inl was ↦ let it = at.leaves trees was in (it.0, inl it.1, it.2)

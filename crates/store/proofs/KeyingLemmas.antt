@@ -1,5 +1,6 @@
 -- A keying that is there has its first paper, which tells of it.
-use Rattle.std.proofs.Common.{◌≡◌, ℕ, zero, suc, ◌≤◌, Bool, true, false, cond, not, ◌&&◌, ◌||◌, ◌==◌, List, [], ◌∷◌, map, filter, Option, Some, None, is_some, inl, inr, refl, sym, ap, ◌∙◌, subst, true≢false, arith, Ordering, nat_cmp}
+use Rattle.std.proofs.Common.{◌≡◌, ℕ, zero, suc, ◌≤◌, Bool, true, false, cond, not, ◌&&◌, ◌||◌, ◌==◌, List, [], ◌∷◌, map}
+use Rattle.std.proofs.Common.{filter, Option, Some, None, is_some, inl, inr, refl, sym, ap, ◌∙◌, subst, true≢false, arith, Ordering, nat_cmp}
 use Rattle.std.specs.Ordering.{is_eq, is_lt}
 use Rattle.std.specs.List.{list_all}
 use Rattle.std.proofs.lemmas.Bool.{and_parts, and_from, or_cases, leb-true, eqb-true, cases_eq}
@@ -45,7 +46,8 @@ put_all : {X : Type 0} (cmp : X → X → Ordering) (p : X → Bool) (x : X) (ys
 put_all cmp p x [] all = and_parts _ _ all
 put_all {X} cmp p x (y ∷ ys) all = go (is_lt (cmp x y)) all (put_all cmp p x ys)
   where
-    go : (b : Bool) → list_all p (cond b (x ∷ y ∷ ys) (y ∷ put cmp x ys)) ≡ true → (list_all p (put cmp x ys) ≡ true → (p x ≡ true) × (list_all p ys ≡ true)) → (p x ≡ true) × (list_all p (y ∷ ys) ≡ true)
+    go : (b : Bool) → list_all p (cond b (x ∷ y ∷ ys) (y ∷ put cmp x ys)) ≡ true → (list_all p (put cmp x ys) ≡ true → (p x ≡ true) × (list_all p ys ≡ true))
+        → (p x ≡ true) × (list_all p (y ∷ ys) ≡ true)
     go true all later = and_parts _ _ all
     go false all later = let both = and_parts _ _ all in let others = later both.1 in (others.0, and_from _ _ both.0 others.1)
 
@@ -80,12 +82,14 @@ there_whole size f [] all = refl
 there_whole size f (c ∷ cs) all = go (f c) all (there_whole size f cs)
   where
     go : (keying : List KeyedEntry) → list_all (is_whole size) (cond (is_keyed keying) (keying ∷ filter is_keyed (map f cs)) (filter is_keyed (map f cs))) ≡ true
-        → (list_all (is_whole size) (filter is_keyed (map f cs)) ≡ true → list_all (λ d. whole_if_there size (f d)) cs ≡ true) → (whole_if_there size keying && list_all (λ d. whole_if_there size (f d)) cs) ≡ true
+        → (list_all (is_whole size) (filter is_keyed (map f cs)) ≡ true → list_all (λ d. whole_if_there size (f d)) cs ≡ true)
+        → (whole_if_there size keying && list_all (λ d. whole_if_there size (f d)) cs) ≡ true
     go [] all later = later all
     go (k ∷ ks) all later = let both = and_parts _ _ all in and_from _ _ both.0 (later both.1)
 
 -- the keying of a round by one of the batch's clerks is whole, where it is there
-keying_whole : (s : OfficeState) (b : BatchEntry) (round clerk : ℕ) (k : KeyedEntry) (ks : List KeyedEntry) → keying_of s b.number round clerk ≡ k ∷ ks → is_its_clerk clerk b (third_at s b.number) ≡ true → is_round_of s b round ≡ true
+keying_whole : (s : OfficeState) (b : BatchEntry) (round clerk : ℕ) (k : KeyedEntry) (ks : List KeyedEntry) → keying_of s b.number round clerk ≡ k ∷ ks
+    → is_its_clerk clerk b (third_at s b.number) ≡ true → is_round_of s b round ≡ true
     → is_whole b.size (k ∷ ks) ≡ true
 keying_whole s b round clerk k ks there its of_round =
     let all = there_whole b.size (keying_of s b.number round) (clerks_of s b) (and_parts _ _ of_round).0 in

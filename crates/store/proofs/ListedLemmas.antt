@@ -21,8 +21,10 @@ use Rattle.store.specs.Listings.{BeginsFirst, ListsAt, TellsStrange}
 use Rattle.store.proofs.TellLemmas.{told_strange}
 
 -- all entries of one of the first tables
-pub entries_listed : {V : Type 0} {old new : State} {rows : List Row} (n : ℕ) (t : Table) (v : V) → place_of t < n → (HasCleanDisk new → (db : Database) → BeginsTo t db.schema → RestsAt db old → ListsEntries t db rows)
-    → (HasCleanDisk new → IsTrue new.is_open) → OnlyReads old new → new.in_transaction ≡ false → ListsAt old new (Ok v) (λ db. BeginsFirst n db.schema) (λ db _. ListsEntries t db rows) (TellsStrange n)
+pub entries_listed : {V : Type 0} {old new : State} {rows : List Row} (n : ℕ) (t : Table) (v : V) → place_of t < n
+    → (HasCleanDisk new → (db : Database) → BeginsTo t db.schema → RestsAt db old → ListsEntries t db rows)
+    → (HasCleanDisk new → IsTrue new.is_open) → OnlyReads old new → new.in_transaction ≡ false → ListsAt old new (Ok v) (λ db. BeginsFirst n db.schema)
+    (λ db _. ListsEntries t db rows) (TellsStrange n)
 entries_listed n t v low lists opens reads outside = record {
   lists = λ clean db begins rests. lists clean db (begins t low) rests;
   told = λ clean db begins rests. tt;
@@ -33,7 +35,8 @@ entries_listed n t v low lists opens reads outside = record {
 }
 
 -- they aren't listed
-pub entries_unlisted : {old new : State} {f : Fault} (n : ℕ) (t : Table) (IsRow : Row → Type 0) → has_entries t ≡ true → place_of t < n → ((s : OfficeState) → IsState s → AllByRecursion IsRow (tables_of s t))
+pub entries_unlisted : {old new : State} {f : Fault} (n : ℕ) (t : Table) (IsRow : Row → Type 0) → has_entries t ≡ true → place_of t < n
+    → ((s : OfficeState) → IsState s → AllByRecursion IsRow (tables_of s t))
     → (HasCleanDisk new → (db : Database) → BeginsTo t db.schema → RestsAt db old → (f ≡ Memory) ⊎ ((f ≡ Store) ⊎ ((f ≡ Damaged) × HoldsNone t IsRow db)))
     → (HasCleanDisk new → (db : Database) → BeginsTo t db.schema → RestsAt db old → FailsToList db old new f)
     → OnlyReads old new → new.in_transaction ≡ false → ListsAt {X = Unit {0}} old new (Err f) (λ db. BeginsFirst n db.schema) (λ db none. ⊥) (TellsStrange n)
@@ -104,7 +107,8 @@ lists_failed {G = G} {old = old} {new = new} {r = Err e} is failed = record {
 }
 
 -- the fault of a listing after another
-pub lists_cut : {X Y Z : Type 0} {K : Database → Type 0} {P : Database → X → Type 0} {Q : Database → Y → Type 0} {R : Database → Z → Type 0} {G : Database → Fault → Type 0} {old mid new : State} {x : X} {f : Fault} {r : Result Z Fault}
+pub lists_cut : {X Y Z : Type 0} {K : Database → Type 0} {P : Database → X → Type 0} {Q : Database → Y → Type 0} {R : Database → Z → Type 0} {G : Database
+    → Fault → Type 0} {old mid new : State} {x : X} {f : Fault} {r : Result Z Fault}
     → IsErrAnd r (λ e. e ≡ f) → ListsAt old mid (Ok x) K P G → ListsAt mid new (Err f) K Q G → ListsAt old new r K R G
 lists_cut {r = Ok z} is one failed = absurd is
 lists_cut {G = G} {old = old} {mid = mid} {new = new} {f = f} {r = Err e} is one failed = record {

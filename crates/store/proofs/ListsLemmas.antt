@@ -43,8 +43,10 @@ module _ (wards : List WardValue) (candidates : List CandidateValue) (papers : P
     receipts = map receipt_entry receipts;
   }
 
-  pub lists_first : (db : Database) → ListsEntries Ward db (map (λ (w : WardValue). row_of_ward (ward_entry w)) wards) → ListsEntries Candidate db (map (λ (c : CandidateValue). row_of_candidate (candidate_entry c)) candidates)
-      → ListsPapers db papers → ListsEntries Lot db (map (λ (l : DrawnLot). row_of_lot (lot_entry l)) lots) → ListsEntries Receipt db (map (λ (r : ReceiptValue). row_of_receipt (receipt_entry r)) receipts) → ListsFirst 8 db maps no_tabulation
+  pub lists_first : (db : Database) → ListsEntries Ward db (map (λ (w : WardValue). row_of_ward (ward_entry w)) wards)
+      → ListsEntries Candidate db (map (λ (c : CandidateValue). row_of_candidate (candidate_entry c)) candidates)
+      → ListsPapers db papers → ListsEntries Lot db (map (λ (l : DrawnLot). row_of_lot (lot_entry l)) lots)
+      → ListsEntries Receipt db (map (λ (r : ReceiptValue). row_of_receipt (receipt_entry r)) receipts) → ListsFirst 8 db maps no_tabulation
   unfolding tables_with
   lists_first db own standing read drawn kept Ward has low = subst (ListsEntries Ward db) (sym (mapped_twice ward_entry row_of_ward wards)) own
   lists_first db own standing read drawn kept Candidate has low = subst (ListsEntries Candidate db) (sym (mapped_twice candidate_entry row_of_candidate candidates)) standing
@@ -58,8 +60,10 @@ module _ (wards : List WardValue) (candidates : List CandidateValue) (papers : P
   lists_first db own standing read drawn kept Third has low = absurd (omega (arith, low))
   lists_first db own standing read drawn kept Office has low = absurd (true≢false (sym has))
 
-  pub first_rise : IsStrictlySortedBy (row_cmp Ward) (map (λ (w : WardValue). row_of_ward (ward_entry w)) wards) → IsStrictlySortedBy (row_cmp Candidate) (map (λ (c : CandidateValue). row_of_candidate (candidate_entry c)) candidates)
-      → PapersRise papers → IsStrictlySortedBy (row_cmp Lot) (map (λ (l : DrawnLot). row_of_lot (lot_entry l)) lots) → IsStrictlySortedBy (row_cmp Receipt) (map (λ (r : ReceiptValue). row_of_receipt (receipt_entry r)) receipts) → MapsRise maps
+  pub first_rise : IsStrictlySortedBy (row_cmp Ward) (map (λ (w : WardValue). row_of_ward (ward_entry w)) wards)
+      → IsStrictlySortedBy (row_cmp Candidate) (map (λ (c : CandidateValue). row_of_candidate (candidate_entry c)) candidates)
+      → PapersRise papers → IsStrictlySortedBy (row_cmp Lot) (map (λ (l : DrawnLot). row_of_lot (lot_entry l)) lots)
+      → IsStrictlySortedBy (row_cmp Receipt) (map (λ (r : ReceiptValue). row_of_receipt (receipt_entry r)) receipts) → MapsRise maps
   unfolding tables_with
   first_rise own standing read drawn kept = maps_rise maps no_tabulation each
     where
@@ -77,7 +81,8 @@ module _ (wards : List WardValue) (candidates : List CandidateValue) (papers : P
       each Office has = absurd (true≢false (sym has))
 
 -- the first tables, and those of what is tabulated
-pub lists_counted : (db : Database) (s : OfficeState) (t : TabulationEntries) (bundles : List PlacedBundle) (figures : List StageFigure) → ListsFirst 8 db s t → ListsEntries Bundle db (map (λ (b : PlacedBundle). row_of_placed (placed_entry b)) bundles)
+pub lists_counted : (db : Database) (s : OfficeState) (t : TabulationEntries) (bundles : List PlacedBundle) (figures : List StageFigure) → ListsFirst 8 db s t
+    → ListsEntries Bundle db (map (λ (b : PlacedBundle). row_of_placed (placed_entry b)) bundles)
     → ListsEntries Vote db (map (λ (f : StageFigure). row_of_figure (figure_entry f)) figures) → ListsFirst 10 db s (record { bundles = map placed_entry bundles; figures = map figure_entry figures })
 unfolding tables_with
 lists_counted db s t bundles figures first placed shown Ward has low = first Ward refl (omega arith)
@@ -97,7 +102,8 @@ abbrev with_thirds : List ThirdClerk → OfficeState → OfficeState
 with_thirds thirds s = record s { thirds = map third_entry thirds }
 
 -- these tables, and that of the third clerks
-pub lists_maps : (db : Database) (s : OfficeState) (t : TabulationEntries) (thirds : List ThirdClerk) → ListsFirst 10 db s t → ListsEntries Third db (map (λ (x : ThirdClerk). row_of_third (third_entry x)) thirds) → ListsMaps db (with_thirds thirds s) t
+pub lists_maps : (db : Database) (s : OfficeState) (t : TabulationEntries) (thirds : List ThirdClerk) → ListsFirst 10 db s t
+    → ListsEntries Third db (map (λ (x : ThirdClerk). row_of_third (third_entry x)) thirds) → ListsMaps db (with_thirds thirds s) t
 unfolding tables_with
 lists_maps db s t thirds first second Ward has = first Ward refl (omega arith)
 lists_maps db s t thirds first second Candidate has = first Candidate refl (omega arith)
@@ -111,12 +117,14 @@ lists_maps db s t thirds first second Vote has = first Vote refl (omega arith)
 lists_maps db s t thirds first second Third has = subst (ListsEntries Third db) (sym (mapped_twice third_entry row_of_third thirds)) second
 lists_maps db s t thirds first second Office has = absurd (true≢false (sym has))
 
-pub thirds_rise : (s : OfficeState) (thirds : List ThirdClerk) → MapsRise s → IsStrictlySortedBy (row_cmp Third) (map (λ (x : ThirdClerk). row_of_third (third_entry x)) thirds) → MapsRise (with_thirds thirds s)
+pub thirds_rise : (s : OfficeState) (thirds : List ThirdClerk) → MapsRise s → IsStrictlySortedBy (row_cmp Third) (map (λ (x : ThirdClerk). row_of_third (third_entry x)) thirds)
+    → MapsRise (with_thirds thirds s)
 thirds_rise s thirds rise up = record {
   wards = rise.wards;
   candidates = rise.candidates;
   batches = rise.batches;
-  thirds = entries_rise row_of_third (row_cmp Third) third_cmp thirds_alike (map third_entry thirds) (subst (IsStrictlySortedBy (row_cmp Third)) (sym (mapped_twice third_entry row_of_third thirds)) up);
+  thirds = entries_rise row_of_third (row_cmp Third) third_cmp thirds_alike (map third_entry thirds)
+      (subst (IsStrictlySortedBy (row_cmp Third)) (sym (mapped_twice third_entry row_of_third thirds)) up);
   keyings = rise.keyings;
   verdicts = rise.verdicts;
   lots = rise.lots;

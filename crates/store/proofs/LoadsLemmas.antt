@@ -1,5 +1,6 @@
 -- Loads, one after the other.
-use Rattle.std.proofs.Common.{◌≡◌, ◌⊎◌, inl, inr, ℕ, ◌+◌, ◌<◌, ◌≤◌, Bool, true, List, [], ◌∷◌, ◌++◌, map, filter, length, take, get_or, Option, option_map, IfSome, Result, Ok, Err, IfOk, IfErr, OnOk, IsTrue, sym, ap, subst, ◌∙◌, arith}
+use Rattle.std.proofs.Common.{◌≡◌, ◌⊎◌, inl, inr, ℕ, ◌+◌, ◌<◌, ◌≤◌, Bool, true, List, [], ◌∷◌, ◌++◌, map, filter, length}
+use Rattle.std.proofs.Common.{take, get_or, Option, option_map, IfSome, Result, Ok, Err, IfOk, IfErr, OnOk, IsTrue, sym, ap, subst, ◌∙◌, arith}
 use Rattle.std.proofs.lemmas.List.{take_more, take_all}
 use Rattle.std.specs.Option.{option_to_list}
 use Rattle.std.specs.List.{AllByRecursion}
@@ -26,7 +27,8 @@ use Rattle.store.proofs.RowLemmas.{if_entry_told, if_entries_told}
 -- ---- one query
 
 -- a query for the entry with a key, where the row with that key is the one of a state's entry
-pub loads_entry : {V X : Type 0} {old new : State} {r : Result (Option V) Fault} {kinds : Bool} (t : Table) (test : Row → Bool) (IsRow : Row → Type 0) (entry : V → X) (row : X → Row) (back : Row → X) → ((x : X) → back (row x) ≡ x) → (there : OfficeState → Option X)
+pub loads_entry : {V X : Type 0} {old new : State} {r : Result (Option V) Fault} {kinds : Bool} (t : Table) (test : Row → Bool) (IsRow : Row → Type 0)
+    (entry : V → X) (row : X → Row) (back : Row → X) → ((x : X) → back (row x) ≡ x) → (there : OfficeState → Option X)
     → ((s : OfficeState) → IsState s → filter test (tables_of s t) ≡ option_to_list (option_map row (there s))) → ((s : OfficeState) → IsState s → IfSome (option_map row (there s)) IsRow)
     → (HasCleanDisk new → (c : Contents) → RestsIfOpen c old → (x : Option Row) → filter test (c t) ≡ option_to_list x → IfOk r (λ v. option_map (λ u. row (entry u)) v ≡ x))
     → (HasCleanDisk new → (c : Contents) → RestsIfOpen c old → (x : Option Row) → filter test (c t) ≡ option_to_list x → kinds ≡ true → IfSome x IsRow → IfErr r (FailsBy old new))
@@ -41,7 +43,8 @@ loads_entry {old = old} {new = new} {r = r} t test IsRow entry row back returns 
 }
 
 -- a query for all entries that pass a test
-pub loads_entries : {V X W : Type 0} {old new : State} {r : Result W Fault} {t : Table} {test : Row → Bool} {IsRow : Row → Type 0} {kinds : Bool} (items : W → List V) (entry : V → X) (row : X → Row) (back : Row → X) → ((x : X) → back (row x) ≡ x) → (there : OfficeState → List X)
+pub loads_entries : {V X W : Type 0} {old new : State} {r : Result W Fault} {t : Table} {test : Row → Bool} {IsRow : Row → Type 0} {kinds : Bool}
+    (items : W → List V) (entry : V → X) (row : X → Row) (back : Row → X) → ((x : X) → back (row x) ≡ x) → (there : OfficeState → List X)
     → ((s : OfficeState) → IsState s → (rows : List Row) → Finds t test (tables_of s) rows → rows ≡ map row (there s)) → ((s : OfficeState) → IsState s → AllByRecursion IsRow (tables_of s t))
     → (HasCleanDisk new → (c : Contents) → RestsIfOpen c old → IfOk r (λ w. Finds t test c (map (λ u. row (entry u)) (items w))))
     → (HasCleanDisk new → (c : Contents) → RestsIfOpen c old → kinds ≡ true → AllByRecursion IsRow (c t) → IfErr r (FailsBy old new))
@@ -62,7 +65,8 @@ pub loads_none : {X : Type 0} {P : OfficeState → X → Type 0} {st : State} {x
 loads_none {st = st} is_open told = record { shows = λ clean s at. told s at.is; cause = λ clean s at. tt; opens = is_open; reads = only_reads_itself st; keeps = λ clean s at. at }
 
 -- what was read, told in other words
-pub loads_as : {X Y : Type 0} {P : OfficeState → X → Type 0} {Q : OfficeState → Y → Type 0} {old new : State} {x : X} {y : Y} → LoadsAt old new (Ok x) P → ((s : OfficeState) → IsState s → P s x → Q s y) → LoadsAt old new (Ok y) Q
+pub loads_as : {X Y : Type 0} {P : OfficeState → X → Type 0} {Q : OfficeState → Y → Type 0} {old new : State} {x : X} {y : Y} → LoadsAt old new (Ok x) P
+    → ((s : OfficeState) → IsState s → P s x → Q s y) → LoadsAt old new (Ok y) Q
 loads_as one told = record { shows = λ clean s at. told s at.is (one.shows clean s at); cause = λ clean s at. tt; opens = one.opens; reads = one.reads; keeps = one.keeps }
 
 -- the same of what a read told, if it told anything
@@ -71,7 +75,8 @@ loads_told {r = Ok x} one told = record { shows = λ clean s at. told s x (one.s
 loads_told {r = Err f} one told = record { shows = λ clean s at. tt; cause = one.cause; opens = one.opens; reads = one.reads; keeps = one.keeps }
 
 -- one read, and then another
-pub loads_both : {X Y : Type 0} {P : OfficeState → X → Type 0} {Q : OfficeState → Y → Type 0} {old mid new : State} {x : X} {y : Y} → LoadsAt old mid (Ok x) P → LoadsAt mid new (Ok y) Q → LoadsAt old new (Ok y) (λ s v. P s x × Q s v)
+pub loads_both : {X Y : Type 0} {P : OfficeState → X → Type 0} {Q : OfficeState → Y → Type 0} {old mid new : State} {x : X} {y : Y} → LoadsAt old mid (Ok x) P
+    → LoadsAt mid new (Ok y) Q → LoadsAt old new (Ok y) (λ s v. P s x × Q s v)
 loads_both {old = old} {mid = mid} {new = new} one two = record {
   shows = λ clean s at.
       let before = two.reads.clean clean in
@@ -83,7 +88,8 @@ loads_both {old = old} {mid = mid} {new = new} one two = record {
 }
 
 -- a failure that is passed on
-pub loads_failed : {X Y : Type 0} {P : OfficeState → X → Type 0} {Q : OfficeState → Y → Type 0} {old new : State} {f : Fault} {r : Result Y Fault} → IsErrAnd r (λ e. e ≡ f) → LoadsAt old new (Err f) P → LoadsAt old new r Q
+pub loads_failed : {X Y : Type 0} {P : OfficeState → X → Type 0} {Q : OfficeState → Y → Type 0} {old new : State} {f : Fault} {r : Result Y Fault}
+    → IsErrAnd r (λ e. e ≡ f) → LoadsAt old new (Err f) P → LoadsAt old new r Q
 loads_failed {r = Ok y} is failed = absurd is
 loads_failed {old = old} {new = new} {r = Err e} is failed = record {
   shows = λ clean s at. tt;
@@ -138,7 +144,8 @@ entries_all entry xs k past = take_all k (map entry xs) (omega (arith, mapped_le
 -- ---- rows taken in one after the other
 
 -- a walk over the entries that pass a test, which are those of a state: they are taken in, in their order
-pub loads_walked : {V E X : Type 0} {old new : State} {v visitor : V} {t : Table} {test : Row → Bool} (HasTaken : V → List E → Type 0) (entry : E → X) (row : X → Row) (back : Row → X) → ((x : X) → back (row x) ≡ x) → (there : OfficeState → List X)
+pub loads_walked : {V E X : Type 0} {old new : State} {v visitor : V} {t : Table} {test : Row → Bool} (HasTaken : V → List E → Type 0) (entry : E → X) (row : X → Row) (back : Row → X)
+    → ((x : X) → back (row x) ≡ x) → (there : OfficeState → List X)
     → ((s : OfficeState) → IsState s → (rows : List Row) → Finds t test (tables_of s) rows → rows ≡ map row (there s))
     → (HasCleanDisk new → (c : Contents) → RestsIfOpen c old → TakesFound HasTaken (λ e. row (entry e)) t test c visitor v)
     → (HasCleanDisk new → IsTrue new.is_open) → OnlyReads old new
@@ -152,10 +159,16 @@ loads_walked {V} {E} {X} {old} {new} {v} {visitor} {t} {test} HasTaken entry row
 }
   where
     taken : (s : OfficeState) → IsState s → TakesFound HasTaken (λ e. row (entry e)) t test (tables_of s) visitor v → (found : List E) × (map entry found ≡ there s) × HasTaken v found
-    taken s state (found, finds, takes) = (found, if_entries_told {W = List E} {F = Fault} (λ es. es) entry row back returns (Ok found) (there s) (Finds t test (tables_of s)) (is s state) finds, takes [] none)
+    taken s state (found, finds, takes) = (
+      found,
+      if_entries_told {W = List E} {F = Fault} (λ es. es) entry row back returns (Ok found) (there s)
+          (Finds t test (tables_of s)) (is s state) finds,
+      takes [] none,
+    )
 
 -- a walk that stops for want of memory, or fails
-pub loads_unwalked : {X : Type 0} {P : OfficeState → X → Type 0} {old new : State} {f : Fault} {t : Table} {IsRow : Row → Type 0} {kinds : Bool} → ((s : OfficeState) → IsState s → AllByRecursion IsRow (tables_of s t))
+pub loads_unwalked : {X : Type 0} {P : OfficeState → X → Type 0} {old new : State} {f : Fault} {t : Table} {IsRow : Row → Type 0} {kinds : Bool}
+    → ((s : OfficeState) → IsState s → AllByRecursion IsRow (tables_of s t))
     → (HasCleanDisk new → (c : Contents) → RestsIfOpen c old → kinds ≡ true → AllByRecursion IsRow (c t) → FailsBy old new f ⊎ (f ≡ Memory))
     → kinds ≡ true → OnlyReads old new → LoadsAt old new (Err f) P
 loads_unwalked {old = old} {new = new} {f = f} fits fails kinds reads = record {

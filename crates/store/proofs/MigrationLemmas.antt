@@ -1,5 +1,6 @@
 -- An older office, and what a migration makes of it.
-use Rattle.std.proofs.Common.{IsTrue, ◌≡◌, ◌≢◌, ◌⊎◌, inl, inr, ℕ, ◌<◌, ◌≤◌, List, [], ◌∷◌, map, true, false, refl, sym, ap, subst, ◌∙◌, true≢false, arith, pos, ◌||◌, Option, Some, None, IfSome, Result, Ok, Err, IfOk, IfErr, OnOk}
+use Rattle.std.proofs.Common.{IsTrue, ◌≡◌, ◌≢◌, ◌⊎◌, inl, inr, ℕ, ◌<◌, ◌≤◌, List, [], ◌∷◌, map, true, false, refl, sym}
+use Rattle.std.proofs.Common.{ap, subst, ◌∙◌, true≢false, arith, pos, ◌||◌, Option, Some, None, IfSome, Result, Ok, Err, IfOk, IfErr, OnOk}
 use Rattle.std.specs.List.{list_any}
 use Rattle.std.specs.Ordering.{is_eq, nat_cmp}
 use Rattle.std.specs.List.Sorted.{IsPermutation, IsStrictlySortedBy}
@@ -39,7 +40,8 @@ use Rattle.store.specs.EntryRows.{this_version, office_row}
 use Rattle.store.specs.Offices.{no_tabulation, tables_of, tables_with, HoldsState, IsAt}
 use Rattle.store.specs.Openings.{HasNoOffice, IsNewer, HoldsNoState, IsToldBy, HasVersion, has_entries, IsTabulatedAs}
 use Rattle.store.specs.Listings.{TellsStrange, ListsFirst}
-use Rattle.store.specs.Migrations.{tables_in, name_of, tabulation_in, older_tables, is_about_third, IsOlderState, HoldsOlder, RestsOlder, HoldsNoOlder, StoresOlder, LeavesOldOrNew, WasAt, IsToldInMigration, FailsToMigrate, IsBare, IsOlderOf, Lacks, TellsOlder, LeavesOlderOr}
+use Rattle.store.specs.Migrations.{tables_in, name_of, tabulation_in, older_tables, is_about_third, IsOlderState, HoldsOlder, RestsOlder, HoldsNoOlder, StoresOlder}
+use Rattle.store.specs.Migrations.{LeavesOldOrNew, WasAt, IsToldInMigration, FailsToMigrate, IsBare, IsOlderOf, Lacks, TellsOlder, LeavesOlderOr}
 use Rattle.tables.proofs.HoldLemmas.{rows_held, held_listed}
 use Rattle.tables.proofs.OrderLemmas.{key_of_number}
 use Rattle.tables.proofs.ChangeLemmas.{rows_set}
@@ -170,7 +172,8 @@ one_older form db s x first second = same_older form s x first.is second.is each
     each : SameContents (older_tables form s) (older_tables form x)
     each t = elim (cases_lt (place_of t) (tables_in form)) [
       | inl low ↦ IsPermutation-trans _ _ _ ((at_first form db s first).holds t low).same (IsPermutation-sym _ _ ((at_first form db x second).holds t low).same)
-      | inr up ↦ subst (λ l. IsPermutation l (older_tables form x t)) (sym (older_none form s first.is t up)) (subst (IsPermutation []) (sym (older_none form x second.is t up)) (IsPermutation-refl []))
+      | inr up ↦ subst (λ l. IsPermutation l (older_tables form x t)) (sym (older_none form s first.is t up))
+          (subst (IsPermutation []) (sym (older_none form x second.is t up)) (IsPermutation-refl []))
     ]
 
 -- the schema tells the form
@@ -223,7 +226,8 @@ older_version form db s held = subst (λ rows. HoldsTable Office rows db.trees) 
 -- ---- from the rows that were read
 
 -- rows of an older state, and the office row of its version, are an older office
-pub older_held : (form : OlderForm) (db : Database) (s : OfficeState) (t : TabulationEntries) → db.schema ≡ schema_from (tables_in form) [] [] [] → IsDatabase db → HasVersion 1 db → IsOlderOf form s t → ListsFirst (tables_in form) db s t → HoldsOlder form db s
+pub older_held : (form : OlderForm) (db : Database) (s : OfficeState) (t : TabulationEntries) → db.schema ≡ schema_from (tables_in form) [] [] []
+    → IsDatabase db → HasVersion 1 db → IsOlderOf form s t → ListsFirst (tables_in form) db s t → HoldsOlder form db s
 older_held form db s t schema sound office is lists = record { is = is.is; first = first_from (tables_in form) (older_tables form s) db (record { schema = schema; sound = sound; holds = each }) }
   where
     each : (u : Table) → place_of u < tables_in form → HoldsTable u (older_tables form s u) db.trees
@@ -235,32 +239,38 @@ older_held form db s t schema sound office is lists = record { is = is.is; first
     ]
 
 -- the rows that were read are those of each older state that the database holds
-older_listed : (form : OlderForm) (db : Database) (s x : OfficeState) (t : TabulationEntries) → ListsFirst (tables_in form) db s t → IsBare form s t → HoldsOlder form db x → SameContents (tables_with x (tabulation_in form x)) (tables_with s t)
+older_listed : (form : OlderForm) (db : Database) (s x : OfficeState) (t : TabulationEntries) → ListsFirst (tables_in form) db s t → IsBare form s t
+    → HoldsOlder form db x → SameContents (tables_with x (tabulation_in form x)) (tables_with s t)
 older_listed form db s x t lists bare held u = elim (which_kind u) [
   | inl office ↦ subst (λ (v : Table). IsPermutation (tables_with x (tabulation_in form x) v) (tables_with s t v)) (sym office)
-      (subst (λ l. IsPermutation l (tables_with s t Office)) (sym (office_with x (tabulation_in form x))) (subst (IsPermutation (office_row this_version ∷ [])) (sym (office_with s t)) (IsPermutation-refl _)))
+      (subst (λ l. IsPermutation l (tables_with s t Office)) (sym (office_with x (tabulation_in form x)))
+      (subst (IsPermutation (office_row this_version ∷ [])) (sym (office_with s t)) (IsPermutation-refl _)))
   | inr has ↦ elim (cases_lt (place_of u) (tables_in form)) [
-    | inl low ↦ held_listed u db (tables_with s t u) (lists u has low).all.lists (tables_with x (tabulation_in form x) u) (subst (λ rows. HoldsTable u rows db.trees) (older_entries form x u has) ((at_first form db x held).holds u low))
+    | inl low ↦ held_listed u db (tables_with s t u) (lists u has low).all.lists (tables_with x (tabulation_in form x) u)
+        (subst (λ rows. HoldsTable u rows db.trees) (older_entries form x u has) ((at_first form db x held).holds u low))
     | inr up ↦
         subst (λ l. IsPermutation l (tables_with s t u)) (sym (later_none form x (tabulation_in form x) (bare_state form x held.is) u up))
         (subst (IsPermutation []) (sym (later_none form s t bare u up)) (IsPermutation-refl []))
   ]
 ]
 
-older_rise : (form : OlderForm) (db : Database) (s : OfficeState) (t : TabulationEntries) → ListsFirst (tables_in form) db s t → IsBare form s t → (u : Table) → has_entries u ≡ true → IsStrictlySortedBy (row_cmp u) (tables_with s t u)
+older_rise : (form : OlderForm) (db : Database) (s : OfficeState) (t : TabulationEntries) → ListsFirst (tables_in form) db s t → IsBare form s t
+    → (u : Table) → has_entries u ≡ true → IsStrictlySortedBy (row_cmp u) (tables_with s t u)
 older_rise form db s t lists bare u has = elim (cases_lt (place_of u) (tables_in form)) [
   | inl low ↦ (lists u has low).rise
   | inr up ↦ subst (IsStrictlySortedBy (row_cmp u)) (sym (later_none form s t bare u up)) (none_rises (row_cmp u))
 ]
 
-older_tabulated : (form : OlderForm) (s x : OfficeState) (t : TabulationEntries) → IsState x → IsBare form s t → ((u : Table) → has_entries u ≡ true → IsStrictlySortedBy (row_cmp u) (tables_with s t u))
+older_tabulated : (form : OlderForm) (s x : OfficeState) (t : TabulationEntries) → IsState x → IsBare form s t
+    → ((u : Table) → has_entries u ≡ true → IsStrictlySortedBy (row_cmp u) (tables_with s t u))
     → SameContents (tables_with x (tabulation_in form x)) (tables_with s t) → t ≡ tabulation_in form x
 unfolding tables_of
 older_tabulated WithCounts s x t is bare each same = tabulated_same s x t is each same
 older_tabulated WithoutCounts s x t is bare each same = bare.no_counts refl
 
 -- such a state has just these maps, and what stands beside them
-pub older_are : (form : OlderForm) (db : Database) (s x : OfficeState) (t : TabulationEntries) → ListsFirst (tables_in form) db s t → MapsRise s → IsBare form s t → HoldsOlder form db x → IsOlderOf form s t
+pub older_are : (form : OlderForm) (db : Database) (s x : OfficeState) (t : TabulationEntries) → ListsFirst (tables_in form) db s t → MapsRise s
+    → IsBare form s t → HoldsOlder form db x → IsOlderOf form s t
 older_are form db s x t lists rise bare held =
     let same = older_listed form db s x t lists bare held in
     let maps : x ≡ s = equal_maps x s (tabulation_in form x) t held.is.is.rise rise same in
@@ -283,7 +293,8 @@ strange_older form db schema Memory told = tt
 strange_older form db schema Store told = tt
 strange_older form db schema Damaged told =
     let t = told.0 in
-    none_of_form form db schema (λ x held. told.3 x held.is.is (subst (λ rows. HoldsTable t rows db.trees) (older_entries form x t told.1 ∙ first_entries form x t told.2) ((at_first form db x held).holds t told.2)))
+    none_of_form form db schema (λ x held. told.3 x held.is.is (subst (λ rows. HoldsTable t rows db.trees) (older_entries form x t told.1 ∙ first_entries form x t told.2)
+    ((at_first form db x held).holds t told.2)))
 strange_older form db schema Closed told = told
 strange_older form db schema WrongDatabase told = told
 strange_older form db schema NewerSchema told = told
@@ -323,7 +334,13 @@ older_told form db s held =
 pub told_at_once : (db : Database) (f : Fault) → IsToldBy db f → f ≢ OlderSchema → IsToldInMigration db f
 told_at_once db Memory told other = tt
 told_at_once db Store told other = tt
-told_at_once db Damaged told other = record { some_office = told.some_office; not_newer = told.not_newer; no_state = told.no_state; no_older = λ form s held. told.not_older (first_row db (older_version form db s held)) }
+told_at_once db Damaged told other = record {
+  some_office = told.some_office;
+  not_newer = told.not_newer;
+  no_state = told.no_state;
+  no_older
+      = λ form s held. told.not_older (first_row db (older_version form db s held));
+}
 told_at_once db Closed told other = told
 told_at_once db WrongDatabase told other = told
 told_at_once db NewerSchema told other = told
@@ -344,7 +361,8 @@ told_later db office OlderSchema told = told
 -- the version in the office row
 pub version_put : (form : OlderForm) (s : OfficeState) → SameContents (value_put VersionOfOffice (office_row this_version) (older_tables form s)) (tables_with s (tabulation_in form s))
 unfolding value_put older_tables tables_with
-version_put form s Office = subst (IsPermutation _) (rows_set VersionOfOffice (office_row this_version) office_row (λ _. is_eq (nat_cmp 1 1)) (λ _. this_version) (λ v. key_of_number 1 1) (λ v. refl) (1 ∷ [])) (IsPermutation-refl _)
+version_put form s Office = subst (IsPermutation _) (rows_set VersionOfOffice (office_row this_version) office_row (λ _. is_eq (nat_cmp 1 1))
+    (λ _. this_version) (λ v. key_of_number 1 1) (λ v. refl) (1 ∷ [])) (IsPermutation-refl _)
 version_put form s Ward = IsPermutation-refl _
 version_put form s Candidate = IsPermutation-refl _
 version_put form s Batch = IsPermutation-refl _
@@ -386,14 +404,18 @@ rests_older form db s st rests held = record {
 }
 
 pub older_rests : (form : OlderForm) (s : OfficeState) (st : State) → RestsOlder form s st → RestsAt st.now st × HoldsOlder form st.now s
-older_rests form s st older = (record { is_open = older.rests.is_open; outside = older.rests.outside; now = refl; committed = sym older.rests.settled }, record { is = older.is; first = older.rests.first })
+older_rests form s st older = (
+  record { is_open = older.rests.is_open; outside = older.rests.outside; now = refl; committed = sym older.rests.settled },
+  record { is = older.is; first = older.rests.first },
+)
 
 -- what a stop left of an older office is found again
 pub older_again : (form : OlderForm) (s : OfficeState) (db : Database) → IsDatabase db → StoresOlder form s db.trees → HoldsOlder form db s
 older_again form s db sound left = record { is = left.is; first = first_found (tables_in form) (older_tables form s) db sound left.stores }
 
 -- a stop in the transaction leaves what it left before, or the tables of the state
-pub older_leaves : (form : OlderForm) (db : Database) (s : OfficeState) (old mid new : State) → HoldsOlder form db s → OnlyReads old mid → HasCleanDisk mid → HasCleanDisk new → Survives mid new (Stores (tables_of s)) → LeavesOlderOr db old new
+pub older_leaves : (form : OlderForm) (db : Database) (s : OfficeState) (old mid new : State) → HoldsOlder form db s → OnlyReads old mid → HasCleanDisk mid
+    → HasCleanDisk new → Survives mid new (Stores (tables_of s)) → LeavesOlderOr db old new
 older_leaves form db s old mid new held reads before clean survives trees may = elim (survives.crash clean trees may) [
   | inl was ↦ inl (reads.leaves before trees was)
   | inr made ↦ inr (s, form, held, made)
@@ -485,7 +507,8 @@ module _ (r : Result Migrated Fault) (old new : State) where
       go Done found = absurd (two_versions db (older_version found.1.0 db found.0 found.1.1) (state_version db s held))
 
 -- why a migration that began with a read came to nothing
-pub if_failed_later : (r : Result Migrated Fault) (db : Database) (a b c : State) → OnlyReads a b → HasCleanDisk b → b.faults ≤ c.faults → IfErr r (FailsToMigrate db b c) → IfErr r (FailsToMigrate db a c)
+pub if_failed_later : (r : Result Migrated Fault) (db : Database) (a b c : State) → OnlyReads a b → HasCleanDisk b → b.faults ≤ c.faults
+    → IfErr r (FailsToMigrate db b c) → IfErr r (FailsToMigrate db a c)
 if_failed_later (Ok m) db a b c first clean counts fails = tt
 if_failed_later (Err f) db a b c first clean counts (inl listed) = inl (λ store. elim (listed store) [ inl failed ↦ inl (failed_later a b c first clean counts failed) | inr shared ↦ inr shared ])
 if_failed_later (Err f) db a b c first clean counts (inr held) = inr held
@@ -493,7 +516,8 @@ if_failed_later (Err f) db a b c first clean counts (inr held) = inr held
 -- ---- the parts of a reading
 
 -- a receipt about a third clerk, among those that were read
-asked_mapped : (rs : List ReceiptValue) → list_any (λ (r : ReceiptEntry). is_about_third r.subject) (map receipt_entry rs) ≡ list_any (λ (r : ReceiptValue). is_about_third (receipt_entry r).subject) rs
+asked_mapped : (rs : List ReceiptValue) → list_any (λ (r : ReceiptEntry). is_about_third r.subject) (map receipt_entry rs) ≡ list_any
+    (λ (r : ReceiptValue). is_about_third (receipt_entry r).subject) rs
 asked_mapped [] = refl
 asked_mapped (r ∷ rs) = ap (λ b. is_about_third (receipt_entry r).subject || b) (asked_mapped rs)
 

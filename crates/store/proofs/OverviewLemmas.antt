@@ -49,7 +49,8 @@ same_ward_view x y ward status elected candidates =
 -- a ward of a state is the one of its number
 pub ward_there : (s : OfficeState) → IsState s → (ws : List Ward) → map ward_entry ws ≡ s.wards → (k : ℕ) (w : Ward) → k < length ws → w ≡ get_or ws k w → ward_at s w.number ≡ Some (ward_entry w)
 ward_there s is ws are k w within at =
-    each_there (λ (e : WardEntry). ward_at s e.number ≡ Some e) ward_entry ws k w (subst (AllByRecursion (λ (e : WardEntry). ward_at s e.number ≡ Some e)) (sym are) (wards_there s.wards is.rise.wards)) within at
+    each_there (λ (e : WardEntry). ward_at s e.number ≡ Some e) ward_entry ws k w (subst (AllByRecursion (λ (e : WardEntry). ward_at s e.number ≡ Some e))
+    (sym are) (wards_there s.wards is.rise.wards)) within at
 
 -- a declared ward has been sealed
 declared_counted : (phase : Phase) → is_declared phase ≡ true → is_counted phase ≡ true
@@ -59,8 +60,10 @@ declared_counted Sealed is = refl
 declared_counted Declared is = refl
 
 -- who is elected by the count that was found of a declared ward
-pub declared_told : (s : OfficeState) (w : WardEntry) (found : Option CountedWard) (counted : CountedWard) (elected : List ℕ) → found ≡ Some counted → IsCountedInFor (option_map (election_of s) (ward_at s w.number)) found
-    → ((e : ElectionEntry) → IsCountedWard e counted → is_counted e.ward.phase ≡ true → elected ≡ elected_of e) → is_declared w.phase ≡ true → ward_at s w.number ≡ Some w → Some elected ≡ declared_in s w
+pub declared_told : (s : OfficeState) (w : WardEntry) (found : Option CountedWard) (counted : CountedWard) (elected : List ℕ) → found ≡ Some counted
+    → IsCountedInFor (option_map (election_of s) (ward_at s w.number)) found
+    → ((e : ElectionEntry) → IsCountedWard e counted → is_counted e.ward.phase ≡ true → elected ≡ elected_of e) → is_declared w.phase ≡ true
+    → ward_at s w.number ≡ Some w → Some elected ≡ declared_in s w
 declared_told s w found counted elected is told law declared there =
     let here : IsCountedIn (election_of s w) found = subst (λ (o : Option WardEntry). IsCountedInFor (option_map (election_of s) o) found) there told in
     let same : here.0 ≡ counted = some_same (sym here.1 ∙ is) in
@@ -71,7 +74,8 @@ declared_told s w found counted elected is told law declared there =
     some_same e = cc
 
 -- the candidates that were found of a declared ward
-pub candidates_found : (s : OfficeState) (w : WardEntry) (found : Option CountedWard) (counted : CountedWard) → found ≡ Some counted → IsCountedInFor (option_map (election_of s) (ward_at s w.number)) found
+pub candidates_found : (s : OfficeState) (w : WardEntry) (found : Option CountedWard) (counted : CountedWard) → found ≡ Some counted
+    → IsCountedInFor (option_map (election_of s) (ward_at s w.number)) found
     → is_declared w.phase ≡ true → ward_at s w.number ≡ Some w → map candidate_entry counted.candidates.items ≡ candidates_told s w
 candidates_found s w found counted is told declared there =
     let here : IsCountedIn (election_of s w) found = subst (λ (o : Option WardEntry). IsCountedInFor (option_map (election_of s) o) found) there told in

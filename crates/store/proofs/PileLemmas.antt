@@ -26,7 +26,8 @@ numbers_more rs r q =
     sym (ap (map number) (filter-append has rs (r ∷ [])) ∙ map-append number (filter has rs) (filter has (r ∷ [])))
 
 -- what is told with one batch more
-pub one_paired : (numbers : List ℕ → List ℕ) (before : List BatchOverview) (found : Option BatchOverview) (rs : List ReadView) (r : ReadView) → map batch_view before ≡ all_paired numbers rs → option_map batch_view found ≡ paired numbers r
+pub one_paired : (numbers : List ℕ → List ℕ) (before : List BatchOverview) (found : Option BatchOverview) (rs : List ReadView) (r : ReadView)
+    → map batch_view before ≡ all_paired numbers rs → option_map batch_view found ≡ paired numbers r
     → map batch_view (before ++ option_to_list found) ≡ all_paired numbers (rs ++ r ∷ [])
 one_paired numbers before found rs r all one =
     map-append batch_view before (option_to_list found)
@@ -72,7 +73,8 @@ module _ (s : OfficeState) (ward : ℕ) where
       rest = filter (λ (r : ReadView). is_pile (pile_text_of s b) r.pile) (map (read_view_of s ward) cs)
 
       go : (has : Bool) → find other (map number rest) ≡ option_map (λ (d : BatchEntry). d.number) (find (is_twin s b) cs)
-          → find other (map number (cond has (read_view_of s ward c ∷ rest) rest)) ≡ option_map (λ (d : BatchEntry). d.number) (cond (not (c.number == b.number) && has) (Some c) (find (is_twin s b) cs))
+          → find other (map number (cond has (read_view_of s ward c ∷ rest) rest)) ≡ option_map (λ (d : BatchEntry). d.number)
+          (cond (not (c.number == b.number) && has) (Some c) (find (is_twin s b) cs))
       go true later = inner (c.number == b.number) later
         where
           inner : (same : Bool) → find other (map number rest) ≡ option_map (λ (d : BatchEntry). d.number) (find (is_twin s b) cs)
@@ -100,7 +102,8 @@ module _ (s : OfficeState) (ward : ℕ) where
         own = filter (λ (c : BatchEntry). c.ward == ward) bs
 
         go : (q : Bool) → others ≡ map (batch_view_of s) own
-            → cons_option (option_map (λ (v : BatchView). record v { twin = twin_under numbers b.number (pile_in s b) }) (cond q (Some (batch_view_with s b None)) None)) others ≡ map (batch_view_of s) (cond q (b ∷ own) own)
+            → cons_option (option_map (λ (v : BatchView). record v { twin = twin_under numbers b.number (pile_in s b) }) (cond q (Some (batch_view_with s b None)) None)) others
+            ≡ map (batch_view_of s) (cond q (b ∷ own) own)
         go true later = ap (λ (t : Option ℕ). batch_view_with s b t ∷ others) (twin_found b) ∙ ap (λ (vs : List BatchView). batch_view_of s b ∷ vs) later
         go false later = later
 
@@ -108,14 +111,16 @@ module _ (s : OfficeState) (ward : ℕ) where
     batches_paired : all_paired numbers (map (read_view_of s ward) s.batches) ≡ batch_views s ward
     batches_paired = each_paired s.batches
 
-  pub overviews_told : (numbers : List ℕ → List ℕ) (rs : List ReadView) (found : List BatchView) → ((q : List ℕ) → numbers q ≡ numbers_with rs q) → found ≡ all_paired numbers rs → rs ≡ map (read_view_of s ward) s.batches → found ≡ batch_views s ward
+  pub overviews_told : (numbers : List ℕ → List ℕ) (rs : List ReadView) (found : List BatchView) → ((q : List ℕ) → numbers q ≡ numbers_with rs q)
+      → found ≡ all_paired numbers rs → rs ≡ map (read_view_of s ward) s.batches → found ≡ batch_views s ward
   overviews_told numbers rs found are all told =
       all ∙ ap (all_paired numbers) told ∙ batches_paired numbers (λ q. are q ∙ ap (λ (xs : List ReadView). numbers_with xs q) told)
 
 -- ---- one batch
 
 -- what is told of a batch by what was read of it
-pub view_told : (s : OfficeState) (b : BatchEntry) (clerks : List (ℕ × Bool)) (keyings : List (List KeyedEntry)) (verdicts : List JudgedEntry) → clerks ≡ map (clerk_view_of s b) (clerks_of s b) → keyings ≡ keyings_now s b → verdicts ≡ verdicts_of s b.number
+pub view_told : (s : OfficeState) (b : BatchEntry) (clerks : List (ℕ × Bool)) (keyings : List (List KeyedEntry)) (verdicts : List JudgedEntry)
+    → clerks ≡ map (clerk_view_of s b) (clerks_of s b) → keyings ≡ keyings_now s b → verdicts ≡ verdicts_of s b.number
     → view_by b clerks keyings verdicts ≡ batch_view_with s b None
 view_told s b clerks keyings verdicts by_clerk now judged =
     ap (λ (cs : List (ℕ × Bool)). view_by b cs keyings verdicts) by_clerk
@@ -123,7 +128,8 @@ view_told s b clerks keyings verdicts by_clerk now judged =
     ∙ ap (λ (vs : List JudgedEntry). view_by b (map (clerk_view_of s b) (clerks_of s b)) (keyings_now s b) vs) judged
 
 -- the text of the papers of a batch that is taken
-pub pile_told : (s : OfficeState) (b : BatchEntry) (columns text : List ℕ) (papers : List KeyedEntry) (keyings : List (List KeyedEntry)) → text ≡ pile_text columns papers → columns ≡ columns_of (candidates_of s b.ward) → papers ≡ agreed keyings → keyings ≡ keyings_now s b
+pub pile_told : (s : OfficeState) (b : BatchEntry) (columns text : List ℕ) (papers : List KeyedEntry) (keyings : List (List KeyedEntry))
+    → text ≡ pile_text columns papers → columns ≡ columns_of (candidates_of s b.ward) → papers ≡ agreed keyings → keyings ≡ keyings_now s b
     → is_keyed papers ≡ true → Some text ≡ pile_in s b
 pile_told s b columns text papers keyings is told taken now there =
     let same : papers ≡ taken_papers s b = taken ∙ ap agreed now in
@@ -131,7 +137,8 @@ pile_told s b columns text papers keyings is told taken now there =
     ∙ sym (cond-true (is_taken s b) (Some (pile_text_of s b)) None (ap is_keyed (sym same) ∙ there))
 
 -- a batch that isn't taken has none
-pub no_pile : (s : OfficeState) (b : BatchEntry) (papers : List KeyedEntry) (keyings : List (List KeyedEntry)) → papers ≡ agreed keyings → keyings ≡ keyings_now s b → is_keyed papers ≡ false → None ≡ pile_in s b
+pub no_pile : (s : OfficeState) (b : BatchEntry) (papers : List KeyedEntry) (keyings : List (List KeyedEntry)) → papers ≡ agreed keyings
+    → keyings ≡ keyings_now s b → is_keyed papers ≡ false → None ≡ pile_in s b
 no_pile s b papers keyings taken now there = sym (cond-false (is_taken s b) (Some (pile_text_of s b)) None (ap is_keyed (sym (taken ∙ ap agreed now)) ∙ there))
 
 -- batches that were read with the same fields are the same

@@ -84,7 +84,8 @@ one_rises by row = (tt, tt)
 -- the rows of each table rise
 all_rise : (s : OfficeState) → IsState s → (t : Table) → IsStrictlySortedBy (row_cmp t) (tables_of s t)
 all_rise s is t = elim (which_kind t) [
-  | inl office ↦ subst (λ (u : Table). IsStrictlySortedBy (row_cmp u) (tables_of s u)) (sym office) (subst (IsStrictlySortedBy (row_cmp Office)) (sym (office_rows s)) (one_rises (row_cmp Office) (office_row this_version)))
+  | inl office ↦ subst (λ (u : Table). IsStrictlySortedBy (row_cmp u) (tables_of s u)) (sym office)
+      (subst (IsStrictlySortedBy (row_cmp Office)) (sym (office_rows s)) (one_rises (row_cmp Office) (office_row this_version)))
   | inr has ↦ tables_rise s is t has
 ]
 

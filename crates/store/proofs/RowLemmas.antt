@@ -18,12 +18,14 @@ use Rattle.tables.proofs.HoldLemmas.{rising_same, found_same}
 
 -- ---- the order of rows
 
-above : {X : Type 0} (row : X → Row) (by : Row → Row → Ordering) (cmp : X → X → Ordering) → ((x y : X) → by (row x) (row y) ≡ cmp x y) → (x : X) (xs : List X) → AllByRecursion (λ r. by (row x) r ≡ Less) (map row xs) → AllByRecursion (λ y. cmp x y ≡ Less) xs
+above : {X : Type 0} (row : X → Row) (by : Row → Row → Ordering) (cmp : X → X → Ordering) → ((x y : X) → by (row x) (row y) ≡ cmp x y) → (x : X) (xs : List X)
+    → AllByRecursion (λ r. by (row x) r ≡ Less) (map row xs) → AllByRecursion (λ y. cmp x y ≡ Less) xs
 above row by cmp alike x [] all = tt
 above row by cmp alike x (y ∷ ys) all = (sym (alike x y) ∙ all.0, above row by cmp alike x ys all.1)
 
 -- and the entries as their rows
-pub entries_rise : {X : Type 0} (row : X → Row) (by : Row → Row → Ordering) (cmp : X → X → Ordering) → ((x y : X) → by (row x) (row y) ≡ cmp x y) → (xs : List X) → IsStrictlySortedBy by (map row xs) → IsStrictlySortedBy cmp xs
+pub entries_rise : {X : Type 0} (row : X → Row) (by : Row → Row → Ordering) (cmp : X → X → Ordering) → ((x y : X) → by (row x) (row y) ≡ cmp x y)
+    → (xs : List X) → IsStrictlySortedBy by (map row xs) → IsStrictlySortedBy cmp xs
 unfolding IsStrictlySortedBy
 entries_rise row by cmp alike [] up = tt
 entries_rise row by cmp alike (x ∷ xs) up = (above row by cmp alike x xs up.0, entries_rise row by cmp alike xs up.1)
@@ -34,14 +36,17 @@ back_all : {X : Type 0} (row : X → Row) (back : Row → X) → ((x : X) → ba
 back_all row back returns xs = mapped_twice row back xs ∙ mapped_same (λ x. back (row x)) (λ x. x) xs (λ x h. returns x) ∙ mapped_itself xs
 
 -- entries whose rows rise are those of their rows, in whatever order these stand
-pub entries_same : {X : Type 0} (t : Table) (row : X → Row) (back : Row → X) → ((x : X) → back (row x) ≡ x) → (xs ys : List X) → IsStrictlySortedBy (row_cmp t) (map row xs) → IsStrictlySortedBy (row_cmp t) (map row ys)
+pub entries_same : {X : Type 0} (t : Table) (row : X → Row) (back : Row → X) → ((x : X) → back (row x) ≡ x) → (xs ys : List X) → IsStrictlySortedBy (row_cmp t) (map row xs)
+    → IsStrictlySortedBy (row_cmp t) (map row ys)
     → IsPermutation (map row xs) (map row ys) → xs ≡ ys
 entries_same t row back returns xs ys up also same =
-    let rows : map row xs ≡ map row ys = rising_same (row_total t) (map row xs) (map row ys) up also (λ r h. permuted_has r (map row xs) (map row ys) same h) (λ r h. permuted_has r (map row ys) (map row xs) (IsPermutation-sym _ _ same) h) in
+    let rows : map row xs ≡ map row ys = rising_same (row_total t) (map row xs) (map row ys) up also (λ r h. permuted_has r (map row xs) (map row ys) same h)
+    (λ r h. permuted_has r (map row ys) (map row xs) (IsPermutation-sym _ _ same) h) in
     sym (back_all row back returns xs) ∙ ap (map back) rows ∙ back_all row back returns ys
 
 -- what a read tells of the entry, where it tells its row
-pub entry_told : {V X : Type 0} (entry : V → X) (row : X → Row) (back : Row → X) → ((x : X) → back (row x) ≡ x) → (v : Option V) (x : Option X) → option_map (λ u. row (entry u)) v ≡ option_map row x → option_map entry v ≡ x
+pub entry_told : {V X : Type 0} (entry : V → X) (row : X → Row) (back : Row → X) → ((x : X) → back (row x) ≡ x) → (v : Option V) (x : Option X)
+    → option_map (λ u. row (entry u)) v ≡ option_map row x → option_map entry v ≡ x
 entry_told entry row back returns None None is = refl
 entry_told entry row back returns None (Some x) is = absurd cc
 entry_told entry row back returns (Some v) None is = absurd cc
@@ -50,12 +55,14 @@ entry_told entry row back returns (Some v) (Some x) is = ap Some (sym (returns (
     some_same : {a b : Row} → ◌≡◌ {A = Option Row} (Some a) (Some b) → a ≡ b
     some_same e = cc
 
-pub if_entry_told : {V X F : Type 0} (entry : V → X) (row : X → Row) (back : Row → X) → ((x : X) → back (row x) ≡ x) → (r : Result (Option V) F) (x : Option X) → IfOk r (λ v. option_map (λ u. row (entry u)) v ≡ option_map row x) → IfOk r (λ v. option_map entry v ≡ x)
+pub if_entry_told : {V X F : Type 0} (entry : V → X) (row : X → Row) (back : Row → X) → ((x : X) → back (row x) ≡ x) → (r : Result (Option V) F) (x : Option X)
+    → IfOk r (λ v. option_map (λ u. row (entry u)) v ≡ option_map row x) → IfOk r (λ v. option_map entry v ≡ x)
 if_entry_told entry row back returns (Ok v) x told = entry_told entry row back returns v x told
 if_entry_told entry row back returns (Err f) x told = tt
 
 -- the same of a list of entries, whose rows a read tells
-pub if_entries_told : {V X W F : Type 0} (items : W → List V) (entry : V → X) (row : X → Row) (back : Row → X) → ((x : X) → back (row x) ≡ x) → (r : Result W F) (xs : List X) (P : List Row → Type 0) → ((rows : List Row) → P rows → rows ≡ map row xs)
+pub if_entries_told : {V X W F : Type 0} (items : W → List V) (entry : V → X) (row : X → Row) (back : Row → X) → ((x : X) → back (row x) ≡ x)
+    → (r : Result W F) (xs : List X) (P : List Row → Type 0) → ((rows : List Row) → P rows → rows ≡ map row xs)
     → IfOk r (λ v. P (map (λ u. row (entry u)) (items v))) → IfOk r (λ v. map entry (items v) ≡ xs)
 if_entries_told items entry row back returns (Ok v) xs P are told =
     sym (back_all row back returns (map entry (items v))) ∙ ap (map back) (mapped_twice entry row (items v) ∙ are (map (λ u. row (entry u)) (items v)) told) ∙ back_all row back returns xs
@@ -80,7 +87,8 @@ none_pass q P fails [] all = refl
 none_pass q P fails (x ∷ xs) all = rw (fails x all.0) (none_pass q P fails xs all.1)
 
 -- where the test tells one key, a map has one entry that passes, or none
-one_found : {X : Type 0} {cmp : X → X → Ordering} (q : X → Bool) → ((x y : X) → q x ≡ true → q y ≡ true → cmp x y ≡ Equal) → (xs : List X) → IsStrictlySortedBy cmp xs → filter q xs ≡ option_to_list (find q xs)
+one_found : {X : Type 0} {cmp : X → X → Ordering} (q : X → Bool) → ((x y : X) → q x ≡ true → q y ≡ true → cmp x y ≡ Equal) → (xs : List X)
+    → IsStrictlySortedBy cmp xs → filter q xs ≡ option_to_list (find q xs)
 one_found q apart [] up = refl
 one_found {X} {cmp} q apart (x ∷ xs) up = go (q x) refl (one_found q apart xs (sorted_tail cmp x xs up))
   where
@@ -100,11 +108,13 @@ mapped_option row None = refl
 mapped_option row (Some x) = refl
 
 -- the row with a key is that of the entry with it
-pub row_found : {X : Type 0} {cmp : X → X → Ordering} (row : X → Row) (key : Row) (compared : X → Ordering) → ((x : X) → begins_with key (row x) ≡ is_eq (compared x)) → ((x y : X) → compared x ≡ Equal → compared y ≡ Equal → cmp x y ≡ Equal)
+pub row_found : {X : Type 0} {cmp : X → X → Ordering} (row : X → Row) (key : Row) (compared : X → Ordering) → ((x : X) → begins_with key (row x) ≡ is_eq (compared x))
+    → ((x y : X) → compared x ≡ Equal → compared y ≡ Equal → cmp x y ≡ Equal)
     → (xs : List X) → IsStrictlySortedBy cmp xs → filter (begins_with key) (map row xs) ≡ option_to_list (option_map row (entry_at compared xs))
 row_found row key compared alike apart xs up =
     filter-map (begins_with key) row xs
-    ∙ ap (map row) (filter_alike (λ x. begins_with key (row x)) (λ x. is_eq (compared x)) alike xs ∙ one_found (λ x. is_eq (compared x)) (λ x y a b. apart x y (equal (compared x) a) (equal (compared y) b)) xs up)
+    ∙ ap (map row) (filter_alike (λ x. begins_with key (row x)) (λ x. is_eq (compared x)) alike xs ∙ one_found (λ x. is_eq (compared x))
+    (λ x y a b. apart x y (equal (compared x) a) (equal (compared y) b)) xs up)
     ∙ mapped_option row (entry_at compared xs)
   where
     equal : (o : Ordering) → is_eq o ≡ true → o ≡ Equal

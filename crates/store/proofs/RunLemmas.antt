@@ -1,5 +1,6 @@
 -- Papers that stand side by side are a keying, where they have its numbers.
-use Rattle.std.proofs.Common.{◌≡◌, ℕ, zero, suc, ◌+◌, Bool, true, cond, ◌&&◌, ◌==◌, List, [], ◌∷◌, map, filter, length, Option, Some, None, IfSome, Result, Ok, Err, IfOk, IfErr, OnOk, IsTrue, inl, inr, refl, sym, ap, subst, ◌∙◌, arith, Ordering, Less, Equal, nat_cmp}
+use Rattle.std.proofs.Common.{◌≡◌, ℕ, zero, suc, ◌+◌, Bool, true, cond, ◌&&◌, ◌==◌, List, [], ◌∷◌, map, filter, length, Option, Some, None, IfSome}
+use Rattle.std.proofs.Common.{Result, Ok, Err, IfOk, IfErr, OnOk, IsTrue, inl, inr, refl, sym, ap, subst, ◌∙◌, arith, Ordering, Less, Equal, nat_cmp}
 use Rattle.std.specs.Prelude.{⊤}
 use Rattle.std.specs.List.{AllByRecursion, list_all}
 use Rattle.std.specs.List.Sorted.{IsStrictlySortedBy}
@@ -84,17 +85,20 @@ module _ (s : OfficeState) (is : IsState s) (batch round clerk : ℕ) where
   each_in (k ∷ ks) there own = let both = and_parts _ _ own in (record { there = there.0; own = both.0 }, each_in ks there.1 both.1)
 
   keying_in : AllByRecursion (IsIn s batch round clerk) (keying_of s batch round clerk)
-  keying_in = all_from (IsIn s batch round clerk) (keying_of s batch round clerk) (λ k h. let both = has_filtered (is_paper_of batch round clerk) s.keyings k h in record { there = both.0; own = both.1 })
+  keying_in = all_from (IsIn s batch round clerk) (keying_of s batch round clerk)
+      (λ k h. let both = has_filtered (is_paper_of batch round clerk) s.keyings k h in record { there = both.0; own = both.1 })
 
   -- papers of the state that are whole, and all of one keying, are that keying
-  run_is_keying : (b : BatchEntry) → batch_at s batch ≡ Some b → (ks : List KeyedEntry) → AllByRecursion (Has s.keyings) ks → is_whole b.size ks ≡ true → list_all (is_paper_of batch round clerk) ks ≡ true
+  run_is_keying : (b : BatchEntry) → batch_at s batch ≡ Some b → (ks : List KeyedEntry) → AllByRecursion (Has s.keyings) ks → is_whole b.size ks ≡ true
+      → list_all (is_paper_of batch round clerk) ks ≡ true
       → ks ≡ keying_of s batch round clerk
   run_is_keying b found ks there whole own = go (keying_of s batch round clerk) refl ks there whole own
     where
       some_same : {x y : BatchEntry} → ◌≡◌ {A = Option BatchEntry} (Some x) (Some y) → x ≡ y
       some_same e = cc
 
-      go : (all : List KeyedEntry) → keying_of s batch round clerk ≡ all → (js : List KeyedEntry) → AllByRecursion (Has s.keyings) js → is_whole b.size js ≡ true → list_all (is_paper_of batch round clerk) js ≡ true
+      go : (all : List KeyedEntry) → keying_of s batch round clerk ≡ all → (js : List KeyedEntry) → AllByRecursion (Has s.keyings) js → is_whole b.size js ≡ true
+          → list_all (is_paper_of batch round clerk) js ≡ true
           → js ≡ keying_of s batch round clerk
       go [] none [] there whole own = sym none
       go [] none (j ∷ js) there whole own =
@@ -128,7 +132,8 @@ there_each all (k ∷ ks) rows =
     let same : keyed_entry k ≡ it.0 = sym (keyed_back (keyed_entry k)) ∙ ap keyed_in it.2 ∙ keyed_back it.0 in
     (subst (Has all) (sym same) it.1, there_each all ks rows.1)
 
-pub if_there : {W F : Type 0} (items : W → List KeyedPaper) (s : OfficeState) (r : Result W F) → IfOk r (λ w. AllByRecursion (Has (tables_of s Keying)) (map (λ k. row_of_keyed (keyed_entry k)) (items w)))
+pub if_there : {W F : Type 0} (items : W → List KeyedPaper) (s : OfficeState) (r : Result W F)
+    → IfOk r (λ w. AllByRecursion (Has (tables_of s Keying)) (map (λ k. row_of_keyed (keyed_entry k)) (items w)))
     → IfOk r (λ w. AllByRecursion (Has s.keyings) (map keyed_entry (items w)))
 unfolding tables_of tables_with
 if_there items s (Ok w) rows = there_each s.keyings (items w) rows
@@ -139,7 +144,8 @@ if_any (Ok w) = tt
 if_any (Err f) = tt
 
 -- a read of which the state says nothing
-pub loads_any : {X : Type 0} {old new : State} {r : Result X Fault} → (HasCleanDisk new → (c : Contents) → RestsIfOpen c old → IfErr r (FailsBy old new)) → (HasCleanDisk new → OnOk r (IsTrue new.is_open)) → OnlyReads old new
+pub loads_any : {X : Type 0} {old new : State} {r : Result X Fault} → (HasCleanDisk new → (c : Contents) → RestsIfOpen c old → IfErr r (FailsBy old new))
+    → (HasCleanDisk new → OnOk r (IsTrue new.is_open)) → OnlyReads old new
     → LoadsAt old new r (λ s x. ⊤)
 loads_any {old = old} {new = new} {r = r} fails opens reads = record {
   shows = λ clean s at. if_any r;

@@ -29,7 +29,8 @@ module _ {P : Type 0} (holds : P → List (List ℕ) → Type 0) (were : List Ju
       let told = judgements_on columns verdicts (map keyed_entry before) in
       let all : told ++ judgement_on columns verdicts (keyed_entry k) ∷ [] ≡ judgements_on columns verdicts (map keyed_entry (before ++ k ∷ [])) =
       sym (ap (judgements_on columns verdicts) (map-append keyed_entry before (k ∷ [])) ∙ map-append (judgement_on columns verdicts) (map keyed_entry before) (keyed_entry k ∷ [])) in
-      subst (λ (ls : List Judgement). StandFor holds new (ballots_by ls)) (append_assoc js told (judgement_on columns verdicts (keyed_entry k) ∷ []) ∙ ap (λ (ls : List Judgement). js ++ ls) all) (added (js ++ told) (counted js were_counted))
+      subst (λ (ls : List Judgement). StandFor holds new (ballots_by ls)) (append_assoc js told (judgement_on columns verdicts (keyed_entry k) ∷ []) ∙ ap
+      (λ (ls : List Judgement). js ++ ls) all) (added (js ++ told) (counted js were_counted))
 
 -- one batch more
 pub judgements_after : (s : OfficeState) (columns : List ℕ) (bs : List BatchEntry) (b : BatchEntry)
@@ -49,7 +50,8 @@ found_in_count s ward (Some w) candidates in_count there all tells counted =
     (w, sym there, subst (λ (cs : List CandidateEntry). (is_counted w.phase && is_contested w cs) ≡ true) (all ∙ ap (candidates_of s) number) (sym tells ∙ counted))
 
 -- its papers come to what those come to that each batch is settled with
-pub counted_alone : ((s : OfficeState) (w : WardEntry) (columns : List ℕ) → IsState s → ward_at s w.number ≡ Some w → is_in_count (election_of s w) ≡ true → ballots_in columns (piles_of s w.number) ≡ ballots_by (settled_judgements s columns (batches_of s w.number)))
+pub counted_alone : ((s : OfficeState) (w : WardEntry) (columns : List ℕ) → IsState s → ward_at s w.number ≡ Some w → is_in_count (election_of s w) ≡ true
+    → ballots_in columns (piles_of s w.number) ≡ ballots_by (settled_judgements s columns (batches_of s w.number)))
     → (s : OfficeState) → IsState s → (ward : ℕ) (columns : List ℕ) → IsInCount s ward → ballots_by (settled_judgements s columns (batches_of s ward)) ≡ ballots_in columns (piles_of s ward)
 counted_alone suffice s is ward columns (w, there, counted) =
     let number : ward ≡ w.number = found_number (λ (x : WardEntry). x.number) s.wards ward w there in

@@ -8,7 +8,8 @@ use Rattle.sqlite.specs.Effect.{Database}
 use Rattle.register.specs.declared.phase.Phase.{Phase}
 use Rattle.register.specs.declared.phase.Phase.TheVariants.{Nominations, Keying as Keyed, Sealed, Declared}
 use Rattle.register.specs.Phases.{phase_number}
-use Rattle.register.specs.Offices.{WardEntry, CandidateEntry, BatchEntry, ThirdEntry, KeyedEntry, JudgedEntry, LotEntry, ReceiptEntry, OfficeState, MapsRise, ward_cmp, candidate_cmp, batch_cmp, third_cmp, keyed_cmp, judged_cmp, lot_cmp, receipt_cmp}
+use Rattle.register.specs.Offices.{WardEntry, CandidateEntry, BatchEntry, ThirdEntry, KeyedEntry, JudgedEntry, LotEntry, ReceiptEntry, OfficeState}
+use Rattle.register.specs.Offices.{MapsRise, ward_cmp, candidate_cmp, batch_cmp, third_cmp, keyed_cmp, judged_cmp, lot_cmp, receipt_cmp}
 use Rattle.register.specs.Items.{IsState}
 use Rattle.register.specs.Tabulated.{PlacedEntry, FigureEntry, TabulationEntries, tabulation_of, placed_cmp, figure_cmp}
 use Rattle.register.proofs.TabulatedLemmas.{tabulation_rises}
@@ -62,7 +63,15 @@ pub candidate_back : (c : CandidateEntry) → candidate_in (row_of_candidate c) 
 candidate_back c = refl
 
 abbrev pub batch_in : Row → BatchEntry
-batch_in r = record { number = number_in (column r 0); ward = number_in (column r 1); size = number_in (column r 2); first_clerk = number_in (column r 3); second_clerk = number_in (column r 4); round = number_in (column r 5) }
+batch_in r = record {
+  number = number_in (column r 0);
+  ward = number_in (column r 1);
+  size = number_in (column r 2);
+  first_clerk = number_in (column r 3);
+  second_clerk
+      = number_in (column r 4);
+  round = number_in (column r 5);
+}
 
 pub batch_back : (b : BatchEntry) → batch_in (row_of_batch b) ≡ b
 batch_back b = refl
@@ -199,7 +208,8 @@ pub equal_maps : (s x : OfficeState) (t u : TabulationEntries) → MapsRise s �
 unfolding tables_with
 equal_maps s x t u rise also same =
     let wards = entries_same Ward row_of_ward ward_in ward_back s.wards x.wards (maps_up s t rise Ward refl) (maps_up x u also Ward refl) (same Ward) in
-    let candidates = entries_same Candidate row_of_candidate candidate_in candidate_back s.candidates x.candidates (maps_up s t rise Candidate refl) (maps_up x u also Candidate refl) (same Candidate) in
+    let candidates = entries_same Candidate row_of_candidate candidate_in candidate_back s.candidates x.candidates (maps_up s t rise Candidate refl)
+    (maps_up x u also Candidate refl) (same Candidate) in
     let batches = entries_same Batch row_of_batch batch_in batch_back s.batches x.batches (maps_up s t rise Batch refl) (maps_up x u also Batch refl) (same Batch) in
     let thirds = entries_same Third row_of_third third_in third_back s.thirds x.thirds (maps_up s t rise Third refl) (maps_up x u also Third refl) (same Third) in
     let keyings = entries_same Keying row_of_keyed keyed_in keyed_back s.keyings x.keyings (maps_up s t rise Keying refl) (maps_up x u also Keying refl) (same Keying) in
@@ -226,7 +236,8 @@ unfolding IsOffice
 one_state db s t first second = equal_states s t first.is second.is (one_contents (tables_of s) (tables_of t) db.trees first.office.holds second.office.holds)
 
 -- what is tabulated beside a state is tabulated of its counts, where its rows rise and are those of the state
-pub tabulated_same : (s x : OfficeState) (t : TabulationEntries) → IsState x → ((u : Table) → has_entries u ≡ true → IsStrictlySortedBy (row_cmp u) (tables_with s t u)) → SameContents (tables_of x) (tables_with s t) → t ≡ tabulation_of x
+pub tabulated_same : (s x : OfficeState) (t : TabulationEntries) → IsState x → ((u : Table) → has_entries u ≡ true → IsStrictlySortedBy (row_cmp u) (tables_with s t u))
+    → SameContents (tables_of x) (tables_with s t) → t ≡ tabulation_of x
 unfolding tables_of tables_with
 tabulated_same s x t is each same =
     let bundles = entries_same Bundle row_of_placed bundle_in bundle_back (tabulation_of x).bundles t.bundles (tables_rise x is Bundle refl) (each Bundle refl) (same Bundle) in

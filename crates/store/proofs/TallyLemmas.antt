@@ -36,12 +36,14 @@ open_there s b = go (taken_papers s b) refl
     go (k ∷ ks) some = plus (open_in s b)
 
 -- what a batch comes to by its keyings and verdicts, it comes to in the state
-pub one_tally : (s : OfficeState) (b : BatchEntry) (keyings : Keyings) (verdicts : List JudgedPaper) → keyings_by keyings ≡ keyings_now s b → map judged_entry verdicts ≡ verdicts_of s b.number → IsTally s (b ∷ []) (tally_by keyings verdicts)
+pub one_tally : (s : OfficeState) (b : BatchEntry) (keyings : Keyings) (verdicts : List JudgedPaper) → keyings_by keyings ≡ keyings_now s b
+    → map judged_entry verdicts ≡ verdicts_of s b.number → IsTally s (b ∷ []) (tally_by keyings verdicts)
 one_tally s b keyings verdicts keyed judged =
     record {
       taken = λ few. ap (λ ks. cond (are_taken ks) 1 0) keyed ∙ one_there b (is_taken s b);
       differing = λ few. ap (λ ks. cond (differ ks) 1 0) keyed ∙ one_there b (is_differing s b);
-      doubtful_open = λ few. ap (λ vs. length (filter (is_open vs) (agreed (keyings_by keyings)))) judged ∙ ap (λ ks. length (filter (is_open (verdicts_of s b.number)) (agreed ks))) keyed ∙ open_there s b;
+      doubtful_open = λ few. ap (λ vs. length (filter (is_open vs) (agreed (keyings_by keyings)))) judged ∙ ap
+          (λ ks. length (filter (is_open (verdicts_of s b.number)) (agreed ks))) keyed ∙ open_there s b;
     }
 
 -- ---- some batches
@@ -61,12 +63,14 @@ no_tally s tally taken differing doubtful_open = record { taken = λ few. taken;
 
 -- what some batches come to, and then one more
 pub more_tally : (s : OfficeState) (bs : List BatchEntry) (b : BatchEntry) (some one sum : Tally) → IsTally s bs some → IsTally s (b ∷ []) one
-    → (sum.taken ≡ min (some.taken + one.taken) (2 ^ 64 - 1)) × (sum.differing ≡ min (some.differing + one.differing) (2 ^ 64 - 1)) × (sum.doubtful_open ≡ min (some.doubtful_open + one.doubtful_open) (2 ^ 64 - 1)) → IsTally s (bs ++ b ∷ []) sum
+    → (sum.taken ≡ min (some.taken + one.taken) (2 ^ 64 - 1)) × (sum.differing ≡ min (some.differing + one.differing) (2 ^ 64 - 1)) ×
+    (sum.doubtful_open ≡ min (some.doubtful_open + one.doubtful_open) (2 ^ 64 - 1)) → IsTally s (bs ++ b ∷ []) sum
 more_tally s bs b some one sum first last sums =
     record {
       taken = both sums.0 first.taken last.taken (counted (is_taken s) bs (b ∷ []));
       differing = both sums.1 first.differing last.differing (counted (is_differing s) bs (b ∷ []));
-      doubtful_open = both sums.2 first.doubtful_open last.doubtful_open (ap (open_among s) (filter-append (is_taken s) bs (b ∷ [])) ∙ open_both s (filter (is_taken s) bs) (filter (is_taken s) (b ∷ [])));
+      doubtful_open = both sums.2 first.doubtful_open last.doubtful_open (ap (open_among s) (filter-append (is_taken s) bs (b ∷ [])) ∙ open_both s
+          (filter (is_taken s) bs) (filter (is_taken s) (b ∷ [])));
     }
   where
     both : {k l m n sum total : ℕ} → sum ≡ min (k + l) (2 ^ 64 - 1) → (m < 2 ^ 64 → k ≡ m) → (n < 2 ^ 64 → l ≡ n) → total ≡ m + n → total < 2 ^ 64 → sum ≡ total
@@ -94,8 +98,10 @@ open_fewer s (b ∷ bs) =
     go (is_taken s b) own each all (open_fewer s bs)
   where
     go : (q : Bool) → open_in s b ≤ length (taken_papers s b) → length (map (judgement_on [] (verdicts_of s b.number)) (taken_papers s b)) ≡ length (taken_papers s b)
-        → length (map (judgement_on [] (verdicts_of s b.number)) (taken_papers s b) ++ judgements [] (map (pile_of s) bs)) ≡ length (map (judgement_on [] (verdicts_of s b.number)) (taken_papers s b)) + length (judgements [] (map (pile_of s) bs))
-        → open_among s (filter (is_taken s) bs) ≤ length (judgements [] (map (pile_of s) bs)) → open_among s (cond q (b ∷ filter (is_taken s) bs) (filter (is_taken s) bs)) ≤ length (judgements [] (map (pile_of s) (b ∷ bs)))
+        → length (map (judgement_on [] (verdicts_of s b.number)) (taken_papers s b) ++ judgements [] (map (pile_of s) bs)) ≡ length
+        (map (judgement_on [] (verdicts_of s b.number)) (taken_papers s b)) + length (judgements [] (map (pile_of s) bs))
+        → open_among s (filter (is_taken s) bs) ≤ length (judgements [] (map (pile_of s) bs))
+        → open_among s (cond q (b ∷ filter (is_taken s) bs) (filter (is_taken s) bs)) ≤ length (judgements [] (map (pile_of s) (b ∷ bs)))
     go true own each all later = omega (arith, own, each, all, later)
     go false own each all later = omega (arith, own, each, all, later)
 
@@ -116,7 +122,8 @@ countable s is ward tally as_far =
 -- ---- a ward
 
 -- standings with the same numbers are the same
-pub same_status : (x y : StatusEntry) → x.ward ≡ y.ward → x.phase ≡ y.phase → x.candidates ≡ y.candidates → x.batches ≡ y.batches → x.taken ≡ y.taken → x.differing ≡ y.differing → x.doubtful_open ≡ y.doubtful_open → x.stages ≡ y.stages → x ≡ y
+pub same_status : (x y : StatusEntry) → x.ward ≡ y.ward → x.phase ≡ y.phase → x.candidates ≡ y.candidates → x.batches ≡ y.batches → x.taken ≡ y.taken
+    → x.differing ≡ y.differing → x.doubtful_open ≡ y.doubtful_open → x.stages ≡ y.stages → x ≡ y
 same_status x y ward phase candidates batches taken differing doubtful_open stages =
     ap (λ v. record x { ward = v }) ward
     ∙ ap (λ v. record x { ward = y.ward; phase = v }) phase

@@ -26,7 +26,8 @@ use Rattle.tables.specs.Presence.{has_table, has_every_table}
 use Rattle.tables.specs.Reading.{Lists, ListsKeyed, HoldsNone}
 use Rattle.store.specs.EntryRows.{this_version, office_row}
 use Rattle.store.specs.Offices.{HoldsState, tables_of, tables_with}
-use Rattle.store.specs.Openings.{HasNoOffice, IsNewer, IsOlder, HoldsNoState, IsToldBy, TellsNoState, IsVersion, TellsRow, TellsRows, HasVersion, TellsOffice, has_entries, ListsMaps, IsTabulatedAs, HoldsEntries}
+use Rattle.store.specs.Openings.{HasNoOffice, IsNewer, IsOlder, HoldsNoState, IsToldBy, TellsNoState, IsVersion, TellsRow}
+use Rattle.store.specs.Openings.{TellsRows, HasVersion, TellsOffice, has_entries, ListsMaps, IsTabulatedAs, HoldsEntries}
 use Rattle.store.specs.Listings.{TellsStrange}
 use Rattle.tables.proofs.ListLemmas.{mapped_length}
 use Rattle.tables.proofs.HoldLemmas.{lists_all, shown_rows, rows_held, held_listed}
@@ -64,7 +65,8 @@ strange_store n db f (inl same) = subst (TellsStrange n db) (sym same) tt
 strange_store n db f (inr same) = subst (TellsStrange n db) (sym same) tt
 
 -- rows that are no list of entries are those of no state
-pub told_strange : (n : ℕ) (t : Table) (IsRow : Row → Type 0) → has_entries t ≡ true → place_of t < n → ((s : OfficeState) → IsState s → AllByRecursion IsRow (tables_of s t)) → (db : Database) (f : Fault)
+pub told_strange : (n : ℕ) (t : Table) (IsRow : Row → Type 0) → has_entries t ≡ true → place_of t < n → ((s : OfficeState) → IsState s → AllByRecursion IsRow (tables_of s t))
+    → (db : Database) (f : Fault)
     → (f ≡ Memory) ⊎ ((f ≡ Store) ⊎ ((f ≡ Damaged) × HoldsNone t IsRow db)) → TellsStrange n db f
 told_strange n t IsRow has low fits db f (inl memory) = strange_store n db f (inl memory)
 told_strange n t IsRow has low fits db f (inr (inl store)) = strange_store n db f (inr store)
@@ -97,7 +99,8 @@ strange_told n db OlderSchema told = told
 maps_same : (db : Database) (s x : OfficeState) (t : TabulationEntries) → ListsMaps db s t → HoldsState db x → SameContents (tables_of x) (tables_with s t)
 unfolding IsOffice
 maps_same db s x t lists holds u = elim (which_kind u) [
-  | inl office ↦ subst (λ (v : Table). IsPermutation (tables_of x v) (tables_with s t v)) (sym office) (subst (λ l. IsPermutation l (tables_with s t Office)) (sym (office_rows x)) (subst (IsPermutation (office_row this_version ∷ [])) (sym (office_with s t)) (IsPermutation-refl _)))
+  | inl office ↦ subst (λ (v : Table). IsPermutation (tables_of x v) (tables_with s t v)) (sym office)
+      (subst (λ l. IsPermutation l (tables_with s t Office)) (sym (office_rows x)) (subst (IsPermutation (office_row this_version ∷ [])) (sym (office_with s t)) (IsPermutation-refl _)))
   | inr has ↦ held_listed u db (tables_with s t u) (lists u has).all.lists (tables_of x u) (holds.office.holds u)
 ]
 
@@ -114,7 +117,11 @@ maps_are db s x t lists holds =
 
 pub entries_held : (db : Database) → IsOfficeSchema db.schema → IsDatabase db → (s : OfficeState) (t : TabulationEntries) → IsTabulatedAs s t → ListsMaps db s t → HoldsEntries db s
 unfolding tables_of
-entries_held db begins sound s t is lists = record { is = is.0; entries = λ u has. subst (λ (v : TabulationEntries). HoldsTable u (tables_with s v u) db.trees) is.1 (rows_held u db (begins_to u db.schema begins) sound (tables_with s t u) (lists u has).all (lists u has).typed) }
+entries_held db begins sound s t is lists = record {
+  is = is.0;
+  entries = λ u has. subst (λ (v : TabulationEntries). HoldsTable u (tables_with s v u) db.trees) is.1
+      (rows_held u db (begins_to u db.schema begins) sound (tables_with s t u) (lists u has).all (lists u has).typed);
+}
 
 -- ---- tables with no row
 
@@ -170,19 +177,25 @@ one_row (x ∷ y ∷ more) r len is = absurd (omega (arith, len))
 pub row_told : (rows : List Row) (r : Row) → rows ≡ r ∷ [] → (f : Fault) → TellsRow r f → TellsRows rows f
 row_told rows r is Memory told = tt
 row_told rows r is Store told = told
-row_told rows r is Damaged told = ((λ none. let e : r ∷ [] ≡ [] = sym is ∙ none in absurd cc), λ row same version some shown. told version some (subst (IsVersion version) (head_same row r (sym same ∙ is)) shown))
+row_told rows r is Damaged told = (
+  (λ none. let e : r ∷ [] ≡ [] = sym is ∙ none in absurd cc),
+  λ row same version some shown. told version some
+      (subst (IsVersion version) (head_same row r (sym same ∙ is)) shown),
+)
 row_told rows r is Closed told = told
 row_told rows r is WrongDatabase told = absurd told
 row_told rows r is NewerSchema told = (r, is, told)
 row_told rows r is OlderSchema told = (r, is, told)
 
-pub version_held : (n : ℕ) (db : Database) → BeginsTo Office db.schema → IsDatabase db → (rows : List Row) → ListsKeyed Office db rows → (row : Row) → rows ≡ row ∷ [] → IsVersion n row → HasVersion n db
+pub version_held : (n : ℕ) (db : Database) → BeginsTo Office db.schema → IsDatabase db → (rows : List Row) → ListsKeyed Office db rows → (row : Row)
+    → rows ≡ row ∷ [] → IsVersion n row → HasVersion n db
 version_held n db begins sound rows keyed row is shown =
     let same : rows ≡ office_row n ∷ [] = sym (shown_rows Office (begins_with []) db rows keyed.lists) ∙ ap (map (at (column_places Office))) is ∙ ap (λ r. r ∷ []) shown in
     rows_held Office db begins sound (office_row n ∷ []) (subst (ListsKeyed Office db) same keyed) refl
 
 -- the rows that are shown of one office row
-version_listed : (n : ℕ) (db : Database) (rows : List Row) → Lists Office (begins_with []) db rows → IsPermutation (office_row n ∷ []) (map (at (column_places Office)) (tuples Office db.trees)) → rows ≡ office_row n ∷ []
+version_listed : (n : ℕ) (db : Database) (rows : List Row) → Lists Office (begins_with []) db rows
+    → IsPermutation (office_row n ∷ []) (map (at (column_places Office)) (tuples Office db.trees)) → rows ≡ office_row n ∷ []
 version_listed n db rows lists same = one_permutation (office_row n) rows (IsPermutation-trans _ _ _ same (lists_all Office db rows lists))
 
 pub office_told : (db : Database) → BeginsTo Office db.schema → IsDatabase db → (rows : List Row) → ListsKeyed Office db rows → (f : Fault) → TellsRows rows f → TellsOffice db f
@@ -195,10 +208,13 @@ office_told db begins sound rows keyed Damaged told = (
         let n = above_this newer.0 newer.1 in
         let tuple : tuples Office db.trees ≡ office_row n.0 ∷ [] = newer.2 ∙ ap (λ v. (Int (pos 1) ∷ Int v ∷ []) ∷ []) n.1 in
         let up = n.2 in
-        told.1 (office_row n.0) (version_listed n.0 db rows keyed.lists (subst (λ l. IsPermutation (office_row n.0 ∷ []) (map (at (column_places Office)) l)) (sym tuple) (IsPermutation-refl _))) n.0 (omega (arith, up)) refl),
+        told.1 (office_row n.0) (version_listed n.0 db rows keyed.lists (subst (λ l. IsPermutation (office_row n.0 ∷ []) (map (at (column_places Office)) l))
+        (sym tuple) (IsPermutation-refl _))) n.0 (omega (arith, up)) refl),
     (
-      (λ older. told.1 (office_row 1) (version_listed 1 db rows keyed.lists (subst (λ l. IsPermutation (office_row 1 ∷ []) (map (at (column_places Office)) l)) (sym older) (IsPermutation-refl _))) 1 (omega arith) refl),
-      (λ holds. told.1 (office_row this_version) (one_permutation (office_row this_version) rows (held_listed Office db rows keyed.lists (office_row this_version ∷ []) holds)) this_version (omega arith) refl),
+      (λ older. told.1 (office_row 1) (version_listed 1 db rows keyed.lists (subst (λ l. IsPermutation (office_row 1 ∷ []) (map (at (column_places Office)) l))
+          (sym older) (IsPermutation-refl _))) 1 (omega arith) refl),
+      (λ holds. told.1 (office_row this_version) (one_permutation (office_row this_version) rows (held_listed Office db rows keyed.lists (office_row this_version ∷ []) holds)) this_version
+          (omega arith) refl),
     ),
   ),
 )
@@ -265,7 +281,14 @@ told_office db there Damaged told = record {
 told_office db there Closed told = told
 told_office db there WrongDatabase told = inr told
 told_office db there NewerSchema told = told
-told_office db there OlderSchema told = ((λ none. elim none [ inl missing ↦ true≢false (sym there ∙ missing) | inr empty ↦ let e : office_row 1 ∷ [] ≡ [] = sym (one_permutation (office_row 1) (tuples Office db.trees) told.same) ∙ empty in absurd cc ]), told)
+told_office db there OlderSchema told = (
+  (λ none. elim none [
+    | inl missing ↦ true≢false (sym there ∙ missing)
+    | inr empty ↦ let e : office_row 1 ∷ []
+        ≡ [] = sym (one_permutation (office_row 1) (tuples Office db.trees) told.same) ∙ empty in absurd cc
+  ]),
+  told,
+)
 
 pub told_tables : (db : Database) → has_table Office db.schema ≡ true → HasVersion this_version db → (f : Fault) → TellsNoState db f → IsToldBy db f
 told_tables db there office Memory told = tt

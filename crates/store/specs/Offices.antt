@@ -12,7 +12,8 @@ use Rattle.tables.specs.declared.fault.Fault.{Fault}
 use Rattle.tables.specs.declared.fault.Fault.TheVariants.{Memory, Store as StoreFailed}
 use Rattle.tables.specs.declared.table.Table.TheVariants.{Office, Ward, Candidate, Batch, Keying, Verdict, Lot, Receipt, Bundle, Vote, Third}
 use Rattle.tables.specs.Contents.{Contents, filled, IsOffice, Stores, Rests, Sees}
-use Rattle.store.specs.EntryRows.{this_version, office_row, row_of_ward, row_of_candidate, row_of_batch, row_of_third, row_of_keyed, row_of_judged, row_of_lot, row_of_receipt, row_of_placed, row_of_figure}
+use Rattle.store.specs.EntryRows.{this_version, office_row, row_of_ward, row_of_candidate, row_of_batch, row_of_third}
+use Rattle.store.specs.EntryRows.{row_of_keyed, row_of_judged, row_of_lot, row_of_receipt, row_of_placed, row_of_figure}
 
 -- nothing tabulated
 abbrev pub no_tabulation : TabulationEntries

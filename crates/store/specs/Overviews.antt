@@ -11,8 +11,8 @@ use Rattle.register.specs.Polls.{Pile, pile_of, judgement_on}
 use Rattle.register.specs.declared.polls.Judgement.{Judgement}
 use Rattle.register.specs.Elections.{election_of, elected_of, is_declared}
 use Rattle.register.specs.Standings.{StatusEntry, status_of, status_entry}
-use Rattle.store.specs.declared.overviews.batches.Standing.{Standing}
-use Rattle.store.specs.declared.overviews.batches.Standing.TheVariants.{Taken, Differing, Waiting}
+use Rattle.store.specs.declared.overviews.batches.BatchStanding.{BatchStanding}
+use Rattle.store.specs.declared.overviews.batches.BatchStanding.TheVariants.{Taken, Differing, Waiting}
 use Rattle.store.specs.declared.overviews.wards.WardOverview.{WardOverview}
 use Rattle.store.specs.declared.overviews.clerks.ClerkOverview.{ClerkOverview}
 use Rattle.store.specs.declared.overviews.batches.BatchOverview.{BatchOverview}
@@ -49,10 +49,10 @@ ward_views s = map (ward_view_of s) s.wards
 -- ---- the batches of a ward
 
 -- a batch is taken, or it differs; else it waits for keyings
-abbrev pub standing_by : List (List KeyedEntry) → Standing
+abbrev pub standing_by : List (List KeyedEntry) → BatchStanding
 standing_by keyings = if are_taken keyings then Taken else if differ keyings then Differing else Waiting
 
-abbrev pub standing_of : OfficeState → BatchEntry → Standing
+abbrev pub standing_of : OfficeState → BatchEntry → BatchStanding
 standing_of s b = standing_by (keyings_now s b)
 
 -- a clerk of a batch, and whether he has keyed its current round
@@ -94,7 +94,7 @@ twin_of s b = if is_taken s b then option_map (λ (c : BatchEntry). c.number) (f
 pub record BatchView : Type 0 where
   pub batch : BatchEntry
   pub clerks : List (ℕ × Bool)
-  pub standing : Standing
+  pub standing : BatchStanding
   pub doubtful_open : ℕ
   pub twin : Option ℕ
 

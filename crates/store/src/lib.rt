@@ -36,7 +36,7 @@ mod writing;
 
 pub use copying::{CopyFault, Holdings, copy};
 pub use migration::{Migrated, migrate};
-pub use overviews::batches::{BatchOverview, Standing};
+pub use overviews::batches::{BatchOverview, BatchStanding};
 pub use overviews::clerks::ClerkOverview;
 pub use overviews::differences::Differences;
 pub use overviews::doubtful::{DoubtfulPaper, DoubtfulPapers};

@@ -65,7 +65,8 @@ fn older_rows<S: Alter>(
     form: OlderForm,
 ) -> Result<Rows, Fault>
     requires { conn.old.in_transaction ≡ false }
-    ensures lists { Lists S.Store conn.old conn.new result (λ db. BeginsFirst (tables_in form) db.schema) (λ db rows. ListsFirst (tables_in form) db (state_of rows) (tabulated rows)) (TellsStrange (tables_in form)) }
+    ensures lists { Lists S.Store conn.old conn.new result (λ db. BeginsFirst (tables_in form) db.schema)
+        (λ db rows. ListsFirst (tables_in form) db (state_of rows) (tabulated rows)) (TellsStrange (tables_in form)) }
     ensures rise { IfOk result (λ rows. MapsRise (state_of rows)) }
     ensures bare { IfOk result (λ rows. IsBare form (state_of rows) (tabulated rows)) }
 {

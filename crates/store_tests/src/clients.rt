@@ -13,7 +13,7 @@ use std::io::{ErrorKind, Write};
 use std::test::Fail;
 use std::time::{Clock, Duration};
 use std::{fmt, io};
-use votes::Broken;
+use streams::Broken;
 
 /// A client, or an order: what it sends, and whether it ends its side afterwards. Then how many bytes arrive at once before no more
 /// has arrived, and how many of its response it accepts before it accepts no more now. Last the number of bytes after which reading

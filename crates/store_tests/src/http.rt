@@ -183,7 +183,7 @@ fn wanted<'a>(
     }
 }
 
-/// Some can't be let in, and don't count. Doors that fail end it, and what was answered before stands.
+/// Some can't be accepted, and don't count. A network that fails ends it, and what was answered before remains valid.
 fn are_not_let_in<M: Machine + Drop>(
     rt: &(impl Abort + AllocGlobal),
     machine: M,
@@ -209,7 +209,7 @@ const CROWD: usize = 600;
 
 const MOST: usize = 512;
 
-/// Of the crowd these ask for a clerk's work, three bytes at a time; the doors name them alone.
+/// Of the crowd, these ask for a clerk's work, three bytes at a time, and the network reports only them as ready.
 const ASKING: &[usize] = &[0, CROWD - MOST - 1, CROWD - MOST, MOST, CROWD - 1];
 
 /// A crowd of clients of whom the others are silent.

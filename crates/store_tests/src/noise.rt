@@ -11,7 +11,7 @@ use rand_pcg::Pcg32;
 use std::alloc::{AllocError, Global};
 use std::process::Abort;
 use std::test::Fail;
-use votes::Counted;
+use streams::Counted;
 use wire::{HttpRequest, RequestError, read_request};
 
 const CLIENTS: usize = 10_000;

@@ -3,7 +3,7 @@
 use super::clients::LimitedWriter;
 use desk::ProgressSink;
 use std::test::Fail;
-use votes::{Counted, Sink, put_all};
+use streams::{Counted, Sink, put_all};
 
 /// How many lines are printed.
 const LINES: u32 = 250;

@@ -14,7 +14,7 @@ use sqlite::{Alter, Connection};
 use std::alloc::{AllocError, Global};
 use std::test::Fail;
 use store::Fault;
-use votes::{Broken, Counted, Sink};
+use streams::{Broken, Counted, Sink};
 use wire::{Gate, HttpSettings, Page};
 
 /// One step of a script.

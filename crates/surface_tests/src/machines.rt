@@ -63,7 +63,7 @@ fn texts(alloc: Global) -> Result<[Command; 3], AllocError> {
 
 /// The number of the refusal of a command under a bad id.
 fn refused(alloc: Global, command: &Command) -> Result<Option<(u32, usize)>, AllocError> {
-    let decision = decision_on(alloc, &view_of(alloc, "W1"), command)?;
+    let decision = decision_on(alloc, &view_of(alloc, "BAD"), command)?;
     Ok(refusal_in(&decision))
 }
 

@@ -35,7 +35,8 @@ survives_twice a b c one two = survives_then a b c (λ _. ⊥) (λ _. ⊥) (λ _
 -- ---- one statement
 
 -- a statement that writes, and what it makes of what is seen
-pub executed : {S X V : Type 0} {store : Ghosts S} {before after : MutBor (Held S)} {sql : List ℕ} {params : Row} {r : Result V Fault} {Takes Gives : X → State → Type 0} → RunsStatement store before after sql params r
+pub executed : {S X V : Type 0} {store : Ghosts S} {before after : MutBor (Held S)} {sql : List ℕ} {params : Row} {r : Result V Fault} {Takes Gives : X → State → Type 0}
+    → RunsStatement store before after sql params r
     → ((x : X) → Takes x (state store before.now)
     → IsTrue (state store before.now).in_transaction × ((count : ℕ) → ExecutesInside 0 sql params (state store before.now) (state store after.now) (Ok count) → Gives x (state store after.now)))
     → Alters store before after r Takes Gives
@@ -57,7 +58,8 @@ executed {store = store} {before = before} {after = after} {sql = sql} {params =
 -- ---- one write after another
 
 -- nothing was written yet
-pub alters_none : {S X V : Type 0} {store : Ghosts S} {conn : MutBor (Held S)} {v : V} {Takes Gives : X → State → Type 0} → ((x : X) → Takes x (state store conn.now) → Gives x (state store conn.now)) → Alters store conn conn (Ok v) Takes Gives
+pub alters_none : {S X V : Type 0} {store : Ghosts S} {conn : MutBor (Held S)} {v : V} {Takes Gives : X → State → Type 0}
+    → ((x : X) → Takes x (state store conn.now) → Gives x (state store conn.now)) → Alters store conn conn (Ok v) Takes Gives
 alters_none {store = store} {conn = conn} told = record {
   same_reference = refl;
   writes = λ clean. told;
@@ -67,7 +69,8 @@ alters_none {store = store} {conn = conn} told = record {
 }
 
 -- what a write makes of what it takes, told of what that is made from
-pub alters_told : {S X Y V : Type 0} {store : Ghosts S} {before after : MutBor (Held S)} {r : Result V Fault} {Takes Gives : X → State → Type 0} {From To : Y → State → Type 0} → Alters store before after r Takes Gives
+pub alters_told : {S X Y V : Type 0} {store : Ghosts S} {before after : MutBor (Held S)} {r : Result V Fault} {Takes Gives : X → State → Type 0} {From To : Y → State → Type 0}
+    → Alters store before after r Takes Gives
     → ((y : Y) → From y (state store before.now) → (x : X) × Takes x (state store before.now) × (Gives x (state store after.now) → To y (state store after.now))) → Alters store before after r From To
 alters_told {r = Ok v} one told = record {
   same_reference = one.same_reference;
@@ -79,13 +82,17 @@ alters_told {r = Ok v} one told = record {
 alters_told {r = Err f} one told = record { same_reference = one.same_reference; writes = λ clean y from. tt; keeps = one.keeps; survives = one.survives; cause = one.cause }
 
 -- the same of a write into contents, where they stand for others up to the order of rows
-pub alters_same : {S X V : Type 0} {store : Ghosts S} {before after : MutBor (Held S)} {r : Result V Fault} {f : Contents → Contents} {from to : X → Contents} → Alters store before after r Sees (λ c. Sees (f c))
+pub alters_same : {S X V : Type 0} {store : Ghosts S} {before after : MutBor (Held S)} {r : Result V Fault} {f : Contents → Contents} {from to : X → Contents}
+    → Alters store before after r Sees (λ c. Sees (f c))
     → ((x : X) → SameContents (f (from x)) (to x)) → Alters store before after r (λ x. Sees (from x)) (λ x. Sees (to x))
-alters_same {store = store} {after = after} {f = f} {from = from} {to = to} one same = alters_told one (λ x sees. (from x, sees, λ given. sees_same (f (from x)) (to x) (state store after.now) (same x) given))
+alters_same {store = store} {after = after} {f = f} {from = from} {to = to} one same = alters_told one
+    (λ x sees. (from x, sees, λ given. sees_same (f (from x)) (to x) (state store after.now) (same x) given))
 
 -- one write, and then another
-pub alters_both : {S X Y V W : Type 0} {store : Ghosts S} {a b c : MutBor (Held S)} {v : V} {r : Result W Fault} {From Mid To : X → State → Type 0} {Takes Gives : Y → State → Type 0} → Alters store a b (Ok v) From Mid
-    → Alters store b c r Takes Gives → ((x : X) → From x (state store a.now) → Mid x (state store b.now) → (y : Y) × Takes y (state store b.now) × (Gives y (state store c.now) → To x (state store c.now))) → Alters store a c r From To
+pub alters_both : {S X Y V W : Type 0} {store : Ghosts S} {a b c : MutBor (Held S)} {v : V} {r : Result W Fault} {From Mid To : X → State → Type 0} {Takes Gives : Y → State → Type 0}
+    → Alters store a b (Ok v) From Mid
+    → Alters store b c r Takes Gives → ((x : X) → From x (state store a.now) → Mid x (state store b.now)
+    → (y : Y) × Takes y (state store b.now) × (Gives y (state store c.now) → To x (state store c.now))) → Alters store a c r From To
 alters_both {store = store} {a = a} {b = b} {c = c} {r = Ok w} one two told =
     let before : HasCleanDisk (state store c.now) → HasCleanDisk (state store b.now) = λ clean. let low = two.survives.clean in omega (arith, low, clean) in
     record {
@@ -106,19 +113,22 @@ alters_both {store = store} {a = a} {b = b} {c = c} {r = Err f} one two told =
     }
 
 -- the same of a write into contents
-pub alters_sees : {S X V W : Type 0} {store : Ghosts S} {a b c : MutBor (Held S)} {v : V} {r : Result W Fault} {From : X → State → Type 0} {at : X → Contents} {f : Contents → Contents} → Alters store a b (Ok v) From (λ x. Sees (at x))
+pub alters_sees : {S X V W : Type 0} {store : Ghosts S} {a b c : MutBor (Held S)} {v : V} {r : Result W Fault} {From : X → State → Type 0} {at : X → Contents} {f : Contents → Contents}
+    → Alters store a b (Ok v) From (λ x. Sees (at x))
     → Alters store b c r Sees (λ rows. Sees (f rows)) → Alters store a c r From (λ x. Sees (f (at x)))
 alters_sees {at = at} one two = alters_both one two (λ x from sees. (at x, sees, λ given. given))
 
 -- the same, of which it isn't told what they make
-pub alters_after : {S X Y V W : Type 0} {store : Ghosts S} {a b c : MutBor (Held S)} {v : V} {w : W} {From Mid : X → State → Type 0} {Takes Gives : Y → State → Type 0} → Alters store a b (Ok v) From Mid
+pub alters_after : {S X Y V W : Type 0} {store : Ghosts S} {a b c : MutBor (Held S)} {v : V} {w : W} {From Mid : X → State → Type 0} {Takes Gives : Y → State → Type 0}
+    → Alters store a b (Ok v) From Mid
     → Alters store b c (Ok w) Takes Gives → Alters {V = W} store a c (Ok w) (λ (x : X) s. ⊥) (λ x s. ⊥)
 alters_after one two = alters_both (alters_told {To = λ x s. ⊥} one (λ x none. absurd none)) two (λ x none mid. absurd none)
 
 -- ---- what fails
 
 -- want of memory before anything was written
-pub alters_refused : {S X V : Type 0} {store : Ghosts S} {conn : MutBor (Held S)} {f : Fault} {r : Result V Fault} {Takes Gives : X → State → Type 0} → IsErrAnd r (λ e. e ≡ f) → f ≡ Memory → Alters store conn conn r Takes Gives
+pub alters_refused : {S X V : Type 0} {store : Ghosts S} {conn : MutBor (Held S)} {f : Fault} {r : Result V Fault} {Takes Gives : X → State → Type 0}
+    → IsErrAnd r (λ e. e ≡ f) → f ≡ Memory → Alters store conn conn r Takes Gives
 alters_refused {r = Ok v} is memory = absurd is
 alters_refused {store = store} {conn = conn} {r = Err e} is memory = record {
   same_reference = refl;
@@ -129,7 +139,8 @@ alters_refused {store = store} {conn = conn} {r = Err e} is memory = record {
 }
 
 -- a failure that is passed on
-pub alters_failed : {S X Y V W : Type 0} {store : Ghosts S} {before after : MutBor (Held S)} {f : Fault} {r : Result W Fault} {Takes Gives : X → State → Type 0} {From To : Y → State → Type 0} → IsErrAnd r (λ e. e ≡ f)
+pub alters_failed : {S X Y V W : Type 0} {store : Ghosts S} {before after : MutBor (Held S)} {f : Fault} {r : Result W Fault} {Takes Gives : X → State
+    → Type 0} {From To : Y → State → Type 0} → IsErrAnd r (λ e. e ≡ f)
     → Alters {V = V} store before after (Err f) Takes Gives → Alters store before after r From To
 alters_failed {r = Ok w} is failed = absurd is
 alters_failed {r = Err e} is failed = record {
@@ -141,7 +152,8 @@ alters_failed {r = Err e} is failed = record {
 }
 
 -- a write after another fails, which is passed on
-pub alters_cut : {S X Y Z U V W : Type 0} {store : Ghosts S} {a b c : MutBor (Held S)} {v : V} {f : Fault} {r : Result W Fault} {From Mid : X → State → Type 0} {Takes Gives : Y → State → Type 0} {To Into : Z → State → Type 0}
+pub alters_cut : {S X Y Z U V W : Type 0} {store : Ghosts S} {a b c : MutBor (Held S)} {v : V} {f : Fault} {r : Result W Fault} {From Mid : X → State
+    → Type 0} {Takes Gives : Y → State → Type 0} {To Into : Z → State → Type 0}
     → IsErrAnd r (λ e. e ≡ f) → Alters store a b (Ok v) From Mid → Alters {V = U} store b c (Err f) Takes Gives → Alters store a c r To Into
 alters_cut {r = Ok w} is one failed = absurd is
 alters_cut {store = store} {a = a} {b = b} {c = c} {r = Err e} is one failed =

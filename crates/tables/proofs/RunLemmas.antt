@@ -31,18 +31,21 @@ use Rattle.tables.proofs.RunQueries.{selects_rowid, accepts_rowid, between_tests
 -- ---- the rowid of the row with a key
 
 -- what is shown are rowids of rows with the key
-pub rowid_shown : (t : Table) (key : Row) → length key ≡ (shape t).key → (db : Database) → BeginsTo t db.schema → (old new : State) (rows : List Row) → RestsAt db old → Shown (select_rowid_text t) key old new rows
+pub rowid_shown : (t : Table) (key : Row) → length key ≡ (shape t).key → (db : Database) → BeginsTo t db.schema → (old new : State) (rows : List Row)
+    → RestsAt db old → Shown (select_rowid_text t) key old new rows
     → IsPermutation (map alone (filter (λ r. begins_with key (drop 1 r)) (db.trees (tree_of t)))) rows
 rowid_shown t key many db begins old new rows rests shown =
     let has : old.now.schema ≡ schema_from (1 + place_of t) begins.rest begins.others begins.views = ap (λ (d : Database). d.schema) rests.now ∙ begins.is in
     let got = reads_rows (schema_from (1 + place_of t) begins.rest begins.others begins.views) (select_rowid_text t) (tree_of t) _ _ _ _
     ((selects_rowid t).select begins.rest begins.others begins.views)
-    (λ r. r) key (λ r. begins_with key (drop 1 r)) (λ _. []) alone (λ r. tests_agree 0 (shape t).key key r ∙ ap (λ m. agree_at (places_from 0 m) (drop 1 r) key) (sym many)) (λ r. refl) (λ r. refl) old new rows has shown in
+    (λ r. r) key (λ r. begins_with key (drop 1 r)) (λ _. []) alone (λ r. tests_agree 0 (shape t).key key r ∙ ap (λ m. agree_at (places_from 0 m) (drop 1 r) key) (sym many))
+    (λ r. refl) (λ r. refl) old new rows has shown in
     subst (λ (d : Database). IsPermutation (map alone (filter (λ r. begins_with key (drop 1 r)) (d.trees (tree_of t)))) rows) rests.now
     (subst (IsPermutation (map alone (filter (λ r. begins_with key (drop 1 r)) (old.now.trees (tree_of t))))) (sym got.shown)
     (subst (λ l. IsPermutation (map alone (filter (λ r. begins_with key (drop 1 r)) l)) (map alone got.ordered)) (mapped_itself (old.now.trees (tree_of t))) (IsPermutation-map alone _ _ got.same)))
 
-pub if_rowid_shown : {X F : Type 0} (t : Table) (key : Row) → length key ≡ (shape t).key → (db : Database) → BeginsTo t db.schema → (old new : State) (rows : X → List Row) (r : Result X F) → RestsAt db old
+pub if_rowid_shown : {X F : Type 0} (t : Table) (key : Row) → length key ≡ (shape t).key → (db : Database) → BeginsTo t db.schema
+    → (old new : State) (rows : X → List Row) (r : Result X F) → RestsAt db old
     → IfOk r (λ x. Shown (select_rowid_text t) key old new (rows x)) → IfOk r (λ x. IsPermutation (map alone (filter (λ r. begins_with key (drop 1 r)) (db.trees (tree_of t)))) (rows x))
 if_rowid_shown t key many db begins old new rows (Ok x) rests shown = rowid_shown t key many db begins old new (rows x) rests shown
 if_rowid_shown t key many db begins old new rows (Err e) rests shown = tt
@@ -88,7 +91,8 @@ between_shown t low high db begins old new rows rests shown =
     (λ r. r) params test (λ _. []) (λ r. at (places_from 0 n) (drop 1 r)) (between_tested low high) (λ r. refl) (λ r. shows_columns 0 n params r) old new rows has shown in
     let same : IsPermutation (map (λ r. at (places_from 0 n) (drop 1 r)) (filter test (old.now.trees (tree_of t)))) rows =
     subst (IsPermutation (map (λ r. at (places_from 0 n) (drop 1 r)) (filter test (old.now.trees (tree_of t))))) (sym got.shown)
-    (subst (λ l. IsPermutation (map (λ r. at (places_from 0 n) (drop 1 r)) (filter test l)) (map (λ r. at (places_from 0 n) (drop 1 r)) got.ordered)) (mapped_itself (old.now.trees (tree_of t))) (IsPermutation-map (λ r. at (places_from 0 n) (drop 1 r)) _ _ got.same)) in
+    (subst (λ l. IsPermutation (map (λ r. at (places_from 0 n) (drop 1 r)) (filter test l)) (map (λ r. at (places_from 0 n) (drop 1 r)) got.ordered))
+    (mapped_itself (old.now.trees (tree_of t))) (IsPermutation-map (λ r. at (places_from 0 n) (drop 1 r)) _ _ got.same)) in
     subst (λ (d : Database). IsPermutation (map (at (column_places t)) (run_of t low high d.trees)) rows) rests.now
     (subst (λ l. IsPermutation l rows) (sym (mapped_twice (drop 1) (at (column_places t)) (filter test (old.now.trees (tree_of t))))) same)
 
@@ -115,7 +119,8 @@ module _ (t : Table) (low high : ℤ) (c : Contents) (s : State) (rests : Rests 
   in_table r there =
       let it = has_mapped (drop 1) (filter (lies_between low high) (s.now.trees (tree_of t))) r there in
       let both = has_filtered (lies_between low high) (s.now.trees (tree_of t)) it.0 it.1 in
-      subst (Has (c t)) (sym it.2) (permuted_has (drop 1 it.0) (tuples t s.now.trees) (c t) (IsPermutation-sym _ _ ((office_of c s rests).holds t).same) (mapped_has (drop 1) (s.now.trees (tree_of t)) it.0 both.0))
+      subst (Has (c t)) (sym it.2) (permuted_has (drop 1 it.0) (tuples t s.now.trees) (c t) (IsPermutation-sym _ _ ((office_of c s rests).holds t).same)
+      (mapped_has (drop 1) (s.now.trees (tree_of t)) it.0 both.0))
 
   -- it has all columns and no more
   run_itself : map (at (column_places t)) (run_of t low high s.now.trees) ≡ run_of t low high s.now.trees

@@ -2,7 +2,8 @@
 
 ghost use Rattle.std.specs.Prelude.{◌≡◌, ◌≤◌, true};
 ghost use Rattle.tables.specs.Schema.{shape, changes_rows};
-ghost use Rattle.tables.specs.Texts.{scan_text, create_text, insert_text, select_text, select_by_reference_text, select_rowids_text, select_rowid_text, select_between_text, update_text, set_text, delete_text};
+ghost use Rattle.tables.specs.Texts.{scan_text, create_text, insert_text, select_text, select_by_reference_text, select_rowids_text};
+ghost use Rattle.tables.specs.Texts.{select_rowid_text, select_between_text, update_text, set_text, delete_text};
 
 use crate::table::{Reference, Setting, Table};
 

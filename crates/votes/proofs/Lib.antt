@@ -2,4 +2,3 @@
 pub mod Quotas
 pub mod Cuts
 pub mod Texts
-pub mod Beginnings

@@ -1,5 +1,3 @@
--- What votes are, their text, and the streams that it goes to.
+-- What votes are, and their text.
 pub mod Units
 pub mod Text
-pub mod Streams
-pub mod Counted

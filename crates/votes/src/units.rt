@@ -2,14 +2,14 @@
 
 ghost use Rattle.std.specs.Prelude.{◌≡◌, ℕ, ◌+◌, ◌-◌, ◌*◌, ◌^◌, ◌<◌, ◌≤◌, OnOk, OnErr, Some};
 ghost use Rattle.std.specs.Io.KnownBytes.{Appends};
-ghost use Rattle.votes.specs.Streams.{AppendsBeginning};
+ghost use Rattle.streams.specs.Streams.{AppendsBeginning};
 ghost use Rattle.votes.specs.Units.{one_vote, max_papers, max_units, max_seats, IsQuota, quota_of, IsCut, cut, GivesWithin};
 ghost use Rattle.votes.specs.Text.{TellsUnits, fraction_text, votes_text};
 
-use crate::streams::{Broken, Sink, put_all};
 use itoa::Buffer;
 use std::fmt;
 use std::marker::Model;
+use streams::{Broken, Sink, put_all};
 
 /// One vote, in units.
 pub const ONE_VOTE: u64 = 100000;
@@ -51,7 +51,7 @@ impl Votes {
     ///
     /// Takes no memory. `Broken` comes only from the sink, which has then taken a beginning of the
     /// text and counts one failure more.
-    #[tactic(auto, using(crate::proofs::Beginnings::beginnings))]
+    #[tactic(auto, using(streams::proofs::Beginnings::beginnings))]
     pub fn write<W: Sink>(self, sink: &mut W) -> Result<(), Broken>
         requires { W.failed sink.old < 2 ^ 64 - 1 }
         ensures written { OnOk result (Appends (W.taken sink.old) (W.taken sink.new) (votes_text self)) }

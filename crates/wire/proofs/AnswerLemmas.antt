@@ -22,7 +22,8 @@ use Rattle.wire.specs.declared.response.Response.{Response}
 use Rattle.wire.specs.declared.target.Resource.{Resource}
 
 -- a keying that the office answered
-pub Readies-answered : (s : OfficeState) (clerk batch : ℕ) (entry : KeyingEntry) (request : Request) (a : Answer) (response : Response) (closed : Bool) (st : State) → IsHandedOn clerk batch entry request
+pub Readies-answered : (s : OfficeState) (clerk batch : ℕ) (entry : KeyingEntry) (request : Request) (a : Answer) (response : Response) (closed : Bool) (st : State)
+    → IsHandedOn clerk batch entry request
     → Handled s (step_of s request) (Ok a) closed st → IsTold (told_response (told a)) response → Readies s (keying clerk batch entry) response closed st
 Readies-answered s clerk batch entry request a response closed st is handled tells =
     let outcome = step_of s request in (
@@ -32,13 +33,15 @@ Readies-answered s clerk batch entry request a response closed st is handled tel
     )
 
 -- a keying at which it met a fault
-pub Readies-faulted : (s : OfficeState) (clerk batch : ℕ) (entry : KeyingEntry) (request : Request) (f : Fault) (response : Response) (closed : Bool) (st : State) → IsHandedOn clerk batch entry request
+pub Readies-faulted : (s : OfficeState) (clerk batch : ℕ) (entry : KeyingEntry) (request : Request) (f : Fault) (response : Response) (closed : Bool) (st : State)
+    → IsHandedOn clerk batch entry request
     → Handled s (step_of s request) (Err f) closed st → IsTold (fault_response (fault_number f)) response → Readies s (keying clerk batch entry) response closed st
 Readies-faulted s clerk batch entry request f response closed st is handled tells =
     (fault_response (fault_number f), tells, inr (f, refl, (step_of s request, IsOutcome-handed s clerk batch entry request is, handled)))
 
 -- what was read
-pub Readies-read : {X Y : Type 0} (s : OfficeState) (what : Resource) (entry : X → ResponseEntry) (view : Y → X) (reads : Result X Reason) (r : Result Y Stop) (response : Response) (closed : Bool) (st : State)
+pub Readies-read : {X Y : Type 0} (s : OfficeState) (what : Resource) (entry : X → ResponseEntry) (view : Y → X) (reads : Result X Reason) (r : Result Y Stop)
+    (response : Response) (closed : Bool) (st : State)
     → reading_response s what ≡ read_response entry reads → Read view s reads r closed st → IsReadTold entry view r response → Readies s (reading what) response closed st
 Readies-read s what entry view reads (Ok y) response closed st same read tells = (
   entry (view y),
@@ -53,5 +56,6 @@ Readies-read s what entry view reads (Err (Refused why)) response closed st same
 Readies-read s what entry view reads (Err (Failed f)) response closed st same read tells = (fault_response (fault_number f), tells, inr (f, refl, read))
 
 -- the same that is asked
-pub Readies-same : (s : OfficeState) (one other : HttpRequestEntry) (response : Response) (closed : Bool) (st : State) → one ≡ other → Readies s one response closed st → Readies s other response closed st
+pub Readies-same : (s : OfficeState) (one other : HttpRequestEntry) (response : Response) (closed : Bool) (st : State) → one ≡ other → Readies s one response closed st
+    → Readies s other response closed st
 Readies-same s one other response closed st same ready = subst (λ asked. Readies s asked response closed st) same ready

@@ -41,7 +41,8 @@ ends_before (Some left) (Some ys) (Some zs) room filled few took more ended =
     omega arith
 
 -- the source failed before the room was full
-pub HasRead-few : {A E : Type 0} (old mid new : Option (List ℕ)) (room : List ℕ) (filled size : ℕ) (r : Result A E) → filled ≤ length room → filled < size → Consumes old mid (take filled room) → Keeps mid new
+pub HasRead-few : {A E : Type 0} (old mid new : Option (List ℕ)) (room : List ℕ) (filled size : ℕ) (r : Result A E) → filled ≤ length room → filled < size
+    → Consumes old mid (take filled room) → Keeps mid new
     → OnErr r (HasRead old new (λ got. length got < size))
 HasRead-few old mid new room filled size (Ok x) within few took kept = tt
 HasRead-few old mid new room filled size (Err e) within few took kept =

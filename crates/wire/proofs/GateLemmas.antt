@@ -85,7 +85,8 @@ keying-his : (c batch : ℕ) (entry : Option KeyingEntry) (clerk : ℕ) → cler
 keying-his c batch None clerk is = let no : ⊥ = cc in absurd no
 keying-his c batch (Some entry) clerk is = cc
 
-his : (gate : GateEntry) (there : Target) (size : Result ℕ RequestError) (behind : List ℕ) (clerk : ℕ) → clerk_asked (asked_of (Some gate) (Ok there) size behind) ≡ Some clerk → owner_of there ≡ Some clerk
+his : (gate : GateEntry) (there : Target) (size : Result ℕ RequestError) (behind : List ℕ) (clerk : ℕ) → clerk_asked (asked_of (Some gate) (Ok there) size behind) ≡ Some clerk
+    → owner_of there ≡ Some clerk
 his gate (Keying c batch) (Ok n) behind clerk is = ap Some (keying-his c batch (option_and_then keying_of (body_in n behind)) clerk is)
 his gate (Keying c batch) (Err why) behind clerk is = let no : ⊥ = cc in absurd no
 his gate (Page c) size behind clerk is = is

@@ -1,5 +1,6 @@
 -- What a request lacks and asks, and who asks it, by how its head was parsed.
-use Rattle.std.proofs.Common.{◌≡◌, ◌∙◌, ◌<◌, ◌≤◌, ◌+◌, ◌-◌, ℕ, List, Option, None, Result, Ok, Err, [], ◌++◌, Some, inl, inr, append_assoc, ap, arith, drop, length, map, min, option_map, refl, subst, sym, take}
+use Rattle.std.proofs.Common.{◌≡◌, ◌∙◌, ◌<◌, ◌≤◌, ◌+◌, ◌-◌, ℕ, List, Option, None, Result, Ok, Err, [], ◌++◌, Some}
+use Rattle.std.proofs.Common.{inl, inr, append_assoc, ap, arith, drop, length, map, min, option_map, refl, subst, sym, take}
 use Rattle.std.proofs.Math.Seq.{drop-append_seam}
 use Rattle.std.proofs.lemmas.Bool.{cases_lt, le-leb}
 use Rattle.std.proofs.lemmas.List.{append-nil, length-append, length-take, nil_from_length, take-append-drop, take-append-le, take_all}
@@ -121,22 +122,31 @@ lacks_none (Ok (target.Resource what)) body behind enough completeness_of = comp
 lacks_none (Err why) body behind enough completeness_of = completeness_of
 
 -- what a head that was parsed lacks, its head lacks
-MissesBehind-parsed : (settings : HttpSettingsEntry) (got : List ℕ) (head : Head) (is : IsHeadOf settings got head) (behind : List ℕ) → MissesBytes head.wanted head.body behind → MissesBehind settings is.found behind
+MissesBehind-parsed : (settings : HttpSettingsEntry) (got : List ℕ) (head : Head) (is : IsHeadOf settings got head) (behind : List ℕ)
+    → MissesBytes head.wanted head.body behind → MissesBehind settings is.found behind
 MissesBehind-parsed settings got head is behind completeness_of =
     subst (λ b. MissesBytes (wanted settings (map name_and_value is.found.fields) is.found.method is.found.target) b behind) is.says.body
     (subst (λ (t : Result Target RequestError). MissesBytes t head.body behind) is.says.wanted completeness_of)
 
-MissesBehind-back : (settings : HttpSettingsEntry) (got : List ℕ) (head : Head) (is : IsHeadOf settings got head) (behind : List ℕ) → MissesBehind settings is.found behind → MissesBytes head.wanted head.body behind
+MissesBehind-back : (settings : HttpSettingsEntry) (got : List ℕ) (head : Head) (is : IsHeadOf settings got head) (behind : List ℕ)
+    → MissesBehind settings is.found behind → MissesBytes head.wanted head.body behind
 MissesBehind-back settings got head is behind completeness_of =
     subst (λ (t : Result Target RequestError). MissesBytes t head.body behind) (sym is.says.wanted)
     (subst (λ b. MissesBytes (wanted settings (map name_and_value is.found.fields) is.found.method is.found.target) b behind) (sym is.says.body) completeness_of)
 
 -- with fewer bytes than it needs
-wanting_parsed : (settings : HttpSettingsEntry) (got more : List ℕ) (head : Head) → IsHeadOf settings got head → length (got ++ more) < head.size + needed head.wanted head.body → IsWanting settings (got ++ more)
+wanting_parsed : (settings : HttpSettingsEntry) (got more : List ℕ) (head : Head) → IsHeadOf settings got head → length (got ++ more) < head.size + needed head.wanted head.body
+    → IsWanting settings (got ++ more)
 wanting_parsed settings got more head is few =
     let long = parts_of settings got head is in
     let short : length (is.behind ++ more) < needed head.wanted head.body = omega (arith, few, long, length-append got more, length-append is.behind more) in
-    inr (is.found, is.behind ++ more, grown got more is.found is.behind is.begins, MissesBehind-parsed settings got head is (is.behind ++ more) (lacks_few head.wanted head.body (is.behind ++ more) short))
+    inr (
+      is.found,
+      is.behind ++ more,
+      grown got more is.found is.behind is.begins,
+      MissesBehind-parsed settings got head is (is.behind ++ more)
+          (lacks_few head.wanted head.body (is.behind ++ more) short),
+    )
 
 pub lacks_bytes : (settings : HttpSettingsEntry) (got : List ℕ) (head : Head) → IsHeadOf settings got head → length got < head.size + needed head.wanted head.body
     → IsCompletenessOf settings got (AtLeast (head.size + needed head.wanted head.body))
@@ -229,7 +239,8 @@ none_came got never = subst HasNoHead (append-nil got) (never [])
 pub asks_none : (settings : HttpSettingsEntry) (got : List ℕ) → HasNoHead got → Asks settings got (denied BadRequest)
 asks_none settings got none = inl (none, refl)
 
-asks_behind : (settings : HttpSettingsEntry) (got : List ℕ) (head : Head) (is : IsHeadOf settings got head) (asked : HttpRequestEntry) → asked ≡ asked_of settings.gate head.wanted head.body is.behind → Asks settings got asked
+asks_behind : (settings : HttpSettingsEntry) (got : List ℕ) (head : Head) (is : IsHeadOf settings got head) (asked : HttpRequestEntry)
+    → asked ≡ asked_of settings.gate head.wanted head.body is.behind → Asks settings got asked
 asks_behind settings got head is asked same = inr (
   is.found,
   is.behind,
@@ -239,7 +250,8 @@ asks_behind settings got head is asked same = inr (
 )
 
 -- by the bytes that follow the head
-pub asks_parsed : (settings : HttpSettingsEntry) (got : List ℕ) (head : Head) (n : ℕ) (behind : List ℕ) (asked : HttpRequestEntry) → n ≡ min head.size (length got) → behind ≡ drop n got → IsHeadOf settings got head
+pub asks_parsed : (settings : HttpSettingsEntry) (got : List ℕ) (head : Head) (n : ℕ) (behind : List ℕ) (asked : HttpRequestEntry) → n ≡ min head.size (length got)
+    → behind ≡ drop n got → IsHeadOf settings got head
     → asked ≡ asked_of settings.gate head.wanted head.body behind → Asks settings got asked
 asks_parsed settings got head n behind asked small there is same =
     let long = parts_of settings got head is in
@@ -248,7 +260,8 @@ asks_parsed settings got head n behind asked small there is same =
     asks_behind settings got head is asked (same ∙ ap (asked_of settings.gate head.wanted head.body) own)
 
 -- the same of a result, which may be that an allocation failed
-pub asks_result : {E : Type 0} (settings : HttpSettingsEntry) (got : List ℕ) (head : Head) (n : ℕ) (behind : List ℕ) (r : Result HttpRequest E) → n ≡ min head.size (length got) → behind ≡ drop n got → IsHeadOf settings got head
+pub asks_result : {E : Type 0} (settings : HttpSettingsEntry) (got : List ℕ) (head : Head) (n : ℕ) (behind : List ℕ) (r : Result HttpRequest E)
+    → n ≡ min head.size (length got) → behind ≡ drop n got → IsHeadOf settings got head
     → IfOk r (λ asked. http_request_entry asked ≡ asked_of settings.gate head.wanted head.body behind) → IfOk r (λ asked. Asks settings got (http_request_entry asked))
 asks_result settings got head n behind (Err e) small there is same = tt
 asks_result settings got head n behind (Ok asked) small there is same = asks_parsed settings got head n behind (http_request_entry asked) small there is same
@@ -258,7 +271,8 @@ asks_reading : (settings : HttpSettingsEntry) (got : List ℕ) (head : Head) (wh
 asks_reading settings got head what reads is = asks_behind settings got head is (reading what) (sym (ap (λ (t : Result Target RequestError). asked_of settings.gate t head.body is.behind) reads))
 
 -- what is read, if anything is
-pub asks_read : (settings : HttpSettingsEntry) (got : List ℕ) (head : Head) (t : Result Target RequestError) → head.wanted ≡ t → IsHeadOf settings got head → IfSome (read_in t) (λ what. Asks settings got (reading what))
+pub asks_read : (settings : HttpSettingsEntry) (got : List ℕ) (head : Head) (t : Result Target RequestError) → head.wanted ≡ t → IsHeadOf settings got head
+    → IfSome (read_in t) (λ what. Asks settings got (reading what))
 asks_read settings got head (Ok (target.Keying clerk batch)) same is = tt
 asks_read settings got head (Ok (target.Page clerk)) same is = tt
 asks_read settings got head (Ok (target.Leave clerk)) same is = tt

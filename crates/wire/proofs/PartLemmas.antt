@@ -1,5 +1,6 @@
 -- What the parameters of a route take of a path, and the path that a pattern fits.
-use Rattle.std.proofs.Common.{◌≡◌, ◌∙◌, ◌-◌, ◌+◌, ◌<◌, ◌≤◌, ◌==◌, ◌&&◌, suc, ℕ, Bool, true, false, List, [], ◌∷◌, ◌++◌, Some, None, append_assoc, drop, inl, inr, leb, length, ltb, not, refl, sym, ap, arith}
+use Rattle.std.proofs.Common.{◌≡◌, ◌∙◌, ◌-◌, ◌+◌, ◌<◌, ◌≤◌, ◌==◌, ◌&&◌, suc, ℕ, Bool, true, false, List, [], ◌∷◌}
+use Rattle.std.proofs.Common.{◌++◌, Some, None, append_assoc, drop, inl, inr, leb, length, ltb, not, refl, sym, ap, arith}
 use Rattle.std.specs.Prelude.{if◌then◌else◌, nat_le}
 use Rattle.std.specs.Char.{is_ascii, is_ascii_digit}
 use Rattle.std.specs.List.{list_all}
@@ -34,7 +35,8 @@ wild-word [] t len token at bytes fits = same-place token at (token + 0) (at + 0
 wild-word (x ∷ word) t len token at bytes fits =
     let parts = and_parts (ltb x param_token) (list_all (λ x. ltb x param_token) word) bytes in
     let there : ltb at len ≡ true = lt-ltb at len (omega arith) in
-    rw (parts.0, there) (wild-word word t len (token + 1) (at + 1) parts.1 (omega arith) ∙ same-place (token + 1 + length word) (at + 1 + length word) (token + suc (length word)) (at + suc (length word)) (omega arith) (omega arith))
+    rw (parts.0, there) (wild-word word t len (token + 1) (at + 1) parts.1 (omega arith) ∙ same-place (token + 1 + length word) (at + 1 + length word)
+    (token + suc (length word)) (at + suc (length word)) (omega arith) (omega arith))
 
 -- the bytes between two others
 part-between : (path before part rest : List ℕ) → path ≡ before ++ (part ++ rest) → part_of path (length before) (length before + length part) ≡ part
@@ -50,7 +52,8 @@ part-between path before part rest is =
 pub walk-part : (pattern text path : List ℕ) (name : ℕ × ℕ) (names : List (ℕ × ℕ)) (word t before part rest : List ℕ) (token at : ℕ) → at ≡ length before
     → drop token pattern ≡ word ++ (param_token ∷ t) → list_all (λ x. ltb x param_token) word ≡ true → path ≡ before ++ (word ++ (part ++ (47 ∷ rest))) → HasNoSlash part
     → ((from : ℕ) → wild_stop pattern (token + length word) path from ≡ from + length (segment (drop from path)) - 1)
-    → walk pattern text path (name ∷ names) token at ≡ with_taken (part_of text name.0 name.1) part (walk pattern text path names (after_token (token + length word)) (length (before ++ word) + length part))
+    → walk pattern text path (name ∷ names) token at ≡ with_taken (part_of text name.0 name.1) part
+    (walk pattern text path names (after_token (token + length word)) (length (before ++ word) + length part))
 walk-part pattern text path name names word t before part rest token at place_is pattern_is bytes is whole stops =
     let from = length (before ++ word) in
     let parts : path ≡ (before ++ word) ++ (part ++ (47 ∷ rest)) = is ∙ sym (append_assoc before word (part ++ (47 ∷ rest))) in
@@ -61,9 +64,11 @@ walk-part pattern text path name names word t before part rest token at place_is
     let behind : drop from path ≡ part ++ (47 ∷ rest) = ap (drop from) parts ∙ drop-append_seam (before ++ word) (part ++ (47 ∷ rest)) in
     let segment_is : length (segment (drop from path)) ≡ length part + 1 = ap (λ p. length (segment p)) behind ∙ ap length (segment-part part rest whole) ∙ length-append part (47 ∷ []) in
     let stop : wild_stop pattern (token + length word) path from ≡ from + length part = stops from ∙ omega arith in
-    ap (λ (w : ℕ × ℕ). with_taken (part_of text name.0 name.1) (part_of path w.1 (wild_stop pattern w.0 path w.1)) (walk pattern text path names (after_token w.0) (wild_stop pattern w.0 path w.1))) wild
+    ap (λ (w : ℕ × ℕ). with_taken (part_of text name.0 name.1) (part_of path w.1 (wild_stop pattern w.0 path w.1))
+    (walk pattern text path names (after_token w.0) (wild_stop pattern w.0 path w.1))) wild
     ∙ ap (λ s. with_taken (part_of text name.0 name.1) (part_of path from s) (walk pattern text path names (after_token (token + length word)) s)) stop
-    ∙ ap (λ p. with_taken (part_of text name.0 name.1) p (walk pattern text path names (after_token (token + length word)) (from + length part))) (part-between path (before ++ word) part (47 ∷ rest) parts)
+    ∙ ap (λ p. with_taken (part_of text name.0 name.1) p (walk pattern text path names (after_token (token + length word)) (from + length part)))
+    (part-between path (before ++ word) part (47 ∷ rest) parts)
 
 -- what a route with one parameter took
 pub one-taken : (word rest text path part : List ℕ) (name : ℕ × ℕ) → list_all (λ x. ltb x param_token) word ≡ true → path ≡ word ++ (part ++ (47 ∷ rest)) → HasNoSlash part

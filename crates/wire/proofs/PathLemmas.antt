@@ -311,7 +311,8 @@ named-own : (target : List ℕ) (there : Target) → named_by target ≡ Some th
 named-own target there named = by (list_all is_ascii target) (first office_routes target) (seek-gives (NamesOwn target) 0 office_routes target (routes-own target)) named
   where
     by : (low : Bool) (found : Option (RouteOf RouteTarget)) → IfSome found (NamesOwn target)
-        → option_and_then (λ (route : RouteOf RouteTarget). named_at route.value (walk route.pattern route.text target route.names 0 0)) (if low then found else None) ≡ Some there → IsTargetOf there target
+        → option_and_then (λ (route : RouteOf RouteTarget). named_at route.value (walk route.pattern route.text target route.names 0 0)) (if low then found else None) ≡ Some there
+        → IsTargetOf there target
     by false found own named = let no : ⊥ = cc in absurd no
     by true None own named = let no : ⊥ = cc in absurd no
     by true (Some route) own named = own there named

@@ -9,7 +9,8 @@ use Rattle.httparse.specs.Spans.{IsRequestAt, IsRequestOf, header_bytes, name_an
 use Rattle.httparse.specs.declared.spans.HeaderSpan.{HeaderSpan}
 use Rattle.httparse.specs.declared.spans.RequestSpans.{RequestSpans}
 use Rattle.wire.proofs.HeadLemmas.{HasOneHead-all}
-use Rattle.wire.specs.Requests.{HttpRequestEntry, Asks, AsksOneThing, DeniesForeign, FailsAfter, IsWanting, MissesAt, MissesBehind, MissesBytes, MissesFound, TakesOwn, asked_at, asked_by, http_request_entry, asked_of, denied, wanted, wanted_by}
+use Rattle.wire.specs.Requests.{HttpRequestEntry, Asks, AsksOneThing, DeniesForeign, FailsAfter, IsWanting, MissesAt, MissesBehind, MissesBytes}
+use Rattle.wire.specs.Requests.{MissesFound, TakesOwn, asked_at, asked_by, http_request_entry, asked_of, denied, wanted, wanted_by}
 use Rattle.wire.specs.Gates.{HttpSettingsEntry}
 use Rattle.wire.specs.Heads.{BeginsWith, HasNoHead}
 use Rattle.wire.specs.Lengths.{NamedValue, body_length}
@@ -78,7 +79,8 @@ Asks-entry settings (Some bytes) (Some left) got headers spans (head, there) ask
           ∙ ap (λ (f : List NamedValue). asked_of settings.gate (wanted settings f head.method head.target) (body_length f) behind) there.fields,
     )
 
-pub Asks-head : {E : Type 0} (settings : HttpSettingsEntry) (old mid : Option (List ℕ)) (got : List ℕ) (headers : List HeaderSpan) (spans : RequestSpans) → IsRequestOf got headers spans → (r : Result HttpRequest E)
+pub Asks-head : {E : Type 0} (settings : HttpSettingsEntry) (old mid : Option (List ℕ)) (got : List ℕ) (headers : List HeaderSpan) (spans : RequestSpans)
+    → IsRequestOf got headers spans → (r : Result HttpRequest E)
     → length got ≤ 8192 → length headers ≡ 32 → Consumes old mid got → IfSome mid (λ left. IfOk r (λ asked. http_request_entry asked ≡ asked_at settings got headers spans left))
     → IfSome old (λ bytes. IfOk r (λ asked. Asks settings bytes (http_request_entry asked)))
 Asks-head settings None mid got headers spans found r fits places took is = tt
@@ -104,7 +106,8 @@ module _ (settings : HttpSettingsEntry) (got : List ℕ) (headers : List HeaderS
       inr (head, behind, begins bytes got left headers spans head there fits places e, MissesBehind-of head there behind completeness_of)
 
 -- there is a whole head, and what it asks for isn't all there
-pub FailsAfter-behind : (settings : HttpSettingsEntry) (old mid new : Option (List ℕ)) (got : List ℕ) (headers : List HeaderSpan) (spans : RequestSpans) → IsRequestOf got headers spans → (r : Result HttpRequest ReadFailure)
+pub FailsAfter-behind : (settings : HttpSettingsEntry) (old mid new : Option (List ℕ)) (got : List ℕ) (headers : List HeaderSpan) (spans : RequestSpans)
+    → IsRequestOf got headers spans → (r : Result HttpRequest ReadFailure)
     → length got ≤ 8192 → length headers ≡ 32 → Consumes old mid got → IfErr r (FailsAfter mid new (MissesAt settings got headers spans)) → IfErr r (FailsAfter old new (IsWanting settings))
 FailsAfter-behind settings old mid new got headers spans found (Ok asked) fits places took after = tt
 FailsAfter-behind settings old mid new got headers spans found (Err Memory) fits places took after = tt
@@ -123,7 +126,8 @@ module _ (settings : HttpSettingsEntry) (got : List ℕ) (headers : List HeaderS
   SaysFound = Says settings (map (header_bytes got) (take spans.headers headers)) (span_bytes got spans.method) (span_bytes got spans.path) spans.len head
 
   pub Asks-said : {E : Type 0} (old mid : Option (List ℕ)) → IsRequestOf got headers spans → SaysFound → (r : Result HttpRequest E) → length got ≤ 8192 → length headers ≡ 32 → Consumes old mid got
-      → (behind : List ℕ) → behind ≡ drop spans.len got → IfSome mid (λ left. IfOk r (λ asked. http_request_entry asked ≡ asked_of settings.gate head.wanted head.body (behind ++ left))) → IfSome old (λ bytes. IfOk r (λ asked. Asks settings bytes (http_request_entry asked)))
+      → (behind : List ℕ) → behind ≡ drop spans.len got → IfSome mid (λ left. IfOk r (λ asked. http_request_entry asked ≡ asked_of settings.gate head.wanted head.body (behind ++ left)))
+      → IfSome old (λ bytes. IfOk r (λ asked. Asks settings bytes (http_request_entry asked)))
   Asks-said old mid found says r fits places took behind there is =
       let fields = map (header_bytes got) (take spans.headers headers) in
       let target = wanted settings fields (span_bytes got spans.method) (span_bytes got spans.path) in
@@ -132,7 +136,8 @@ module _ (settings : HttpSettingsEntry) (got : List ℕ) (headers : List HeaderS
       (subst (λ (t : Result Target RequestError). IfSome mid (λ left. IfOk r (λ asked. http_request_entry asked ≡ asked_of settings.gate t head.body (drop spans.len got ++ left)))) says.wanted
       (subst (λ (xs : List ℕ). IfSome mid (λ left. IfOk r (λ asked. http_request_entry asked ≡ asked_of settings.gate head.wanted head.body (xs ++ left)))) there is)))
 
-  pub FailsAfter-said : (old mid new : Option (List ℕ)) → IsRequestOf got headers spans → SaysFound → (r : Result HttpRequest ReadFailure) → length got ≤ 8192 → length headers ≡ 32 → Consumes old mid got
+  pub FailsAfter-said : (old mid new : Option (List ℕ)) → IsRequestOf got headers spans → SaysFound → (r : Result HttpRequest ReadFailure) → length got ≤ 8192
+      → length headers ≡ 32 → Consumes old mid got
       → (behind : List ℕ) → behind ≡ drop spans.len got → IfErr r (FailsAfter mid new (λ more. MissesBytes head.wanted head.body (behind ++ more))) → IfErr r (FailsAfter old new (IsWanting settings))
   FailsAfter-said old mid new found says r fits places took behind there after =
       let fields = map (header_bytes got) (take spans.headers headers) in

@@ -1,5 +1,6 @@
 -- What a walk over the rows of a router finds: that the path fits the pattern of the row, and what it finds where it does.
-use Rattle.std.proofs.Common.{◌≡◌, ◌∙◌, ◌⊎◌, ◌-◌, ◌+◌, ◌<◌, ◌==◌, zero, suc, ℕ, Bool, true, false, cond, List, [], ◌∷◌, ◌++◌, Option, Some, None, append-nil, drop, inl, inr, length, ltb, refl, subst, sym, ap, take, arith}
+use Rattle.std.proofs.Common.{◌≡◌, ◌∙◌, ◌⊎◌, ◌-◌, ◌+◌, ◌<◌, ◌==◌, zero, suc, ℕ, Bool, true, false, cond, List, [], ◌∷◌}
+use Rattle.std.proofs.Common.{◌++◌, Option, Some, None, append-nil, drop, inl, inr, length, ltb, refl, subst, sym, ap, take, arith}
 use Rattle.std.specs.Prelude.{IfSome, ⊤}
 use Rattle.std.proofs.lemmas.Bool.{lt-ltb}
 use Rattle.std.proofs.lemmas.Bool.Decides.{nat_tests}

@@ -7,7 +7,8 @@ use Rattle.wire.specs.Requests.{HttpRequestEntry, Asks, ShowEntry}
 use Rattle.office.specs.Answers.{IsOpenAt}
 use Rattle.wire.specs.Gates.{HttpSettingsEntry}
 use Rattle.wire.specs.Responses.{fault_response}
-use Rattle.wire.specs.Serving.{EndsWith, IsDeniedAlike, IsPut, IsServed, IsShownAlike, OnAnswered, OnReadFailed, OnWriteFailed, Readies, ReadiesClosed, ReadiesFor, Serves, ServesClosed, closed_response}
+use Rattle.wire.specs.Serving.{EndsWith, IsDeniedAlike, IsPut, IsServed, IsShownAlike, OnAnswered, OnReadFailed}
+use Rattle.wire.specs.Serving.{OnWriteFailed, Readies, ReadiesClosed, ReadiesFor, Serves, ServesClosed, closed_response}
 use Rattle.wire.specs.Told.{IsTold, IsWritten}
 use Rattle.wire.specs.declared.request_error.RequestError.{RequestError}
 use Rattle.wire.specs.declared.response.Response.{Response}
@@ -47,7 +48,8 @@ ends-put IsReady ReadFailure old new ReadFailed it = absurd it.put
 ends-put IsReady ReadFailure old new WriteFailed it = it
 
 -- what was asked was answered
-pub Serves-asked : (settings : HttpSettingsEntry) (bytes old new : Option (List ℕ)) (s : OfficeState) (asked : HttpRequestEntry) (served : Served) (closed : Bool) (st : State) → IfSome bytes (λ xs. Asks settings xs asked)
+pub Serves-asked : (settings : HttpSettingsEntry) (bytes old new : Option (List ℕ)) (s : OfficeState) (asked : HttpRequestEntry) (served : Served) (closed : Bool) (st : State)
+    → IfSome bytes (λ xs. Asks settings xs asked)
     → IsServed (λ response. Readies s asked response closed st) old new served → Serves settings bytes old new s served closed st
 Serves-asked settings bytes old new s asked served closed st asks it =
     ends-put _ _ old new served
@@ -68,7 +70,8 @@ ServesClosed-asked settings bytes old new asked served asks it =
     ends-put _ _ old new served
     (ready-too (IsTold (closed_response asked)) (ReadiesClosed settings bytes) old new served (λ response ready. inl (record { asked = asked; asks = asks; tells = ready })) it)
 
-pub ServesClosed-memory : (settings : HttpSettingsEntry) (bytes old new : Option (List ℕ)) (served : Served) → IsServed (IsWritten (fault_response 101)) old new served → ServesClosed settings bytes old new served
+pub ServesClosed-memory : (settings : HttpSettingsEntry) (bytes old new : Option (List ℕ)) (served : Served) → IsServed (IsWritten (fault_response 101)) old new served
+    → ServesClosed settings bytes old new served
 ServesClosed-memory settings bytes old new served it =
     ends-put _ _ old new served (ready-too (IsWritten (fault_response 101)) (ReadiesClosed settings bytes) old new served (λ response ready. inr ready) it)
 

@@ -66,7 +66,8 @@ pub texts_in-stop : (all so_far : List Value) (texts : List (List ℕ)) (value :
     → (length so_far < length all) × (value ≡ get_or all (length so_far) value) → as_str (view value) ≡ None → None ≡ texts_in (items_view all)
 texts_in-stop all so_far texts value reads first there is =
     let (others, parts) = behind all so_far value first there in
-    sym (ap (λ l. texts_in (items_view l)) parts ∙ ap (λ l. texts_in (items_of l)) (map-append view so_far (value ∷ others)) ∙ ReadsOn-stop (map view so_far) texts (view value) (map view others) reads is)
+    sym (ap (λ l. texts_in (items_view l)) parts ∙ ap (λ l. texts_in (items_of l)) (map-append view so_far (value ∷ others)) ∙ ReadsOn-stop
+    (map view so_far) texts (view value) (map view others) reads is)
 
 -- one value and its text more
 pub ReadsOn-next : (so_far : List Value) (texts pushed : List (String Global)) (value : Value) (text : String Global) → ReadsOn (map view so_far) (map string_bytes texts)

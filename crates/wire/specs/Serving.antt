@@ -2,7 +2,7 @@
 use Rattle.std.specs.Prelude.{◌≡◌, ◌⊎◌, ◌∷◌, ⊤, Bool, List, [], Option, Result, Ok, Err, IfSome, map, string_bytes, ℕ}
 use Rattle.std.specs.Io.KnownBytes.{Appends}
 use Rattle.sqlite.specs.State.{State}
-use Rattle.votes.specs.Streams.{AppendsBeginning}
+use Rattle.streams.specs.Streams.{AppendsBeginning}
 use Rattle.register.specs.Machine.{Outcome, state_after, step_of}
 use Rattle.register.specs.Offices.{OfficeState}
 use Rattle.register.specs.Reasons.{reason_number, reason_text}

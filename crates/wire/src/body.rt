@@ -11,7 +11,7 @@ ghost use Rattle.wire.specs.Bodies.{body_entry, body_in, json_in, key_members, k
 use crate::read_failure::ReadFailure;
 use serde_json::{Category, Map, Value};
 use std::alloc::{AllocError, Global};
-use votes::{Broken, Source};
+use streams::{Broken, Source};
 
 /// The body of a keying: its id, its round (a number of 32 bits, in range or not), and the marks text of each paper.
 #[derive(Drop)]

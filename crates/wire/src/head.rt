@@ -8,7 +8,7 @@ ghost use Rattle.wire.specs.Heads.{HasNoHead, IsHeadWanting};
 
 use httparse::Status;
 use httparse::spans::{HeaderSpan, RequestSpans, parse_request};
-use votes::{Broken, Source};
+use streams::{Broken, Source};
 
 /// The most bytes that a head may have.
 pub const MAX_HEAD_BYTES: usize = 8192;

@@ -14,7 +14,7 @@ use crate::settings::HttpSettings;
 use office::Office;
 use sqlite::Alter;
 use std::alloc::Global;
-use votes::{Sink, Source};
+use streams::{Sink, Source};
 
 /// Serves one connection: reads a request, processes it in the office, and writes the response. It is
 /// [`serve_one`](crate::serve_one) without settings: requests of pages on other machines are rejected, and a clerk is known by

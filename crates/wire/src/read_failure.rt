@@ -4,7 +4,7 @@ ghost use Rattle.std.specs.Prelude.{◌≡◌};
 ghost use Rattle.wire.specs.declared.read_failure.ReadFailure.TheVariants.{Broken, Memory};
 
 use std::alloc::AllocError;
-use votes::Broken;
+use streams::Broken;
 
 /// Why a request couldn't be read.
 #[derive(Clone, Copy, PartialEq, Eq)]

@@ -17,7 +17,7 @@ use crate::settings::{Gate, HttpSettings, Show};
 use crate::target::{Resource, Routes, Target};
 use httparse::spans::EMPTY_HEADER_SPAN;
 use std::alloc::Global;
-use votes::Source;
+use streams::Source;
 
 /// A clerk's keying of a batch in a round: its id, and the marks text of each paper. Clerk and batch have 1 to 5 digits, and the
 /// round is any number of 32 bits. Whether they are in range is decided when the keying is handled.

@@ -19,7 +19,7 @@ use crate::settings::HttpSettings;
 use office::Office;
 use sqlite::Alter;
 use std::alloc::Global;
-use votes::{Sink, Source, put_all};
+use streams::{Sink, Source, put_all};
 
 /// How serving a connection ended.
 #[derive(Clone, Copy, Debug, PartialEq, Eq)]

@@ -60,7 +60,12 @@ drawn-due_for : (contest : Contest) (stages : History) (lot : Option ℕ) (group
     IsOn contest stages of_surplus group action ⊎ IsOn contest stages of_exclusion (continuing_after contest stages) action
 drawn-due_for contest stages lot [] action h =
     let on = drawn-among contest stages lot of_exclusion (lowest stages (continuing_after contest stages)) action h in
-    inr (record { candidate = on.candidate; in_group = (in-filter on.candidate (λ x. not (list_any (λ d. is_above stages x d) (continuing_after contest stages))) (continuing_after contest stages) on.in_group).1; is = on.is })
+    inr (record {
+      candidate = on.candidate;
+      in_group = (in-filter on.candidate (λ x. not (list_any (λ d. is_above stages x d) (continuing_after contest stages)))
+          (continuing_after contest stages) on.in_group).1;
+      is = on.is;
+    })
 drawn-due_for contest stages lot (c ∷ cs) action h =
     let on = drawn-among contest stages lot of_surplus (highest stages (c ∷ cs)) action h in
     inl (record { candidate = on.candidate; in_group = (in-filter on.candidate (λ x. not (list_any (λ d. is_above stages d x) (c ∷ cs))) (c ∷ cs) on.in_group).1; is = on.is })

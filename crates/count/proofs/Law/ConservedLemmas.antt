@@ -84,7 +84,8 @@ pub held-all : (contest : Contest) (stages : History) → IsContest contest →
 held-all contest stages fair =
     let swapped = sum-swap (λ c p. value_with c (place contest stages p)) contest.candidates contest.papers in
     let split = sum_by-add (λ p. sum_by (λ c. value_with c (place contest stages p)) contest.candidates) (λ p. value_with 0 (place contest stages p)) contest.papers in
-    let each = sum-of contest.candidates contest.papers fair.for_candidates (λ p. sum_by (λ c. value_with c (place contest stages p)) contest.candidates + value_with 0 (place contest stages p)) (λ p. (place contest stages p).value)
+    let each = sum-of contest.candidates contest.papers fair.for_candidates (λ p. sum_by (λ c. value_with c (place contest stages p)) contest.candidates
+    + value_with 0 (place contest stages p)) (λ p. (place contest stages p).value)
     (λ p k. let at = place contest stages p in
     ap (λ n. n + value_with 0 at) (sum-one at.holder at.value contest.candidates (columns-distinct contest.candidates fair.candidate_set))
     ∙ one_holder contest.candidates at _ refl (λ c j. (column-in c contest.candidates fair.candidate_set j).0) (holder-known contest stages p k)) in

@@ -92,7 +92,8 @@ race_same : (contest : Contest) (s : Stage) (before : History) → ((c : ℕ) �
 unfolding in_race
 race_same contest s before none =
     filter-le (λ c. has_reached contest before c || not (is_excluded before c)) (λ c. has_reached contest (s ∷ before) c || not (is_excluded (s ∷ before) c))
-    (λ c. stays_choice (nat_le contest.quota (votes_at s c)) (has_reached contest before c) (is_excluded before c) (is_excluded (s ∷ before) c) (λ k. ap (λ b. b || is_excluded before c) (sym (none c)) ∙ k)) contest.candidates
+    (λ c. stays_choice (nat_le contest.quota (votes_at s c)) (has_reached contest before c) (is_excluded before c) (is_excluded (s ∷ before) c)
+    (λ k. ap (λ b. b || is_excluded before c) (sym (none c)) ∙ k)) contest.candidates
 
 one_choice : (l r e d : Bool) → cond (r || not e) 1 0 ≤ cond ((l || r) || not (d || e)) 1 0 + cond d 1 0
 one_choice true true e d = omega arith

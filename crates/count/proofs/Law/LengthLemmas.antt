@@ -68,7 +68,8 @@ last_race contest s s' before d fair is_candidate not_elected not_excluded tells
     let same : filter (λ c. has_reached contest (s ∷ stages) c || not (is_excluded (s ∷ stages) c)) contest.candidates ≡ filter p contest.candidates =
     filter-cong _ p contest.candidates (λ c k. ap (λ b. b || not (excludes s.action c || is_excluded stages c)) (last_reached contest s s' before d c fair k tells' tells is)) in
     let excluded_now : excludes s.action d ≡ true = ap (λ a. excludes a d) is ∙ eq-eqb d d refl in
-    let fails : p d ≡ false = ap (λ b. has_reached contest stages d || not (b || is_excluded stages d)) excluded_now ∙ out_of_race _ (is_excluded stages d) (not_reached contest stages d _ refl not_elected) in
+    let fails : p d ≡ false = ap (λ b. has_reached contest stages d || not (b || is_excluded stages d)) excluded_now ∙ out_of_race _ (is_excluded stages d)
+    (not_reached contest stages d _ refl not_elected) in
     let passes : q d ≡ true = in_the_race (has_reached contest stages d) _ not_excluded in
     let fewer = filter-more p q d contest.candidates (λ c. still_choice (has_reached contest stages c) (excludes s.action c) (is_excluded stages c)) fails passes is_candidate in
     omega (arith, ap length same, fewer)
@@ -206,4 +207,9 @@ pub stages-few : (contest : Contest) (handed : History → Stage → Option ℕ)
     length stages ≤ length contest.candidates + 1
 unfolding acted
 stages-few contest handed stages fair rankings right =
-    omega (arith, length-acted contest handed stages fair right, filter-apart (is_transferred stages) (is_excluded stages) contest.candidates (λ c k. transferred-apart contest handed stages c fair rankings right k))
+    omega (
+      arith,
+      length-acted contest handed stages fair right,
+      filter-apart (is_transferred stages) (is_excluded stages) contest.candidates
+          (λ c k. transferred-apart contest handed stages c fair rankings right k),
+    )

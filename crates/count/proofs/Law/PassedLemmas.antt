@@ -75,7 +75,8 @@ excluded_gone contest before action d c p at false is r some old h held_by =
 
 moved_gone : (contest : Contest) (s' : Stage) (before : History) (action : Action) (c : ℕ) (p : List ℕ) (at : Place) →
     IsSurplus contest (s' ∷ before) action ⊎ IsExclusion contest (s' ∷ before) action →
-    IsRanking p → 1 ≤ c → (has_passed (s' ∷ before) c ≡ true → IsApart contest (s' ∷ before) at c) → (passes_on action c || has_passed (s' ∷ before) c) ≡ true → (moved contest (s' ∷ before) action p at).holder ≡ c → ⊥
+    IsRanking p → 1 ≤ c → (has_passed (s' ∷ before) c ≡ true → IsApart contest (s' ∷ before) at c) → (passes_on action c || has_passed (s' ∷ before) c) ≡ true
+    → (moved contest (s' ∷ before) action p at).holder ≡ c → ⊥
 moved_gone contest s' before action c p at (inl on) r some old h held_by =
     passed_gone contest (s' ∷ before) on.c c p at _ (eqb at.holder on.c) refl r some
     (new_or_old on.c c (eqb on.c c) (has_passed (s' ∷ before) c) (IsApart contest (s' ∷ before) at c) refl old (ap (λ a. passes_on a c || has_passed (s' ∷ before) c) (sym on.is) ∙ h))

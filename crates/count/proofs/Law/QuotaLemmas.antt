@@ -38,7 +38,8 @@ takes-not contest s before action c (inr on) reached stays =
 
 kept_votes : (contest : Contest) (s s' : Stage) (before : History) (c : ℕ) (b : Bool) → is_transferred (s ∷ s' ∷ before) c ≡ b → Tells contest before s' →
     IsSurplus contest (s' ∷ before) s.action ⊎ IsExclusion contest (s' ∷ before) s.action →
-    has_reached contest (s' ∷ before) c ≡ true → newest_votes (s' ∷ before) c ≡ votes_after contest (s' ∷ before) c → contest.quota ≤ newest_votes (s' ∷ before) c → contest.quota ≤ votes_after contest (s ∷ s' ∷ before) c
+    has_reached contest (s' ∷ before) c ≡ true → newest_votes (s' ∷ before) c ≡ votes_after contest (s' ∷ before) c → contest.quota ≤ newest_votes (s' ∷ before) c
+    → contest.quota ≤ votes_after contest (s ∷ s' ∷ before) c
 kept_votes contest s s' before c true gone tells step reached told enough = omega (arith, votes-transferred contest (s ∷ s' ∷ before) c gone)
 kept_votes contest s s' before c false gone tells step reached told enough =
     let parts = or_false (transfers s.action c) (is_transferred (s' ∷ before) c) gone in
@@ -107,7 +108,8 @@ first_values contest s is =
 
 step_values : (contest : Contest) (s s' : Stage) (before : History) → IsContest contest → Tells contest before s' →
     IsSurplus contest (s' ∷ before) s.action ⊎ IsExclusion contest (s' ∷ before) s.action →
-    all_values contest (s ∷ s' ∷ before) + quotas_left contest (s ∷ s' ∷ before) + lost_after contest (s ∷ s' ∷ before) ≡ all_values contest (s' ∷ before) + quotas_left contest (s' ∷ before) + lost_after contest (s' ∷ before)
+    all_values contest (s ∷ s' ∷ before) + quotas_left contest (s ∷ s' ∷ before) + lost_after contest (s ∷ s' ∷ before) ≡ all_values contest (s' ∷ before)
+    + quotas_left contest (s' ∷ before) + lost_after contest (s' ∷ before)
 step_values contest s s' before fair tells (inl on) =
     let column = column-in on.c contest.candidates fair.candidate_set on.is_candidate in
     let conserved = surplus-conserves contest s (s' ∷ before) on.c on.is (omega (arith, on.above)) (omega (arith, on.above)) (surplus-held contest s' before on.c tells column on.above) in
@@ -120,7 +122,12 @@ pub values-conserved : (contest : Contest) (handed : History → Stage → Optio
     all_values contest (s ∷ before) + quotas_left contest (s ∷ before) + lost_after contest (s ∷ before) ≡ one_vote * length contest.papers
 values-conserved contest handed s [] fair right = first_values contest s (step-first contest (handed [] s) s.action right.1.was_due)
 values-conserved contest handed s (s' ∷ before) fair right =
-    omega (arith, values-conserved contest handed s' before fair right.0, step_values contest s s' before fair right.0.1.tells (step-is contest s' before (handed (s' ∷ before) s) s.action right.1.was_due))
+    omega (
+      arith,
+      values-conserved contest handed s' before fair right.0,
+      step_values contest s s' before fair right.0.1.tells
+          (step-is contest s' before (handed (s' ∷ before) s) s.action right.1.was_due),
+    )
 
 -- the same where the newest stage has its action alone
 pub values-conserved-next : (contest : Contest) (handed : History → Stage → Option ℕ) (s : Stage) (before : History) → IsContest contest → IsRightBy contest handed before →

@@ -29,12 +29,30 @@ is_told contest before s tells =
     let bare : Stage = record { action = s.action; votes = []; elected = []; non_transferable = 0; lost = 0 } in
     let vs : List ℕ = map (votes_after contest (bare ∷ before)) numbers in
     let told_votes : s.votes ≡ vs = tells.votes_told in
-    let told_elected : s.elected ≡ filter (λ c. not (is_elected contest before c)) (elected_after contest (record { action = s.action; votes = vs; elected = []; non_transferable = 0; lost = 0 } ∷ before)) =
-    tells.elected_told ∙ ap (λ (v : List ℕ). filter (λ c. not (is_elected contest before c)) (elected_after contest (record { action = s.action; votes = v; elected = []; non_transferable = 0; lost = 0 } ∷ before))) told_votes in
+    let told_elected : s.elected ≡ filter (λ c. not (is_elected contest before c))
+    (elected_after contest (record { action = s.action; votes = vs; elected = []; non_transferable = 0; lost = 0 } ∷ before)) =
+    tells.elected_told ∙ ap (λ (v : List ℕ). filter (λ c. not (is_elected contest before c))
+    (elected_after contest (record { action = s.action; votes = v; elected = []; non_transferable = 0; lost = 0 } ∷ before))) told_votes in
     ap (λ (v : List ℕ). let t : Stage = record { action = s.action; votes = v; elected = s.elected; non_transferable = s.non_transferable; lost = s.lost } in t) told_votes
     ∙ ap (λ (e : List ℕ). let t : Stage = record { action = s.action; votes = vs; elected = e; non_transferable = s.non_transferable; lost = s.lost } in t) told_elected
-    ∙ ap (λ (n : ℕ). let t : Stage = record { action = s.action; votes = vs; elected = filter (λ c. not (is_elected contest before c)) (elected_after contest (record { action = s.action; votes = vs; elected = []; non_transferable = 0; lost = 0 } ∷ before)); non_transferable = n; lost = s.lost } in t) tells.non_transferable_told
-    ∙ ap (λ (n : ℕ). let t : Stage = record { action = s.action; votes = vs; elected = filter (λ c. not (is_elected contest before c)) (elected_after contest (record { action = s.action; votes = vs; elected = []; non_transferable = 0; lost = 0 } ∷ before)); non_transferable = non_transferable_after contest (bare ∷ before); lost = n } in t) tells.lost_told
+    ∙ ap (λ (n : ℕ). let t : Stage = record {
+      action = s.action;
+      votes = vs;
+      elected = filter (λ c. not (is_elected contest before c))
+          (elected_after contest (record { action = s.action; votes = vs; elected = []; non_transferable = 0; lost = 0 } ∷ before));
+      non_transferable = n;
+      lost = s.lost;
+    } in t)
+    tells.non_transferable_told
+    ∙ ap (λ (n : ℕ). let t : Stage = record {
+      action = s.action;
+      votes = vs;
+      elected = filter (λ c. not (is_elected contest before c))
+          (elected_after contest (record { action = s.action; votes = vs; elected = []; non_transferable = 0; lost = 0 } ∷ before));
+      non_transferable =
+          non_transferable_after contest (bare ∷ before);
+      lost = n;
+    } in t) tells.lost_told
 
 some_same : (a b : Action) (o : Option Action) → o ≡ Some a → o ≡ Some b → a ≡ b
 some_same a b o h k = cc

@@ -22,5 +22,6 @@ returns-in-Ok-clause-told g c =
 pub returns-in-Err-clause-told : goal.returns-in-Err-clause-told
 returns-in-Err-clause-told g c =
     let page = failed (Office Memory) in
-    let told = error_shown g.O.Sink.taken g.O.Sink.failed g.E.Sink.taken g.E.Sink.failed c.args.out.now c.args.err.now c.tell_failure-status.new.err page c.tell_failure-status.result refl c.tell_failure-status.ensures in
+    let told = error_shown g.O.Sink.taken g.O.Sink.failed g.E.Sink.taken g.E.Sink.failed c.args.out.now c.args.err.now c.tell_failure-status.new.err
+    page c.tell_failure-status.result refl c.tell_failure-status.ensures in
     record { page = page; cut = told.0; shown = told.1; is = λ clean. (λ db rests s left. inr (inr (Memory, refl, inl refl)), λ db ours rests none. (Memory, refl, (tt, λ store. absurd (cc store)))) }

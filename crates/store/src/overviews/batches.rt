@@ -21,7 +21,7 @@ use tables::Fault;
 
 /// How a batch stands by the keyings of its current round.
 #[derive(Clone, Copy, PartialEq, Eq)]
-pub enum Standing {
+pub enum BatchStanding {
     /// Two of them are equal.
     Taken,
     /// At least two are there, and no two are equal.
@@ -37,21 +37,21 @@ pub enum Standing {
 pub struct BatchOverview {
     pub batch: Batch,
     pub clerks: Vec<ClerkOverview>,
-    pub standing: Standing,
+    pub standing: BatchStanding,
     pub doubtful_open: usize,
     pub twin: Option<u32>,
 }
 
 /// How a batch stands by these keyings of its current round.
-fn standing_by(keyings: &Keyings) -> Standing
+fn standing_by(keyings: &Keyings) -> BatchStanding
     ensures { result ≡ standing_by (keyings_by keyings.now) }
 {
     if is_keyed(keyings.agreed()) {
-        Standing::Taken
+        BatchStanding::Taken
     } else if keyings.differ() {
-        Standing::Differing
+        BatchStanding::Differing
     } else {
-        Standing::Waiting
+        BatchStanding::Waiting
     }
 }
 

@@ -63,7 +63,12 @@ impl<S: Alter> Store<S> {
     /// The part of a command that needs a batch, its ward, its third clerk and the keyings of its round.
     pub(crate) fn third_part(&mut self, batch: u32) -> Result<Part, Fault>
         ensures { Loads S.Store self.old self.new result
-            (λ s part. part_entries part ≡ record empty_part { ward = ward_for s (batch_at s batch); batch = batch_at s batch; third = third_for s (batch_at s batch); keyings = keyings_for s (batch_at s batch) }) }
+            (λ s part. part_entries part ≡ record empty_part {
+              ward = ward_for s (batch_at s batch);
+              batch = batch_at s batch;
+              third = third_for s (batch_at s batch);
+              keyings = keyings_for s (batch_at s batch);
+            }) }
     {
         let found = self.find_batch(batch)?;
         let Some(batch) = found else {

@@ -168,7 +168,12 @@ impl<S: Alter> Store<S> {
     /// The part of the command about a lot: where the count of the ward stands, and the candidate.
     pub(crate) fn lot_part(&mut self, ward: u32, candidate: u32) -> Result<Part, Fault>
         ensures { Loads S.Store self.old self.new result
-            (λ s part. part_entries part ≡ record empty_part { ward = ward_at s ward; candidate = candidate_at s ward candidate; due = due_for s (ward_at s ward); elected = elected_for s (ward_at s ward) }) }
+            (λ s part. part_entries part ≡ record empty_part {
+              ward = ward_at s ward;
+              candidate = candidate_at s ward candidate;
+              due = due_for s (ward_at s ward);
+              elected = elected_for s (ward_at s ward);
+            }) }
     {
         let part = self.count_part(ward)?;
         let candidate = self.find_candidate(ward, candidate)?;

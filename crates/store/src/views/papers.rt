@@ -145,7 +145,13 @@ impl<S: Alter> Store<S> {
     /// the clerk's own.
     pub(crate) fn keying_part(&mut self, batch: u32, round: u32, clerk: u32) -> Result<Part, Fault>
         ensures { Loads S.Store self.old self.new result
-            (λ s part. part_entries part ≡ record empty_part { ward = ward_for s (batch_at s batch); candidates = candidates_for s (batch_at s batch); batch = batch_at s batch; third = third_for s (batch_at s batch); own = keying_of s batch round clerk }) }
+            (λ s part. part_entries part ≡ record empty_part {
+              ward = ward_for s (batch_at s batch);
+              candidates = candidates_for s (batch_at s batch);
+              batch = batch_at s batch;
+              third = third_for s (batch_at s batch);
+              own = keying_of s batch round clerk;
+            }) }
     {
         let own = self.list_keying(batch, round, clerk)?;
         let found = self.find_batch(batch)?;

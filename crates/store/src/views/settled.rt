@@ -103,7 +103,8 @@ impl<S: Alter> Store<S> {
         requires columns { columns ≡ B.columns }
         requires verdicts { map judged_entry verdicts.items ≡ B.verdicts }
         requires start { (js : _) → B.were_counted js → StandFor P.holds ballots (ballots_by js) }
-        ensures { Loads S.Store self.old self.new result (λ s counted. CountAfter P.holds B.were_counted columns (map judged_entry verdicts.items) counted (keying_of s batch.now.number batch.now.round (lower_clerk (batch_entry batch.now)))) }
+        ensures { Loads S.Store self.old self.new result (λ s counted. CountAfter P.holds B.were_counted columns
+            (map judged_entry verdicts.items) counted (keying_of s batch.now.number batch.now.round (lower_clerk (batch_entry batch.now)))) }
     {
         let counter = SettledPapers::<P, B> {
             ballots,
@@ -134,7 +135,8 @@ impl<S: Alter> Store<S> {
         verdicts: Vec<JudgedPaper>,
     ) -> Result<Ballots<P>, Fault>
         ensures { Loads S.Store self.old self.new result
-            (λ s counted. Some (third_entry third_clerk) ≡ third_at s batch.now.number → CountAfter P.holds (λ js. StandFor P.holds ballots (ballots_by js)) columns (map judged_entry verdicts.items) counted (taken_papers s (batch_entry batch.now))) }
+            (λ s counted. Some (third_entry third_clerk) ≡ third_at s batch.now.number
+            → CountAfter P.holds (λ js. StandFor P.holds ballots (ballots_by js)) columns (map judged_entry verdicts.items) counted (taken_papers s (batch_entry batch.now))) }
     {
         let mut counted = ballots;
         let keyings = self.keyings_with(batch, Some(third_clerk))?;

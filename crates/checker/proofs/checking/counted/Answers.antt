@@ -21,5 +21,6 @@ returns-in-Ok-compared-clause-ok c =
     let drawn : None ≡ undrawn c.in-Ok.book.contest c.args.lots.now =
     (rw c.in-Ok-None.field-0-is at c.in-Ok-None.ensures) ∙ ap (λ held. undrawn held c.args.lots.now) (sym (ap (λ b. b.contest) c.in-Ok.ensures)) in
     let held : IsContest c.in-Ok.book.contest = subst IsContest (sym (ap (λ b. b.contest) c.in-Ok.ensures)) (search (rules, c.is_bundled_contest.ensures, c.if-not-is_bundled_contest.false)) in
-    counted_so (shown ward) bundles c.args.lots.now c.args.text.now c.in-Ok-compared.checked c.in-Ok.book.contest c.stages.result.now c.run_count.new.book.history c.in-Ok-run_count.end c.elected.result held
+    counted_so (shown ward) bundles c.args.lots.now c.args.text.now c.in-Ok-compared.checked c.in-Ok.book.contest c.stages.result.now c.run_count.new.book.history
+    c.in-Ok-run_count.end c.elected.result held
     contest c.stages.ensures.is c.in-Ok-run_count.ensures.whole c.in-Ok-run_count.ensures.end c.in-None.ensures elected drawn c.in-Ok-compared.ensures

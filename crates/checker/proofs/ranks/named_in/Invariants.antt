@@ -8,6 +8,7 @@ use Rattle.checker.proofs.ranks.named_in.Given as goal
 
 abbrev pub invariant-loop-word : goal.invariant-loop-word
 invariant-loop-word l = record {
-  same : named_from l.highest l.withdrawn (ranks_of l.ranks) (map (λ w. w.now) (drop l.word-index l.words)) ≡ named_from l.highest l.withdrawn (record { named = []; next = Preference }) (map (λ w. w.now) l.words);
+  same : named_from l.highest l.withdrawn (ranks_of l.ranks) (map (λ w. w.now) (drop l.word-index l.words)) ≡ named_from l.highest l.withdrawn
+      (record { named = []; next = Preference }) (map (λ w. w.now) l.words);
   ranking : IsRanking l.ranks.named.items;
 }

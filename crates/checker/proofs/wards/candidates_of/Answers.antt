@@ -11,5 +11,6 @@ use Rattle.checker.proofs.wards.candidates_of.Goals as goal
 pub returns-clause-set : goal.returns-clause-set
 returns-clause-set c =
     let few : length (map string_bytes c.args.names.now) ≤ max_candidates = omega (arith, length-map c.args.names.now string_bytes, c.requires) in
-    let is : map (λ candidate. (candidate.0, string_bytes candidate.1)) c.loop-i.candidates.items ≡ candidates_of c.args.withdrawn.now (map string_bytes c.args.names.now) = grind (arith, common_steps) in
+    let is : map (λ candidate. (candidate.0, string_bytes candidate.1)) c.loop-i.candidates.items ≡ candidates_of c.args.withdrawn.now
+    (map string_bytes c.args.names.now) = grind (arith, common_steps) in
     candidates_set c.args.withdrawn.now (map string_bytes c.args.names.now) c.loop-i.candidates.items few is

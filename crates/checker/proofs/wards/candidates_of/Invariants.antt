@@ -6,4 +6,5 @@ use Rattle.checker.proofs.wards.candidates_of.Given as goal
 
 abbrev pub invariant-loop-i : goal.invariant-loop-i
 invariant-loop-i l =
-    map (λ candidate. (candidate.0, string_bytes candidate.1)) l.candidates.items ++ candidates_from l.withdrawn (1 + l.i) (map string_bytes (drop l.i l.names)) ≡ candidates_of l.withdrawn (map string_bytes l.names)
+    map (λ candidate. (candidate.0, string_bytes candidate.1)) l.candidates.items ++ candidates_from l.withdrawn (1 + l.i) (map string_bytes (drop l.i l.names))
+    ≡ candidates_of l.withdrawn (map string_bytes l.names)

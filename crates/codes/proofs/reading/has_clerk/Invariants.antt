@@ -5,4 +5,5 @@ use Rattle.codes.specs.Files.{CodeEntry, code_entry}
 use Rattle.codes.proofs.reading.has_clerk.Given as goal
 
 abbrev pub invariant-loop-other : goal.invariant-loop-other
-invariant-loop-other l = list_any (λ (other : CodeEntry). other.clerk == l.clerk) (map code_entry (drop l.other-index l.before)) ≡ list_any (λ (other : CodeEntry). other.clerk == l.clerk) (map code_entry l.before)
+invariant-loop-other l = list_any (λ (other : CodeEntry). other.clerk == l.clerk) (map code_entry (drop l.other-index l.before)) ≡ list_any
+    (λ (other : CodeEntry). other.clerk == l.clerk) (map code_entry l.before)

@@ -11,4 +11,5 @@ loop-network-preserved g c =
     let before = g.D.Network.known c.loop-network.network in
     let later = g.D.Network.known c.close_at.new.network in
     let did = c.close_at.ensures in
-    let_go_then IsClosed (g.D.Network.known c.args.network.now) before later c.args.table.now table new c.loop-network.invariant (let_go_one IsClosed before later table new (goes_first _ before later table new refl did.closed did.came did.counted))
+    let_go_then IsClosed (g.D.Network.known c.args.network.now) before later c.args.table.now table new c.loop-network.invariant
+    (let_go_one IsClosed before later table new (goes_first _ before later table new refl did.closed did.came did.counted))

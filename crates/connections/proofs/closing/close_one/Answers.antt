@@ -9,5 +9,6 @@ returns-clause-go g c =
     let one = c.index.result.now in
     let patient : rule.least ≤ rule.now - one.since = omega arith in
     let longest_waiting = c.in-Some.ensures.some in
-    goes_longest rule (g.D.Network.known c.args.network.now) (g.D.Network.known c.close_at.new.network) c.args.table.now c.close_at.new.table c.as_slice.result.now c.in-Some.place one c.as_slice.ensures.value longest_waiting.0 longest_waiting.1
+    goes_longest rule (g.D.Network.known c.args.network.now) (g.D.Network.known c.close_at.new.network) c.args.table.now c.close_at.new.table
+    c.as_slice.result.now c.in-Some.place one c.as_slice.ensures.value longest_waiting.0 longest_waiting.1
     c.index.ensures patient c.close_at.ensures.closed c.close_at.ensures.came c.close_at.ensures.counted

@@ -11,6 +11,7 @@ loop-turn-preserved g c =
     let later = g.D.Network.known c.close_one_for_bytes.new.network in
     let did = c.close_one_for_bytes.ensures in
     record {
-      go = let_go_then IsClosedForBytes (g.D.Network.known c.args.network.now) before later c.args.table.now table new c.loop-turn.invariant.go (let_go_maybe IsClosedForBytes c.close_one_for_bytes.result before later table new did.go);
+      go = let_go_then IsClosedForBytes (g.D.Network.known c.args.network.now) before later c.args.table.now table new c.loop-turn.invariant.go
+          (let_go_maybe IsClosedForBytes c.close_one_for_bytes.result before later table new did.go);
       thinner = thinner_maybe c.args.table.now.clients.items c.loop-turn.turn c.close_one_for_bytes.result before later table new did.go did.nobody c.loop-turn.invariant.thinner;
     }

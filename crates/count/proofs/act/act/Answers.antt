@@ -19,13 +19,15 @@ is_moved c =
     (subst (λ (l : List Holding). IsMovedBy contest (reverse c.deref-2.result.now) c.args.action.now l c.in_ok-moved.moved.items) c.deref.ensures.value c.in_ok-moved.ensures.moved)
 
 pub record_stage-requires-clause-column : goal.record_stage-requires-clause-column
-record_stage-requires-clause-column c = surplus-column (contest_of c.args.terms.now c.args.papers.now) (reverse c.args.stages.now.items) c.args.holdings.now.items c.args.action.now c.requires.book c.requires.due
+record_stage-requires-clause-column c = surplus-column (contest_of c.args.terms.now c.args.papers.now)
+    (reverse c.args.stages.now.items) c.args.holdings.now.items c.args.action.now c.requires.book c.requires.due
 
 pub record_stage-requires-clause-small : goal.record_stage-requires-clause-small
 record_stage-requires-clause-small c =
     let contest : Contest = contest_of c.args.terms.now c.args.papers.now in
     let small : AreSmall (reverse c.args.stages.now.items) c.in_ok-moved.moved.items =
-    moved-small contest (reverse c.args.stages.now.items) c.args.action.now c.args.holdings.now.items c.in_ok-moved.moved.items c.requires.book c.requires.due (is_moved (goal.at.record_stage-requires-clause-small c).In_ok-moved) in
+    moved-small contest (reverse c.args.stages.now.items) c.args.action.now c.args.holdings.now.items c.in_ok-moved.moved.items c.requires.book c.requires.due
+    (is_moved (goal.at.record_stage-requires-clause-small c).In_ok-moved) in
     subst (λ (l : List Stage). AreSmall (reverse l) c.deref-3.result.now) (sym c.in_ok-try_reserve-2.ensures.items)
     (subst (λ (l : List Holding). AreSmall (reverse c.args.stages.now.items) l) (sym c.deref-3.ensures.value) small)
 
@@ -33,7 +35,8 @@ record_stage-requires-clause-small c =
 recorded : (c : After-record_stage) → Records c.args.terms.now (reverse c.args.stages.now.items) c.args.action.now c.in_ok-moved.moved.items (reverse c.record_stage.new.stages.items)
 recorded c =
     subst (λ (l : List Holding). Records c.args.terms.now (reverse c.args.stages.now.items) c.args.action.now l (reverse c.record_stage.new.stages.items)) c.deref-3.ensures.value
-    (subst (λ (l : List Stage). Records c.args.terms.now (reverse l) c.args.action.now c.deref-3.result.now (reverse c.record_stage.new.stages.items)) c.in_ok-try_reserve-2.ensures.items c.record_stage.ensures)
+    (subst (λ (l : List Stage). Records c.args.terms.now (reverse l) c.args.action.now c.deref-3.result.now (reverse c.record_stage.new.stages.items))
+    c.in_ok-try_reserve-2.ensures.items c.record_stage.ensures)
 
 pub returns-clause-stage : goal.returns-clause-stage
 returns-clause-stage c =
@@ -48,5 +51,6 @@ returns-clause-held c =
     let adds : Adds contest before c.args.action.now (reverse c.record_stage.new.stages.items) =
     records-adds c.args.terms.now c.args.papers.now before (reverse c.record_stage.new.stages.items) c.args.action.now c.args.holdings.now.items c.in_ok-moved.moved.items
     c.requires.book c.requires.due moved (recorded (goal.at.returns-clause-held c).After-record_stage) in
-    held-next contest before (reverse c.record_stage.new.stages.items) c.args.action.now c.args.holdings.now.items c.in_ok-moved.moved.items c.replace.new.holdings.items moved c.in_ok-moved.ensures.rankings adds
+    held-next contest before (reverse c.record_stage.new.stages.items) c.args.action.now c.args.holdings.now.items c.in_ok-moved.moved.items
+    c.replace.new.holdings.items moved c.in_ok-moved.ensures.rankings adds
     (λ f. c.replace.ensures f ∙ ap (λ (l : List Holding). total f c.in_ok-moved.moved.items + total (kept_by f c.args.action.now) l) c.in_ok-try_reserve.ensures.items)

@@ -16,7 +16,8 @@ added : (c : After-add_stage) → let contest : Contest = contest_on c.args.term
 added c due =
     let figured = c.figured-stage.ensures due (c.deref.ensures.value ∙ c.in_ok-moved.ensures.is due) in
     let more : IsAdded c.args.terms.now (reverse c.args.stages.now) c.figured-stage.result (reverse c.add_stage.new.stages.items) =
-    subst (λ (l : List Stage). IsAdded c.args.terms.now (reverse l) c.figured-stage.result (reverse c.add_stage.new.stages.items)) (c.in_ok-try_reserve.ensures.items ∙ c.in_ok-longer.ensures.items) c.add_stage.ensures in
+    subst (λ (l : List Stage). IsAdded c.args.terms.now (reverse l) c.figured-stage.result (reverse c.add_stage.new.stages.items))
+    (c.in_ok-try_reserve.ensures.items ∙ c.in_ok-longer.ensures.items) c.add_stage.ensures in
     figured-adds c.args.terms.now c.args.bundles.now (reverse c.args.stages.now) (reverse c.add_stage.new.stages.items) c.args.action.now c.figured-stage.result figured more
 
 pub returns-clause-places : goal.returns-clause-places

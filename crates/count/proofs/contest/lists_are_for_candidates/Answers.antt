@@ -21,11 +21,15 @@ pub loop-list-preserved : goal.loop-list-preserved
 loop-list-preserved c =
     let candidates : List ℕ = c.args.candidates.now in
     let P : Bundle → Type 0 = λ b. AllByRecursion (λ d. In d candidates) b.0 in
-    let here : AllByRecursion (λ d. In d candidates) c.in-Some.list.now = all-alike (is_continuing c.new-standing.result) (λ d. list_any (nat_eq d) candidates) c.in-Some.list.now c.new-standing.ensures.continuing
+    let here : AllByRecursion (λ d. In d candidates) c.in-Some.list.now = all-alike (is_continuing c.new-standing.result)
+    (λ d. list_any (nat_eq d) candidates) c.in-Some.list.now c.new-standing.ensures.continuing
     (subst (λ (l : List ℕ). AllByRecursion (λ d. is_continuing c.new-standing.result d ≡ true) l) c.as_slice.ensures.is (c.is_for.ensures.0 c.if-not-is_for.false)) in
     record {
       each = c.loop-list.invariant.each;
-      rest = (λ all. (subst (AllByRecursion P) c.in-Some.ensures.steps (c.loop-list.invariant.rest.0 all)).1, λ behind. c.loop-list.invariant.rest.1 (subst (AllByRecursion P) (sym c.in-Some.ensures.steps) (here, behind)));
+      rest = (
+        λ all. (subst (AllByRecursion P) c.in-Some.ensures.steps (c.loop-list.invariant.rest.0 all)).1,
+        λ behind. c.loop-list.invariant.rest.1 (subst (AllByRecursion P) (sym c.in-Some.ensures.steps) (here, behind)),
+      );
     }
 
 pub returns : goal.returns

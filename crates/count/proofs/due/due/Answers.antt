@@ -10,7 +10,8 @@ use Rattle.count.proofs.due.due.Goals as goal
 
 pub returns-then-vacancies-eq0 : goal.returns-then-vacancies-eq0
 returns-then-vacancies-eq0 c = λ papers.
-    due-ended (contest_of c.args.terms.now papers) (reverse c.args.stages.now) (reverse c.in-Some.field-0-1.now) c.in-Some.newest.now (reverse-newest c.args.stages.now c.in-Some.field-0-1.now c.in-Some.newest.now c.in-Some.ensures.cases.0)
+    due-ended (contest_of c.args.terms.now papers) (reverse c.args.stages.now) (reverse c.in-Some.field-0-1.now) c.in-Some.newest.now
+    (reverse-newest c.args.stages.now c.in-Some.field-0-1.now c.in-Some.newest.now c.in-Some.ensures.cases.0)
     (sym c.vacancies.ensures ∙ c.if-vacancies-eq0.true)
 
 pub returns-else-vacancies-eq0 : goal.returns-else-vacancies-eq0

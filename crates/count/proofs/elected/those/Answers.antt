@@ -13,6 +13,7 @@ loop-c-preserved g c = λ test agrees.
     let known = set.within i c.loop-c-test.true in
     let told = agrees (slice_index xs i) c.passes.result known.0 known.1 c.passes.ensures in
     elim c.if-passes.branch [
-      | then-passes w ↦ w.chosen-is ∙ chosen-yes test xs c.loop-c.chosen w.with-chosen.result i set c.loop-c-test.true (sym told ∙ w.if-passes.true) (c.loop-c.invariant test agrees) w.with-chosen.ensures.last
+      | then-passes w ↦ w.chosen-is ∙ chosen-yes test xs c.loop-c.chosen w.with-chosen.result i set c.loop-c-test.true (sym told ∙ w.if-passes.true)
+          (c.loop-c.invariant test agrees) w.with-chosen.ensures.last
       | else-passes w ↦ w.chosen-is ∙ chosen-no test xs c.loop-c.chosen i c.loop-c-test.true (sym told ∙ w.if-passes.false) (c.loop-c.invariant test agrees)
     ]

@@ -13,7 +13,9 @@ loop-i-preserved c = λ f is.
     elim c.if-is_elected_mark.branch [
       | then-is_elected_mark w ↦
           w.chosen-is
-          ∙ elected-yes f c.as_slice-c-items.result.now c.loop-i.chosen w.with-chosen.result c.loop-i.i _ set c.loop-i-test.true mark (sym c.is_elected_mark.ensures ∙ w.if-is_elected_mark.true) (c.loop-i.invariant f is) w.with-chosen.ensures.last
+          ∙ elected-yes f c.as_slice-c-items.result.now c.loop-i.chosen w.with-chosen.result c.loop-i.i _ set c.loop-i-test.true mark
+          (sym c.is_elected_mark.ensures ∙ w.if-is_elected_mark.true) (c.loop-i.invariant f is) w.with-chosen.ensures.last
       | else-is_elected_mark w ↦
-          w.chosen-is ∙ elected-no f c.as_slice-c-items.result.now c.loop-i.chosen c.loop-i.i _ c.loop-i-test.true mark (sym c.is_elected_mark.ensures ∙ w.if-is_elected_mark.false) (c.loop-i.invariant f is)
+          w.chosen-is ∙ elected-no f c.as_slice-c-items.result.now c.loop-i.chosen c.loop-i.i _ c.loop-i-test.true mark (sym c.is_elected_mark.ensures ∙ w.if-is_elected_mark.false)
+          (c.loop-i.invariant f is)
     ]

@@ -22,7 +22,8 @@ returns-clause-stage c = λ contest s before fair right known are elected.
       none_is = c.from_units.ensures ∙ ap (λ (g : Figure). g.units) (first-shown _ _ _ c.args.figures.now are);
       lost_is = c.from_units-2.ensures ∙ ap (λ (g : Figure). g.units) (last-shown f c.args.candidates.now _ _ _ c.args.figures.now c.len-last.result are c.len-last.ensures.is);
     } in
-    let own : IsReadOf contest.candidates c.args.elected.now s before c.elected_in-now.result made = subst (λ (cs : List ℕ). IsReadOf cs c.args.elected.now s before c.elected_in-now.result made) (sym known) read in
+    let own : IsReadOf contest.candidates c.args.elected.now s before c.elected_in-now.result made = subst
+    (λ (cs : List ℕ). IsReadOf cs c.args.elected.now s before c.elected_in-now.result made) (sym known) read in
     let is : made ≡ s = stage-read contest (λ b t. lot_for right.lots (length b + 1)) s before c.args.elected.now c.elected_in-now.result made fair right.right elected own in
     let pushed : c.push.new.self.items ≡ c.args.stages.now.items ++ made ∷ [] = search rules in
     pushed ∙ ap (λ (t : Stage). c.args.stages.now.items ++ t ∷ []) is

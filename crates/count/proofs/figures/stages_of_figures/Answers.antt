@@ -18,7 +18,8 @@ loop-rest-preserved c = λ contest history fair right known are.
     let old : History = reverse c.loop-rest.stages.items in
     let read = c.loop-rest.invariant contest history fair right known are in
     let more =
-    read-more contest (λ b t. lot_for right.lots (length b + 1)) history c.loop-rest.stages.items c.loop-rest.rest.now c.loop-rest.elected c.push_stage.new.elected c.push_stage.new.stages.items n right.right
+    read-more contest (λ b t. lot_for right.lots (length b + 1)) history c.loop-rest.stages.items c.loop-rest.rest.now c.loop-rest.elected
+    c.push_stage.new.elected c.push_stage.new.stages.items n right.right
     (omega (arith, c.len-size.ensures.is, ap length known)) c.loop-rest-test.true read (λ s right_to shown.
     let so_far : IsRightForSome contest (s ∷ old) = record { lots = right.lots; right = right_to } in
     let at : c.split_at.result.0.now ≡ figures_at c.args.candidates.now (s ∷ old) = c.split_at.ensures.front ∙ shown ∙ ap (λ (cs : List ℕ). figures_at cs (s ∷ old)) known in
@@ -27,10 +28,12 @@ loop-rest-preserved c = λ contest history fair right known are.
 
 pub returns-then-is_empty-clause-is : goal.returns-then-is_empty-clause-is
 returns-then-is_empty-clause-is c = λ contest history fair right known are.
-    all-read contest history c.loop-rest.stages.items c.loop-rest.elected c.loop-rest.rest.now (c.loop-rest.invariant contest history fair right known are) (omega (arith, c.loop-rest-test.false, c.len-size.ensures.is, ap length known))
+    all-read contest history c.loop-rest.stages.items c.loop-rest.elected c.loop-rest.rest.now (c.loop-rest.invariant contest history fair right known are)
+    (omega (arith, c.loop-rest-test.false, c.len-size.ensures.is, ap length known))
 
 pub returns-else-is_empty-clause-some : goal.returns-else-is_empty-clause-some
 returns-else-is_empty-clause-some c = λ contest history fair right known are.
     let none : c.loop-rest.rest.now ≡ [] =
-    none-left contest history c.loop-rest.stages.items c.loop-rest.elected c.loop-rest.rest.now (c.loop-rest.invariant contest history fair right known are) (omega (arith, c.loop-rest-test.false, c.len-size.ensures.is, ap length known)) in
+    none-left contest history c.loop-rest.stages.items c.loop-rest.elected c.loop-rest.rest.now (c.loop-rest.invariant contest history fair right known are)
+    (omega (arith, c.loop-rest-test.false, c.len-size.ensures.is, ap length known)) in
     absurd (eqb-false (length c.loop-rest.rest.now) 0 (sym c.is_empty.ensures ∙ c.if-is_empty.false) (ap length none))

@@ -16,7 +16,8 @@ pub stages-smaller : goal.stages-smaller
 stages-smaller g c =
     let same = c.stages.invariant.same in
     let fair : IsContest (g.B.CountBook.contest c.args.book.now) = subst IsContest same c.step.ensures.fair in
-    let stepped : AdvancesBy (g.B.CountBook.contest c.args.book.now) c.args.lots.now (g.B.CountBook.history c.stages.book) (g.B.CountBook.history c.step.new.book) = rw same at (rw c.in-None.is at c.in_ok-end.ensures.stepped) in
+    let stepped : AdvancesBy (g.B.CountBook.contest c.args.book.now) c.args.lots.now (g.B.CountBook.history c.stages.book) (g.B.CountBook.history c.step.new.book)
+    = rw same at (rw c.in-None.is at c.in_ok-end.ensures.stepped) in
     steps-smaller (g.B.CountBook.contest c.args.book.now) _ _ c.args.lots.now _ _ same (c.step.ensures.same ∙ same) fair c.stages.invariant.right stepped
 
 pub returns-in-Some-clause-whole : goal.returns-in-Some-clause-whole

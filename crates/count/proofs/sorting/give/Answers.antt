@@ -14,5 +14,6 @@ returns-clause-given c = λ f.
     let at : c.from.result ≡ first_of c.args.rest.now = c.from.ensures ∙ c.first_preference.ensures in
     let numbered = numbered-at 0 c.args.holdings.now.items c.from.result c.index_mut-holding.result.now c.requires.numbered within c.index_mut-holding.ensures.value in
     let holder : c.index_mut-holding.result.now.holder ≡ first_of c.args.rest.now = omega (arith, numbered, at) in
-    total-set f c.args.holdings.now.items c.from.result _ c.index_mut-holding.result.now _ within c.index_mut-holding.ensures.value refl (c.in_ok-add_paper.ensures (f c.index_mut-holding.result.now.holder))
+    total-set f c.args.holdings.now.items c.from.result _ c.index_mut-holding.result.now _ within c.index_mut-holding.ensures.value refl
+    (c.in_ok-add_paper.ensures (f c.index_mut-holding.result.now.holder))
     ∙ ap (λ (h : ℕ). total f c.args.holdings.now.items + f h c.args.rest.now c.args.value) holder

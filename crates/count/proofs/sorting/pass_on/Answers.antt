@@ -21,7 +21,8 @@ loop-holding-preserved c =
                   w.in_ok-pass_parcels.ensures.passed f,
                   papers,
                   c.loop-holding.invariant.passed f,
-                  passed-more f c.args.c (is_continuing c.args.standing.now) c.args.rule.now c.args.holdings.now c.loop-holding.holding-index c.holding-item.result within c.holding-item.is w.if-holding-c.true,
+                  passed-more f c.args.c (is_continuing c.args.standing.now) c.args.rule.now c.args.holdings.now c.loop-holding.holding-index
+                      c.holding-item.result within c.holding-item.is w.if-holding-c.true,
                 );
           })
       | else-holding-c w ↦
@@ -31,7 +32,8 @@ loop-holding-preserved c =
             passed = λ f. omega (
               arith,
               c.loop-holding.invariant.passed f,
-              passed-other f c.args.c (is_continuing c.args.standing.now) c.args.rule.now c.args.holdings.now c.loop-holding.holding-index c.holding-item.result within c.holding-item.is w.if-holding-c.false,
+              passed-other f c.args.c (is_continuing c.args.standing.now) c.args.rule.now c.args.holdings.now c.loop-holding.holding-index c.holding-item.result
+                  within c.holding-item.is w.if-holding-c.false,
             );
           })
     ]

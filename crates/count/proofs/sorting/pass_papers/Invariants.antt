@@ -11,5 +11,6 @@ invariant-loop-paper l = record {
   len : vec_len l.holdings ≡ holder_count;
   numbered : AreNumbered 0 l.holdings.items;
   passed : (f : ℕ → List ℕ → ℕ → ℕ) → total f l.holdings.items
-      ≡ total f l.fn.holdings.items + sum_by (λ rest. f (first_of (passed_to (is_continuing l.standing) rest.now)) (passed_to (is_continuing l.standing) rest.now) l.value) (take l.paper-index l.papers);
+      ≡ total f l.fn.holdings.items + sum_by (λ rest. f (first_of (passed_to (is_continuing l.standing) rest.now)) (passed_to (is_continuing l.standing) rest.now) l.value)
+      (take l.paper-index l.papers);
 }

@@ -17,7 +17,19 @@ loop-holding-preserved c =
     elim c.if-holding-holder.branch [
       | then-holding-holder w ↦
           let own : w.worth_of_parcels-sum.result ≡ total_of (λ rest v. v) c.holding-item.result.parcels.items = w.worth_of_parcels-sum.ensures ∙ ap (total_of (λ rest v. v)) w.deref.ensures.value in
-          omega (arith, w.sum-is, own, c.loop-holding.invariant, worth_to-more c.args.holder c.args.holdings.now c.loop-holding.holding-index c.holding-item.result within c.holding-item.is w.if-holding-holder.true)
+          omega (
+            arith,
+            w.sum-is,
+            own,
+            c.loop-holding.invariant,
+            worth_to-more c.args.holder c.args.holdings.now c.loop-holding.holding-index c.holding-item.result within c.holding-item.is w.if-holding-holder.true,
+          )
       | else-holding-holder w ↦
-          omega (arith, w.sum-is, c.loop-holding.invariant, worth_to-other c.args.holder c.args.holdings.now c.loop-holding.holding-index c.holding-item.result within c.holding-item.is w.if-holding-holder.false)
+          omega (
+            arith,
+            w.sum-is,
+            c.loop-holding.invariant,
+            worth_to-other c.args.holder c.args.holdings.now c.loop-holding.holding-index c.holding-item.result
+                within c.holding-item.is w.if-holding-holder.false,
+          )
     ]

@@ -16,7 +16,8 @@ finish-requires g c = λ zero.
 
 pub returns-in-Some-clause-told : goal.returns-in-Some-clause-told
 returns-in-Some-clause-told g c =
-    failure_told g.O.Sink.taken g.O.Sink.failed g.E.Sink.taken g.E.Sink.failed (state g.S.Store) c.args.office.now c.args.office.now c.args.out.now c.args.err.now c.tell_failure.new.err c.in-Some.failure c.tell_failure.result
+    failure_told g.O.Sink.taken g.O.Sink.failed g.E.Sink.taken g.E.Sink.failed (state g.S.Store) c.args.office.now c.args.office.now c.args.out.now
+    c.args.err.now c.tell_failure.new.err c.in-Some.failure c.tell_failure.result
     c.tell_failure.ensures
 
 pub returns-in-Some-clause-stays : goal.returns-in-Some-clause-stays

@@ -11,8 +11,10 @@ use Rattle.count_office.proofs.serving.serve_through.Goals as goal
 pub returns : goal.returns
 returns g c =
     let settings = c.args.settings in
-    let at = λ (gate : Option GateEntry) (most : Option ℕ). ServesAtNetwork (settings_with (given_by settings.serving.origin) gate settings.file (g.A.SideJobs.whole c.args.side_jobs.now))
-    (stream_of g.D.Stream.Stream.held g.D.Stream.Stream.taken g.D.Stream.Stream.failed) (state g.S.Store) (g.D.Network.known c.args.network.now) (g.D.Network.known c.serve_connections.new.network) most
+    let at = λ (gate : Option GateEntry) (most : Option ℕ). ServesAtNetwork
+    (settings_with (given_by settings.serving.origin) gate settings.file (g.A.SideJobs.whole c.args.side_jobs.now))
+    (stream_of g.D.Stream.Stream.held g.D.Stream.Stream.taken g.D.Stream.Stream.failed) (state g.S.Store) (g.D.Network.known c.args.network.now)
+    (g.D.Network.known c.serve_connections.new.network) most
     c.args.office.now c.serve_connections.new.office c.serve_connections.result in
     let served = c.serve_connections.ensures in
     subst (λ (gate : Option GateEntry). at gate settings.serving.connections) c.gate_of.ensures

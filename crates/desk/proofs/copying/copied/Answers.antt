@@ -23,7 +23,8 @@ returns-in-Ok-copied_text-clause-copied g c clean = record {
   elsewhere = λ db ours rests none blank. let it = c.in-Ok.ensures.copied clean db ours rests in absurd (none it.0 it.1);
   taken = λ outside there. absurd (told_one c.copy.result c.in-Ok.is (c.copy.ensures.taken there outside).0);
   reads = c.copy.ensures.reads;
-  leaves = λ db rests earlier left. read_leaves (after empty_office earlier) db (state g.S.Store c.args.conn.now) (state g.S.Store c.copy.new.conn) (λ trees is_open may. g.met.S.Store.settled c.args.conn.now.store trees is_open may) c.copy.ensures.reads clean rests left;
+  leaves = λ db rests earlier left. read_leaves (after empty_office earlier) db (state g.S.Store c.args.conn.now) (state g.S.Store c.copy.new.conn)
+      (λ trees is_open may. g.met.S.Store.settled c.args.conn.now.store trees is_open may) c.copy.ensures.reads clean rests left;
 }
 
 pub returns-in-Ok-copied_text-clause-holds : goal.returns-in-Ok-copied_text-clause-holds
@@ -50,7 +51,8 @@ returns-in-Err-copied_text-clause-copied g c clean = record {
   elsewhere = λ db ours rests none blank. let it = c.in-Ok.ensures.copied clean db ours rests in absurd (none it.0 it.1);
   taken = λ outside there. absurd (told_one c.copy.result c.in-Ok.is (c.copy.ensures.taken there outside).0);
   reads = c.copy.ensures.reads;
-  leaves = λ db rests earlier left. read_leaves (after empty_office earlier) db (state g.S.Store c.args.conn.now) (state g.S.Store c.copy.new.conn) (λ trees is_open may. g.met.S.Store.settled c.args.conn.now.store trees is_open may) c.copy.ensures.reads clean rests left;
+  leaves = λ db rests earlier left. read_leaves (after empty_office earlier) db (state g.S.Store c.args.conn.now) (state g.S.Store c.copy.new.conn)
+      (λ trees is_open may. g.met.S.Store.settled c.args.conn.now.store trees is_open may) c.copy.ensures.reads clean rests left;
 }
 
 pub returns-in-Err-clause-copied : goal.returns-in-Err-clause-copied
@@ -59,12 +61,19 @@ returns-in-Err-clause-copied g c clean =
     let new = state g.S.Store c.copy.new.conn in
     record {
       in_office = λ db rests s left blank.
-          inr (failure_of c.in-Err.fault, refl, ends_copying c.in-Err.fault old new (c.in-Err.ensures.cause clean db rests s left blank), λ honest. c.copy.ensures.stops clean honest db rests s left blank);
+          inr (
+            failure_of c.in-Err.fault,
+            refl,
+            ends_copying c.in-Err.fault old new (c.in-Err.ensures.cause clean db rests s left blank),
+            λ honest. c.copy.ensures.stops clean honest db rests s left blank,
+          );
       elsewhere = λ db ours rests none blank.
-          subst (λ known. IsNoneCopied db (failed (failure_of c.in-Err.fault)) known old new) (sym c.state_behind.ensures) (none_copied db c.in-Err.fault old new none (c.in-Err.ensures.told clean db ours rests blank));
+          subst (λ known. IsNoneCopied db (failed (failure_of c.in-Err.fault)) known old new) (sym c.state_behind.ensures)
+          (none_copied db c.in-Err.fault old new none (c.in-Err.ensures.told clean db ours rests blank));
       taken = λ outside there.
           let same = told_fault c.in-Err.fault Taken c.copy.result c.in-Err.is (c.copy.ensures.taken there outside).0 in
           (ap (λ why. failed (failure_of why)) same, c.state_behind.ensures ∙ ap state_behind same);
       reads = c.copy.ensures.reads;
-      leaves = λ db rests earlier left. read_leaves (after empty_office earlier) db old new (λ trees is_open may. g.met.S.Store.settled c.args.conn.now.store trees is_open may) c.copy.ensures.reads clean rests left;
+      leaves = λ db rests earlier left. read_leaves (after empty_office earlier) db old new
+          (λ trees is_open may. g.met.S.Store.settled c.args.conn.now.store trees is_open may) c.copy.ensures.reads clean rests left;
     }

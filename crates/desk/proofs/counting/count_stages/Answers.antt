@@ -72,14 +72,17 @@ returns-then-status-ne0-clause-counted g c =
           let so = so_far.is honest is_open s at keep ward id are in
           let tells = since first mid next honest c.loop-request.invariant.wears c.stage_of-outcome.ensures.wears in
           let known_is = rw (c.as_str.ensures.value, c.first_id-first.ensures ward id are) at c.eq-is_first.ensures in
-          let it = stage_since first mid closed next c.eq-is_first.result so.end c.request-item.result page c.stage_of-outcome.result.1 tells (c.stage_of-outcome.ensures.told clean so.open_at.is_open so.end so.open_at.at) in
-          let counted = stage_last first keep line s ward id rs i c.request-item.result so_far.said c.loop-request.office.closed mid page told.0 c.stage_of-outcome.result.1 closed next within c.request-item.is so c.eq-is_first.result known_is it
+          let it = stage_since first mid closed next c.eq-is_first.result so.end c.request-item.result page c.stage_of-outcome.result.1 tells
+          (c.stage_of-outcome.ensures.told clean so.open_at.is_open so.end so.open_at.at) in
+          let counted = stage_last first keep line s ward id rs i c.request-item.result so_far.said c.loop-request.office.closed mid page told.0
+          c.stage_of-outcome.result.1 closed next within c.request-item.is so c.eq-is_first.result known_is it
           (λ yes zero. shown_else told.0 _ _ (fronted line page) c.tell-status.result told.1 other (fronted_status line page ∙ zero)) in
           (_, _, counted.2);
     }
 
 pub returns-then-status-ne0-clause-wears : goal.returns-then-status-ne0-clause-wears
-returns-then-status-ne0-clause-wears g c = wears_then (state g.S.Store c.args.office.now.held) (state g.S.Store c.loop-request.office.held) (state g.S.Store c.stage_of-outcome.new.office.held) c.stage_of-outcome.ensures.clean c.loop-request.invariant.wears
+returns-then-status-ne0-clause-wears g c = wears_then (state g.S.Store c.args.office.now.held) (state g.S.Store c.loop-request.office.held)
+    (state g.S.Store c.stage_of-outcome.new.office.held) c.stage_of-outcome.ensures.clean c.loop-request.invariant.wears
     c.stage_of-outcome.ensures.wears
 
 -- the count rests, which was told whole
@@ -108,14 +111,17 @@ returns-then-not-more-clause-counted g c =
           let so = so_far.is honest is_open s at keep ward id are in
           let tells = since first mid next honest c.loop-request.invariant.wears c.stage_of-outcome.ensures.wears in
           let known_is = rw (c.as_str.ensures.value, c.first_id-first.ensures ward id are) at c.eq-is_first.ensures in
-          let it = stage_since first mid closed next c.eq-is_first.result so.end c.request-item.result page c.stage_of-outcome.result.1 tells (c.stage_of-outcome.ensures.told clean so.open_at.is_open so.end so.open_at.at) in
-          let counted = stage_last first keep line s ward id rs i c.request-item.result so_far.said c.loop-request.office.closed mid page told.0 c.stage_of-outcome.result.1 closed next within c.request-item.is so c.eq-is_first.result known_is it
+          let it = stage_since first mid closed next c.eq-is_first.result so.end c.request-item.result page c.stage_of-outcome.result.1 tells
+          (c.stage_of-outcome.ensures.told clean so.open_at.is_open so.end so.open_at.at) in
+          let counted = stage_last first keep line s ward id rs i c.request-item.result so_far.said c.loop-request.office.closed mid page told.0
+          c.stage_of-outcome.result.1 closed next within c.request-item.is so c.eq-is_first.result known_is it
           (λ yes none. absurd (true≢false (sym yes ∙ c.if-not-more.true))) in
           (_, _, counted.2);
     }
 
 pub returns-then-not-more-clause-wears : goal.returns-then-not-more-clause-wears
-returns-then-not-more-clause-wears g c = wears_then (state g.S.Store c.args.office.now.held) (state g.S.Store c.loop-request.office.held) (state g.S.Store c.stage_of-outcome.new.office.held) c.stage_of-outcome.ensures.clean c.loop-request.invariant.wears
+returns-then-not-more-clause-wears g c = wears_then (state g.S.Store c.args.office.now.held) (state g.S.Store c.loop-request.office.held)
+    (state g.S.Store c.stage_of-outcome.new.office.held) c.stage_of-outcome.ensures.clean c.loop-request.invariant.wears
     c.stage_of-outcome.ensures.wears
 
 pub returns-clause-counted : goal.returns-clause-counted
@@ -126,6 +132,10 @@ returns-clause-counted g c =
       cut = uncut;
       shown = told_all _ _ so_far.said 0 so_far.shown;
       is = λ clean is_open s at keep ward id are.
-          let so = so_far.is clean is_open s at keep ward id are in
-          (_, _, stages_all (state g.S.Store c.args.office.now.held) keep c.args.line s ward id c.args.requests.now c.loop-request.request-index so_far.said c.loop-request.office.closed (state g.S.Store c.loop-request.office.held) c.loop-request-test.false so);
+          let so = so_far.is clean is_open s at keep ward id are in (
+            _,
+            _,
+            stages_all (state g.S.Store c.args.office.now.held) keep c.args.line s ward id c.args.requests.now c.loop-request.request-index so_far.said c.loop-request.office.closed
+                (state g.S.Store c.loop-request.office.held) c.loop-request-test.false so,
+          );
     }

@@ -16,7 +16,9 @@ abbrev pub invariant-loop-request : goal.invariant-loop-request
 invariant-loop-request g l = record {
   wears : Wears (state g.S.Store l.initial.office.held) (state g.S.Store l.office.held);
   clean : HasCleanDisk (state g.S.Store l.office.held) → HasCleanDisk (state g.S.Store l.initial.office.held);
-  so_far : ToldSo (outputs_of g.O.Sink.taken g.O.Sink.failed g.E.Sink.taken g.E.Sink.failed l.initial.out l.initial.err) (outputs_of g.O.Sink.taken g.O.Sink.failed g.E.Sink.taken g.E.Sink.failed l.out l.err) 0
+  so_far : ToldSo (outputs_of g.O.Sink.taken g.O.Sink.failed g.E.Sink.taken g.E.Sink.failed l.initial.out l.initial.err)
+      (outputs_of g.O.Sink.taken g.O.Sink.failed g.E.Sink.taken g.E.Sink.failed l.out l.err) 0
       (λ said. WhenOpenAt (state g.S.Store) l.initial.office l.office
-      (λ s. (keep : Bool) (ward : ℕ) (id : Text) → map sent_as l.requests ≡ advances ward id most_advances → CountedSo keep l.line s ward id l.requests l.request-index said l.office.closed (state g.S.Store l.office.held)));
+      (λ s. (keep : Bool) (ward : ℕ) (id : Text) → map sent_as l.requests ≡ advances ward id most_advances
+      → CountedSo keep l.line s ward id l.requests l.request-index said l.office.closed (state g.S.Store l.office.held)));
 }

@@ -13,5 +13,6 @@ returns-in-Ok c =
     let said = map typed_line_entry c.in_ok-said.said.items in
     let turns = c.in-Ok.turns.items in
     script_found (λ requests. requests.items) text turns
-    (turns_of_text text read said turns (c.in_ok-lines.ensures ∙ ap (λ t. numbered_from 1 (lines_of t)) c.as_bytes.ensures.value) (rw c.deref.ensures.value at c.in_ok-said.ensures) (rw c.deref-2.ensures.value at c.in-Ok.ensures.ok))
+    (turns_of_text text read said turns (c.in_ok-lines.ensures ∙ ap (λ t. numbered_from 1 (lines_of t)) c.as_bytes.ensures.value)
+    (rw c.deref.ensures.value at c.in_ok-said.ensures) (rw c.deref-2.ensures.value at c.in-Ok.ensures.ok))
     c.requests_of.result c.requests_of.ensures

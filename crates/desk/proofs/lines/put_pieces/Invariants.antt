@@ -1,7 +1,7 @@
 -- What holds each time round the loop of `put_pieces`: the pieces so far were put.
 use Rattle.std.proofs.Common.{take, Ok}
 use Rattle.std.specs.List.{flat_map}
-use Rattle.votes.specs.declared.streams.Broken.{Broken}
+use Rattle.streams.specs.declared.streams.Broken.{Broken}
 use Rattle.desk.specs.Pages.{IsPut}
 use Rattle.desk.proofs.lines.put_pieces.Given as goal
 

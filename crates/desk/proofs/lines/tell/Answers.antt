@@ -25,15 +25,18 @@ returns-in-LotNeeded g c = rw c.in-LotNeeded.is (printed_shown c.args.line _ _ _
 
 pub returns-in-Refused : goal.returns-in-Refused
 returns-in-Refused g c =
-    rw c.in-Refused.is (front_shown g.O.Sink.taken g.O.Sink.failed g.E.Sink.taken g.E.Sink.failed c.args.line _ _ _ (refused c.in-Refused.refusal) c.tell_refusal.result _ _ refl refl c.tell_refusal.ensures)
+    rw c.in-Refused.is (front_shown g.O.Sink.taken g.O.Sink.failed g.E.Sink.taken g.E.Sink.failed c.args.line _ _ _
+    (refused c.in-Refused.refusal) c.tell_refusal.result _ _ refl refl c.tell_refusal.ensures)
 
 pub returns-in-Unread : goal.returns-in-Unread
 returns-in-Unread g c =
-    rw c.in-Unread.is (front_shown g.O.Sink.taken g.O.Sink.failed g.E.Sink.taken g.E.Sink.failed c.args.line _ _ _ (unread c.in-Unread.fault) c.tell_file_fault.result _ _ refl refl c.tell_file_fault.ensures)
+    rw c.in-Unread.is (front_shown g.O.Sink.taken g.O.Sink.failed g.E.Sink.taken g.E.Sink.failed c.args.line _ _ _
+    (unread c.in-Unread.fault) c.tell_file_fault.result _ _ refl refl c.tell_file_fault.ensures)
 
 pub returns-in-Failed : goal.returns-in-Failed
 returns-in-Failed g c =
-    rw c.in-Failed.is (front_shown g.O.Sink.taken g.O.Sink.failed g.E.Sink.taken g.E.Sink.failed c.args.line _ _ _ (failed (Office c.in-Failed.fault)) c.tell_failure_at.result _ _ refl refl c.tell_failure_at.ensures)
+    rw c.in-Failed.is (front_shown g.O.Sink.taken g.O.Sink.failed g.E.Sink.taken g.E.Sink.failed c.args.line _ _ _
+    (failed (Office c.in-Failed.fault)) c.tell_failure_at.result _ _ refl refl c.tell_failure_at.ensures)
 
 pub returns-in-Unjournalled : goal.returns-in-Unjournalled
 returns-in-Unjournalled g c =

@@ -6,7 +6,8 @@ use Rattle.desk.proofs.lines.tell_noted.Goals as goal
 
 pub returns-in-Ok : goal.returns-in-Ok
 returns-in-Ok g c =
-    both_fronted g.O.Sink.taken g.O.Sink.failed g.E.Sink.taken g.E.Sink.failed c.args.line _ _ _ _ (noted c.args.id.now c.args.reply.now) c.tell_note.result _ _ refl c.in-Ok.ensures c.tell_note.ensures
+    both_fronted g.O.Sink.taken g.O.Sink.failed g.E.Sink.taken g.E.Sink.failed c.args.line _ _ _ _ (noted c.args.id.now c.args.reply.now) c.tell_note.result
+    _ _ refl c.in-Ok.ensures c.tell_note.ensures
 
 pub returns-in-Err : goal.returns-in-Err
 returns-in-Err g c =

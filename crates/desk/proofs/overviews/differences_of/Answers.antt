@@ -14,5 +14,6 @@ returns-in-Ok-clause-found g c = λ clean is_open s at. inr (Memory, refl, (inl 
 
 pub returns-clause-found : goal.returns-clause-found
 returns-clause-found g c = λ clean is_open s at.
-    stop_found differences_view (λ found. replied (differences_line found)) s (differences_told s c.args.batch) c.in-Err.stop (page_of c.stopped.result) c.differences.new.self.closed (state g.S.Store c.args.office.now.held) (state g.S.Store c.differences.new.self.held)
+    stop_found differences_view (λ found. replied (differences_line found)) s (differences_told s c.args.batch) c.in-Err.stop
+    (page_of c.stopped.result) c.differences.new.self.closed (state g.S.Store c.args.office.now.held) (state g.S.Store c.differences.new.self.held)
     (c.in-Err.ensures.reads clean is_open s at) (c.in-Err.ensures.cause clean is_open s at) c.stopped.ensures

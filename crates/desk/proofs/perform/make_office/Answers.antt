@@ -45,7 +45,8 @@ returns-in-Err g c =
             let wrong = c.in-Err.ensures.wrong (has_tables s db st rests left) rests.outside in
             let here = rests_leaves s db st (λ trees is_open may. g.met.S.Store.settled c.args.conn.store trees is_open may) rests left in
             let leaves = subst (λ conn. LeavesState (state g.S.Store conn) (λ x. x ≡ s)) (sym (wrong_same c.in-Err.fault wrong c.in-Err.ensures.told)) here in
-            performed folder s Init told.0 _ _ page c.tell-in-Err.result st (state g.S.Store c.in-Err.conn) told.1 (untouched _ s told.0 page (state g.S.Store c.in-Err.conn) (ap (λ fault. failed (Office fault)) wrong) leaves);
+            performed folder s Init told.0 _ _ page c.tell-in-Err.result st (state g.S.Store c.in-Err.conn) told.1
+            (untouched _ s told.0 page (state g.S.Store c.in-Err.conn) (ap (λ fault. failed (Office fault)) wrong) leaves);
         elsewhere = record {
           made = λ blank. inr (c.in-Err.fault, refl, (blank_told st c.in-Err.fault blank c.in-Err.ensures.told, c.in-Err.ensures.stops clean blank));
           taken = λ db rests there.

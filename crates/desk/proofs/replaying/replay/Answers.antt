@@ -16,7 +16,8 @@ returns-in-Err-clause-ran g c =
       page = page_of c.in-Err.outcome;
       cut = told.0;
       shown = told.1;
-      is = λ clean is_open s at. replay_unread (g.F.Folder.held c.args.folder.now) s c.args.keep_going c.args.path _ c.open.ensures st c.args.office.now.closed st (page_of c.in-Err.outcome) told.0 c.in-Err.ensures.unread (record { is_open = is_open; at = at });
+      is = λ clean is_open s at. replay_unread (g.F.Folder.held c.args.folder.now) s c.args.keep_going c.args.path _ c.open.ensures st c.args.office.now.closed st
+          (page_of c.in-Err.outcome) told.0 c.in-Err.ensures.unread (record { is_open = is_open; at = at });
     }
 
 pub returns-in-Ok-all_said-clause-ran : goal.returns-in-Ok-all_said-clause-ran
@@ -32,7 +33,8 @@ returns-in-Ok-all_said-clause-ran g c =
           let it = told.is clean is_open s at in (
             it.0,
             it.1,
-            replay_of (g.F.Folder.held c.args.folder.now) s c.args.keep_going c.args.path _ c.open.ensures (state g.S.Store c.args.office.now.held) c.send_lines.new.office.closed (state g.S.Store c.send_lines.new.office.held) lines _ holds
+            replay_of (g.F.Folder.held c.args.folder.now) s c.args.keep_going c.args.path _ c.open.ensures (state g.S.Store c.args.office.now.held) c.send_lines.new.office.closed
+                (state g.S.Store c.send_lines.new.office.held) lines _ holds
                 (rw c.deref-in-Ok-all_said.ensures.value at it.2),
           );
     }
@@ -40,11 +42,13 @@ returns-in-Ok-all_said-clause-ran g c =
 pub returns-clause-ran : goal.returns-clause-ran
 returns-clause-ran g c =
     let page = script_page script.Memory in
-    let told = error_shown g.O.Sink.taken g.O.Sink.failed g.E.Sink.taken g.E.Sink.failed c.args.out.now c.args.err.now c.tell_script_fault.new.err page c.tell_script_fault.result refl c.tell_script_fault.ensures in
+    let told = error_shown g.O.Sink.taken g.O.Sink.failed g.E.Sink.taken g.E.Sink.failed c.args.out.now c.args.err.now c.tell_script_fault.new.err page
+    c.tell_script_fault.result refl c.tell_script_fault.ensures in
     let st = state g.S.Store c.args.office.now.held in
     record {
       page = page;
       cut = told.0;
       shown = told.1;
-      is = λ clean is_open s at. replay_unread (g.F.Folder.held c.args.folder.now) s c.args.keep_going c.args.path _ c.open.ensures st c.args.office.now.closed st page told.0 (inr refl) (record { is_open = is_open; at = at });
+      is = λ clean is_open s at. replay_unread (g.F.Folder.held c.args.folder.now) s c.args.keep_going c.args.path _ c.open.ensures st c.args.office.now.closed st page told.0
+          (inr refl) (record { is_open = is_open; at = at });
     }

@@ -74,7 +74,8 @@ returns-in-Ok-keying_of-clause-ran g c =
           let closed = c.send_all-in-Ok-keying_of.new.office.closed in
           let tells = since first mid next honest (reads_wear first mid c.keying_of.ensures.same) c.send_all-in-Ok-keying_of.ensures.wears in
           let it = told.is clean read.1.is_open s read.1.at in
-          let sent = sent_turned {Then = IsOver closed next} {Else = IsOver closed next} {Q = Unit {0}} first mid closed next c.args.keep_going c.args.line page_for tells (λ x e over gone. over) s (c.in-Ok-keying_of.request ∷ []) _ (λ gone. tt) it.2 in
+          let sent = sent_turned {Then = IsOver closed next} {Else = IsOver closed next} {Q = Unit {0}} first mid closed next c.args.keep_going c.args.line page_for tells
+          (λ x e over gone. over) s (c.in-Ok-keying_of.request ∷ []) _ (λ gone. tt) it.2 in
           (it.0, it.1, (_, c.opened-file.ensures, rw c.in-ImportKeying.is (inl (c.in-Ok-keying_of.request ∷ [], read.0, sent))));
     }
 
@@ -92,7 +93,8 @@ returns-in-ImportKeying-clause-ran g c =
         (
           _,
           c.opened-file.ensures,
-          rw c.in-ImportKeying.is (inr (unsent_told (state g.S.Store c.args.office.now.held) c.keying_of.new.office.closed (state g.S.Store c.keying_of.new.office.held) c.args.keep_going c.args.line _ s page told.0
+          rw c.in-ImportKeying.is (inr (unsent_told (state g.S.Store c.args.office.now.held) c.keying_of.new.office.closed
+              (state g.S.Store c.keying_of.new.office.held) c.args.keep_going c.args.line _ s page told.0
               (c.in-Err-keying_of.ensures.read clean is_open s at))),
         ),
       );
@@ -145,7 +147,8 @@ returns-in-TellNext-clause-ran g c =
         (
           _,
           c.opened-file.ensures,
-          rw c.in-TellNext.is (inr (unsent_told (state g.S.Store c.args.office.now.held) c.next_of.new.office.closed (state g.S.Store c.next_of.new.office.held) c.args.keep_going c.args.line _ s (page_of c.next_of.result) told.0
+          rw c.in-TellNext.is (inr (unsent_told (state g.S.Store c.args.office.now.held) c.next_of.new.office.closed
+              (state g.S.Store c.next_of.new.office.held) c.args.keep_going c.args.line _ s (page_of c.next_of.result) told.0
               (c.next_of.ensures.found clean is_open s at))),
         ),
       );
@@ -164,7 +167,8 @@ returns-in-TellStatus-clause-ran g c =
         (
           _,
           c.opened-file.ensures,
-          rw c.in-TellStatus.is (inr (unsent_told (state g.S.Store c.args.office.now.held) c.standing_of.new.office.closed (state g.S.Store c.standing_of.new.office.held) c.args.keep_going c.args.line _ s (page_of c.standing_of.result) told.0
+          rw c.in-TellStatus.is (inr (unsent_told (state g.S.Store c.args.office.now.held) c.standing_of.new.office.closed
+              (state g.S.Store c.standing_of.new.office.held) c.args.keep_going c.args.line _ s (page_of c.standing_of.result) told.0
               (c.standing_of.ensures.found clean is_open s at))),
         ),
       );
@@ -183,7 +187,8 @@ returns-in-Print-clause-ran g c =
         (
           _,
           c.opened-file.ensures,
-          rw c.in-Print.is (inr (unsent_told (state g.S.Store c.args.office.now.held) c.text_of.new.office.closed (state g.S.Store c.text_of.new.office.held) c.args.keep_going c.args.line _ s (page_of c.text_of.result) told.0
+          rw c.in-Print.is (inr (unsent_told (state g.S.Store c.args.office.now.held) c.text_of.new.office.closed
+              (state g.S.Store c.text_of.new.office.held) c.args.keep_going c.args.line _ s (page_of c.text_of.result) told.0
               (c.text_of.ensures.found clean is_open s at))),
         ),
       );
@@ -202,7 +207,8 @@ returns-in-PrintIndex-clause-ran g c =
         (
           _,
           c.opened-file.ensures,
-          rw c.in-PrintIndex.is (inr (unsent_told (state g.S.Store c.args.office.now.held) c.index_of.new.office.closed (state g.S.Store c.index_of.new.office.held) c.args.keep_going c.args.line _ s (page_of c.index_of.result) told.0
+          rw c.in-PrintIndex.is (inr (unsent_told (state g.S.Store c.args.office.now.held) c.index_of.new.office.closed
+              (state g.S.Store c.index_of.new.office.held) c.args.keep_going c.args.line _ s (page_of c.index_of.result) told.0
               (c.index_of.ensures.found clean is_open s at))),
         ),
       );
@@ -221,7 +227,8 @@ returns-clause-ran g c =
         (
           _,
           c.opened-file.ensures,
-          rw c.in-Ask.is (inr (unsent_told (state g.S.Store c.args.office.now.held) c.answer_to.new.office.closed (state g.S.Store c.answer_to.new.office.held) c.args.keep_going c.args.line _ s (page_of c.answer_to.result) told.0
+          rw c.in-Ask.is (inr (unsent_told (state g.S.Store c.args.office.now.held) c.answer_to.new.office.closed
+              (state g.S.Store c.answer_to.new.office.held) c.args.keep_going c.args.line _ s (page_of c.answer_to.result) told.0
               (c.answer_to.ensures.found clean is_open s at))),
         ),
       );

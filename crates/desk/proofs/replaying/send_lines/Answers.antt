@@ -18,5 +18,6 @@ returns-in-Ok-clause-sent g c =
 pub returns-in-Err-clause-sent : goal.returns-in-Err-clause-sent
 returns-in-Err-clause-sent g c =
     let why = c.in-Err.fault in
-    let told = error_shown g.O.Sink.taken g.O.Sink.failed g.E.Sink.taken g.E.Sink.failed c.args.out.now c.args.err.now c.tell_script_fault.new.err (script_page why) c.tell_script_fault.result (no_output why) c.tell_script_fault.ensures in
+    let told = error_shown g.O.Sink.taken g.O.Sink.failed g.E.Sink.taken g.E.Sink.failed c.args.out.now c.args.err.now c.tell_script_fault.new.err
+    (script_page why) c.tell_script_fault.result (no_output why) c.tell_script_fault.ensures in
     record { page = script_page why; cut = told.0; shown = told.1; is = λ clean is_open s at. ([], 0, inr (why, told.0, refl, c.in-Err.ensures.err, record { is_open = is_open; at = at })) }

@@ -41,7 +41,8 @@ loop-turn-preserved g c =
         is = λ clean is_open s at.
             let so = so_far.is (c.run-status.ensures.clean clean) is_open s at in
             let it = told.is clean so.open_at.is_open so.end so.open_at.at in
-            turn_more first keep (g.F.Folder.held c.args.folder.now) s turns mid i turn so_far.said c.loop-turn.office.closed mid (made it.0 it.1 told.page told.cut) c.run-status.new.office.closed next within c.turn-item.is so it.2
+            turn_more first keep (g.F.Folder.held c.args.folder.now) s turns mid i turn so_far.said c.loop-turn.office.closed mid
+            (made it.0 it.1 told.page told.cut) c.run-status.new.office.closed next within c.turn-item.is so it.2
             (ap (goes_on keep) fine.1 ∙ goes, fine.0);
       };
     }
@@ -73,7 +74,8 @@ returns-then-not-goes_on-clause-sent g c =
           let course = told_above so.own so_far.said last in (
             course.requests,
             course.answered,
-            turn_last first keep (g.F.Folder.held c.args.folder.now) s turns mid i turn so_far.said c.loop-turn.office.closed mid last c.run-status.new.office.closed next within c.turn-item.is tells so it.2
+            turn_last first keep (g.F.Folder.held c.args.folder.now) s turns mid i turn so_far.said c.loop-turn.office.closed mid last c.run-status.new.office.closed
+                next within c.turn-item.is tells so it.2
                 (λ gone. worse gone.0 gone.1),
           );
     }

@@ -23,5 +23,6 @@ returns c =
     let read = map line_entry c.in_ok-lines.lines.items in
     let said = map typed_line_entry c.in_ok-said.said.items in
     let fault = c.in-Err-ScriptLine in
-    let first = flaw_of_text text read said fault.field-0-0 fault.field-0-1 c.in_ok-lines.ensures (rw c.deref.ensures.value at c.in_ok-said.ensures) (rw c.deref-2.ensures.value at (rw fault.field-0-is at fault.ensures.err)) in
+    let first = flaw_of_text text read said fault.field-0-0 fault.field-0-1 c.in_ok-lines.ensures (rw c.deref.ensures.value at c.in_ok-said.ensures)
+    (rw c.deref-2.ensures.value at (rw fault.field-0-is at fault.ensures.err)) in
     inr (fault.field-0-0, fault.field-0-1, first, ap (map string_bytes) c.new.ensures.items)

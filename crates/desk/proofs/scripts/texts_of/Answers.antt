@@ -14,7 +14,8 @@ loop-word-preserved c =
     let value = c.deref.ensures.value in
     let text = subst IsUtf8 value c.in-Ok.ensures.cases.1 in
     record {
-      same = words_more (λ w. w.items) (codes "DB") c.args.words.now c.loop-word.word-index c.word-item.result c.loop-word.texts.items c.push.new.self.items c.in-Ok.text c.loop-word-test.true c.word-item.is
+      same = words_more (λ w. w.items) (codes "DB") c.args.words.now c.loop-word.word-index c.word-item.result c.loop-word.texts.items c.push.new.self.items
+          c.in-Ok.text c.loop-word-test.true c.word-item.is
           c.in_ok-push-in-Ok.ensures.items (c.in-Ok.ensures.cases.0 ∙ value) c.loop-word.invariant.same;
       text = text_more (λ w. w.items) c.args.words.now c.loop-word.word-index c.word-item.result c.loop-word-test.true c.word-item.is text c.loop-word.invariant.text;
     }

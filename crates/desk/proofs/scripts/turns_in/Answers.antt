@@ -6,9 +6,11 @@ use Rattle.desk.proofs.scripts.turns_in.Goals as goal
 
 pub returns-in-Err-clause-err : goal.returns-in-Err-clause-err
 returns-in-Err-clause-err c =
-    fault_behind typed_line_entry c.args.lines.now c.loop-line.line-index c.line-item.result c.loop-line.turns.items c.in-Err.fault c.loop-line-test.true c.line-item.is c.loop-line.invariant c.in-Err.ensures.err
+    fault_behind typed_line_entry c.args.lines.now c.loop-line.line-index c.line-item.result c.loop-line.turns.items c.in-Err.fault c.loop-line-test.true
+    c.line-item.is c.loop-line.invariant c.in-Err.ensures.err
 
 pub loop-line-preserved : goal.loop-line-preserved
 loop-line-preserved c =
-    turns_so typed_line_entry c.args.lines.now c.loop-line.line-index c.line-item.result c.loop-line.turns.items c.push.new.self.items c.in-Ok.turn c.loop-line-test.true c.line-item.is c.loop-line.invariant c.in-Ok.ensures.ok
+    turns_so typed_line_entry c.args.lines.now c.loop-line.line-index c.line-item.result c.loop-line.turns.items c.push.new.self.items c.in-Ok.turn
+    c.loop-line-test.true c.line-item.is c.loop-line.invariant c.in-Ok.ensures.ok
     (pushed c.push.result c.push.new.self.items _ c.loop-line.turns.items (sym c.is_err.ensures.value ∙ c.if-is_err.false) c.push.ensures.items)

@@ -42,7 +42,8 @@ loop-request-preserved g c =
         is = λ clean is_open s at.
             let so = so_far.is (c.outcome_of.ensures.clean clean) is_open s at in
             let it = c.outcome_of.ensures.told clean so.open_at.is_open so.end so.open_at.at in
-            sent_more first keep line page_for s rs mid i c.request-item.result so_far.said c.loop-request.office.closed mid page it.0 c.outcome_of.new.office.closed next within c.request-item.is so it.1
+            sent_more first keep line page_for s rs mid i c.request-item.result so_far.said c.loop-request.office.closed mid page it.0 c.outcome_of.new.office.closed
+            next within c.request-item.is so it.1
             (ap (goes_on keep) fine.1 ∙ goes);
       };
     }
@@ -82,7 +83,8 @@ returns-then-not-goes_on-clause-sent g c =
     }
 
 pub returns-then-not-goes_on-clause-wears : goal.returns-then-not-goes_on-clause-wears
-returns-then-not-goes_on-clause-wears g c = wears_then (state g.S.Store c.args.office.now.held) (state g.S.Store c.loop-request.office.held) (state g.S.Store c.outcome_of.new.office.held) c.outcome_of.ensures.clean c.loop-request.invariant.wears
+returns-then-not-goes_on-clause-wears g c = wears_then (state g.S.Store c.args.office.now.held) (state g.S.Store c.loop-request.office.held)
+    (state g.S.Store c.outcome_of.new.office.held) c.outcome_of.ensures.clean c.loop-request.invariant.wears
     c.outcome_of.ensures.wears
 
 pub returns-clause-sent : goal.returns-clause-sent
@@ -99,6 +101,7 @@ returns-clause-sent g c =
           let course = told_above (take i rs) so_far.said nothing_more in (
             course.requests,
             course.answered,
-            sent_all (state g.S.Store c.args.office.now.held) c.args.keep_going c.args.line page_for s rs i so_far.said c.loop-request.office.closed (state g.S.Store c.loop-request.office.held) c.loop-request-test.false so,
+            sent_all (state g.S.Store c.args.office.now.held) c.args.keep_going c.args.line page_for s rs i so_far.said c.loop-request.office.closed
+                (state g.S.Store c.loop-request.office.held) c.loop-request-test.false so,
           );
     }

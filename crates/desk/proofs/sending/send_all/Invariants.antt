@@ -12,7 +12,8 @@ abbrev pub invariant-loop-request : goal.invariant-loop-request
 invariant-loop-request g l = record {
   wears : Wears (state g.S.Store l.initial.office.held) (state g.S.Store l.office.held);
   clean : HasCleanDisk (state g.S.Store l.office.held) → HasCleanDisk (state g.S.Store l.initial.office.held);
-  so_far : ToldSo (outputs_of g.O.Sink.taken g.O.Sink.failed g.E.Sink.taken g.E.Sink.failed l.initial.out l.initial.err) (outputs_of g.O.Sink.taken g.O.Sink.failed g.E.Sink.taken g.E.Sink.failed l.out l.err) l.ends
+  so_far : ToldSo (outputs_of g.O.Sink.taken g.O.Sink.failed g.E.Sink.taken g.E.Sink.failed l.initial.out l.initial.err)
+      (outputs_of g.O.Sink.taken g.O.Sink.failed g.E.Sink.taken g.E.Sink.failed l.out l.err) l.ends
       (λ said. WhenOpenAt (state g.S.Store) l.initial.office l.office
       (λ s. SentSo l.keep_going l.line page_for s l.requests l.request-index said l.office.closed (state g.S.Store l.office.held)));
 }

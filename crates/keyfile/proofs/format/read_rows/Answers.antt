@@ -20,7 +20,8 @@ returns-in_default-clause-rows g c =
 
 pub returns-then-is_err-clause-fault : goal.returns-then-is_err-clause-fault
 returns-then-is_err-clause-fault g c =
-    stands-stopped (g.F.FileFormat.format c.args.format.now) g.R.Read.remaining (g.R.Read.remaining (reader_source c.args.file.now)) c.loop-number.number (map g.F.FileFormat.entry c.loop-number.rows.items)
+    stands-stopped (g.F.FileFormat.format c.args.format.now) g.R.Read.remaining (g.R.Read.remaining (reader_source c.args.file.now)) c.loop-number.number
+    (map g.F.FileFormat.entry c.loop-number.rows.items)
     c.loop-number.file c.loop-number.invariant (fault_at c.loop-number.number Memory) refl refl
 
 pub returns-in_err-check_end-clause-fault : goal.returns-in_err-check_end-clause-fault

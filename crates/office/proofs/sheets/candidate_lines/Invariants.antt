@@ -7,6 +7,7 @@ use Rattle.office.proofs.sheets.candidate_lines.Given as goal
 
 abbrev pub invariant-loop-candidate : goal.invariant-loop-candidate
 invariant-loop-candidate l = record {
-  lines : map (λ line. (line.0, string_bytes line.1)) l.lines.items ++ map candidate_shown (map candidate_entry (drop l.candidate-index l.candidates)) ≡ map candidate_shown (map candidate_entry l.candidates);
+  lines : map (λ line. (line.0, string_bytes line.1)) l.lines.items ++ map candidate_shown (map candidate_entry (drop l.candidate-index l.candidates))
+      ≡ map candidate_shown (map candidate_entry l.candidates);
   left : list_all is_numbered (map candidate_entry l.candidates) ≡ true → list_all is_numbered (map candidate_entry (drop l.candidate-index l.candidates)) ≡ true;
 }

@@ -9,14 +9,16 @@ use Rattle.order_protocol.proofs.decoding.pieces_of.Goals as goal
 pub returns-in_err-piece : goal.returns-in_err-piece
 returns-in_err-piece c =
     let p = err_from_is_err_and c.from_residual.result c.from_residual.ensures.1 in
-    rw (p.1, p.2) (ends c.in_err-piece.field-0.0 (message_part_entries c.loop.pieces.items) c.args.count c.loop.counter c.loop.rest.now (pieces_at c.args.count c.args.bytes.now) c.loop-test.true c.in_err-piece.ensures
+    rw (p.1, p.2) (ends c.in_err-piece.field-0.0 (message_part_entries c.loop.pieces.items) c.args.count c.loop.counter c.loop.rest.now
+    (pieces_at c.args.count c.args.bytes.now) c.loop-test.true c.in_err-piece.ensures
     c.loop.invariant)
 
 pub loop-preserved : goal.loop-preserved
 loop-preserved c =
     let n = c.in_ok-piece.piece in
     let e : message_part_entries c.push.new.self.items ≡ message_part_entries c.loop.pieces.items ++ message_part_entry n ∷ [] = rw c.in_ok-push.ensures.items (map_push _ c.loop.pieces.items n) in
-    rw e (goes_on (message_part_entries c.loop.pieces.items) c.args.count c.loop.counter c.loop.rest.now (message_part_entry n) c.in_ok-piece.after.now (pieces_at c.args.count c.args.bytes.now) c.loop-test.true
+    rw e (goes_on (message_part_entries c.loop.pieces.items) c.args.count c.loop.counter c.loop.rest.now (message_part_entry n) c.in_ok-piece.after.now
+    (pieces_at c.args.count c.args.bytes.now) c.loop-test.true
     c.in_ok-piece.ensures c.loop.invariant)
 
 pub returns : goal.returns

@@ -11,7 +11,8 @@ returns-in_err-marks-clause-err c =
     let here : c.loop-i.i < length (fields c.args.text.now) = omega (arith, c.requires.all, c.loop-i-test.true) in
     let next = fields-next (fields c.args.text.now) c.loop-i.rest.now c.loop-i.i here (c.loop-i.invariant.rest c.loop-i-test.true) in
     let p = err_from_is_err_and c.from_residual.result c.from_residual.ensures.1 in
-    rw (p.1, p.2) (field-fault (fields c.args.text.now) (take c.loop-i.i c.loop-i.marks) c.split_field.result.0.now c.loop-i.i c.in_err-marks.field-0.0 c.loop-i.invariant.so_far here (c.split_field.ensures.field ∙ next.0) (sym c.in_err-marks.ensures.is))
+    rw (p.1, p.2) (field-fault (fields c.args.text.now) (take c.loop-i.i c.loop-i.marks) c.split_field.result.0.now c.loop-i.i c.in_err-marks.field-0.0 c.loop-i.invariant.so_far here
+    (c.split_field.ensures.field ∙ next.0) (sym c.in_err-marks.ensures.is))
 
 pub loop-i-preserved : goal.loop-i-preserved
 loop-i-preserved c =

@@ -12,6 +12,7 @@ loop-c-preserved c =
     let some : 0 ≢ slice_index c.as_slice-c-items.result.now c.loop-c.c-index = omega (arith, column.0) in
     record {
       size = length-set _ _ _ ∙ c.loop-c.invariant.size;
-      given = λ k. rw c.from.ensures (status_of-set c.args.statuses.now c.loop-c.statuses c.args.status c.as_slice-c-items.result.now c.loop-c.c-index k c.loop-c-test.true few (c.loop-c.invariant.given k));
+      given = λ k. rw c.from.ensures (status_of-set c.args.statuses.now c.loop-c.statuses c.args.status c.as_slice-c-items.result.now c.loop-c.c-index k c.loop-c-test.true few
+          (c.loop-c.invariant.given k));
       none = rw c.from.ensures (get_or-set_other c.loop-c.statuses _ 0 c.args.status _ some ∙ c.loop-c.invariant.none);
     }

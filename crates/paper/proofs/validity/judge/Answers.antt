@@ -17,12 +17,14 @@ returns-in-Several-clause-lower c = lower_marks_decide c.args.m.now
 
 pub from_ranking-requires-clause-whole : goal.from_ranking-requires-clause-whole
 from_ranking-requires-clause-whole c =
-    let list = ap listed (c.preferred.ensures c.args.m.now c.bearers-bearers.ensures.is) ∙ listed-padded_ranking (preferences c.args.m.now) (preferences-IsRanking c.args.m.now c.bearers-bearers.ensures.marking.columns) in
+    let list = ap listed (c.preferred.ensures c.args.m.now c.bearers-bearers.ensures.is) ∙ listed-padded_ranking (preferences c.args.m.now)
+    (preferences-IsRanking c.args.m.now c.bearers-bearers.ensures.marking.columns) in
     ap padded list ∙ sym (c.preferred.ensures c.args.m.now c.bearers-bearers.ensures.is)
 
 pub from_ranking-requires-clause-some : goal.from_ranking-requires-clause-some
 from_ranking-requires-clause-some c =
-    let list = ap listed (c.preferred.ensures c.args.m.now c.bearers-bearers.ensures.is) ∙ listed-padded_ranking (preferences c.args.m.now) (preferences-IsRanking c.args.m.now c.bearers-bearers.ensures.marking.columns) in
+    let list = ap listed (c.preferred.ensures c.args.m.now c.bearers-bearers.ensures.is) ∙ listed-padded_ranking (preferences c.args.m.now)
+    (preferences-IsRanking c.args.m.now c.bearers-bearers.ensures.marking.columns) in
     rw list (preferences-some c.args.m.now _ (alone-One _ _ (sym c.in-One.is ∙ c.bearers-bearers.ensures.is 1 (omega arith))))
 
 pub from_ranking-requires-clause-ranking : goal.from_ranking-requires-clause-ranking
@@ -32,10 +34,12 @@ from_ranking-requires-clause-ranking c =
 
 pub returns-in-One-clause-is : goal.returns-in-One-clause-is
 returns-in-One-clause-is c =
-    c.from_ranking.ensures ∙ ap listed (c.preferred.ensures c.args.m.now c.bearers-bearers.ensures.is) ∙ listed-padded_ranking (preferences c.args.m.now) (preferences-IsRanking c.args.m.now c.bearers-bearers.ensures.marking.columns)
+    c.from_ranking.ensures ∙ ap listed (c.preferred.ensures c.args.m.now c.bearers-bearers.ensures.is) ∙ listed-padded_ranking (preferences c.args.m.now)
+    (preferences-IsRanking c.args.m.now c.bearers-bearers.ensures.marking.columns)
 
 pub returns-in-One-clause-longest : goal.returns-in-One-clause-longest
 returns-in-One-clause-longest c =
     let set = c.bearers-bearers.ensures.marking.columns in
-    let is = c.from_ranking.ensures ∙ ap listed (c.preferred.ensures c.args.m.now c.bearers-bearers.ensures.is) ∙ listed-padded_ranking (preferences c.args.m.now) (preferences-IsRanking c.args.m.now set) in
+    let is = c.from_ranking.ensures ∙ ap listed (c.preferred.ensures c.args.m.now c.bearers-bearers.ensures.is) ∙ listed-padded_ranking (preferences c.args.m.now)
+    (preferences-IsRanking c.args.m.now set) in
     subst (IsPreferences c.args.m.now) (sym is) (preferences-IsPreferences c.args.m.now set)

@@ -18,7 +18,8 @@ pub loop-place-preserved : goal.loop-place-preserved
 loop-place-preserved c =
     let within : c.loop-place.place + 1 ≤ max_candidates = omega (arith, c.loop-place-test.true) in
     record {
-      whole = λ m are. preferred-more m c.loop-place.numbers c.loop-place.place c.in-One.c (c.loop-place.invariant.whole m are) c.loop-place-test.true c.loop-place.invariant.size (sym c.in-One.is ∙ are (c.loop-place.place + 1) within);
+      whole = λ m are. preferred-more m c.loop-place.numbers c.loop-place.place c.in-One.c (c.loop-place.invariant.whole m are) c.loop-place-test.true c.loop-place.invariant.size
+          (sym c.in-One.is ∙ are (c.loop-place.place + 1) within);
       zeros = zeros-less c.loop-place.numbers c.loop-place.place c.in-One.c c.loop-place.invariant.zeros;
       size = length-set c.loop-place.numbers c.loop-place.place c.in-One.c ∙ c.loop-place.invariant.size;
     }

@@ -2,7 +2,7 @@
 use Rattle.std.proofs.Common.{◌<◌, ◌∙◌, List, Option, ap, is_some, length, map, refl, subst, sym, ℕ}
 use Rattle.std.specs.Prelude.{Err, Result}
 use Rattle.sqlite.specs.Held.{state}
-use Rattle.votes.specs.declared.streams.Broken.{Broken}
+use Rattle.streams.specs.declared.streams.Broken.{Broken}
 use Rattle.connections.specs.Streams.{stream_of}
 use Rattle.connections.specs.Tables.{after_ready}
 use Rattle.connections.specs.declared.client.Client.{Client}

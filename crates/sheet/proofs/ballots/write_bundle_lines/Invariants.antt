@@ -1,6 +1,6 @@
 -- What holds each time round the loop of `write_bundle_lines`.
 use Rattle.std.proofs.Common.{Ok}
-use Rattle.votes.specs.declared.streams.Broken.{Broken}
+use Rattle.streams.specs.declared.streams.Broken.{Broken}
 use Rattle.sheet.proofs.Bundles.{AreWritten}
 use Rattle.sheet.proofs.ballots.write_bundle_lines.Given as goal
 

@@ -20,7 +20,8 @@ pub returns-in_err-write_name_line : goal.returns-in_err-write_name_line
 returns-in_err-write_name_line g c =
     let ward = shown c.args.ward.now in
     let within : c.loop-below.below < highest_number ward.candidates = omega (arith, c.highest_number-below-end.ensures, c.loop-below-test.true) in
-    Writes-item_cut (name_line ward.candidates) (numbers_of ward) c.loop-below.below _ c.from_residual.result (number_within ward _ within) (number_at ward _ _ within) c.loop-below.invariant c.in_err-write_name_line.ensures c.from_residual.ensures.0
+    Writes-item_cut (name_line ward.candidates) (numbers_of ward) c.loop-below.below _ c.from_residual.result (number_within ward _ within)
+    (number_at ward _ _ within) c.loop-below.invariant c.in_err-write_name_line.ensures c.from_residual.ensures.0
 
 pub returns : goal.returns
 returns g c =

@@ -1,7 +1,7 @@
 -- What holds each time round the loop of `write_candidate_names`.
 use Rattle.std.proofs.Common.{take, Ok}
 use Rattle.std.specs.List.{flat_map}
-use Rattle.votes.specs.declared.streams.Broken.{Broken}
+use Rattle.streams.specs.declared.streams.Broken.{Broken}
 use Rattle.sheet.specs.Ballots.{name_line, numbers_of}
 use Rattle.sheet.specs.Entries.{shown}
 use Rattle.sheet.specs.Writing.{Writes}

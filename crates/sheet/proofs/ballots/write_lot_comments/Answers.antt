@@ -10,11 +10,13 @@ loop-lot-init g c = Writes-none _ _
 
 pub loop-lot-preserved : goal.loop-lot-preserved
 loop-lot-preserved g c =
-    Writes-item lot_comment c.args.lots.now c.loop-lot.lot-index (get_or c.args.lots.now c.loop-lot.lot-index (0, 0)) _ c.loop-lot-test.true (get_or_default _ _ _ _ c.loop-lot-test.true) c.loop-lot.invariant c.in_ok-write_lot_comment.ensures
+    Writes-item lot_comment c.args.lots.now c.loop-lot.lot-index (get_or c.args.lots.now c.loop-lot.lot-index (0, 0)) _ c.loop-lot-test.true
+    (get_or_default _ _ _ _ c.loop-lot-test.true) c.loop-lot.invariant c.in_ok-write_lot_comment.ensures
 
 pub returns-in_err-write_lot_comment : goal.returns-in_err-write_lot_comment
 returns-in_err-write_lot_comment g c =
-    Writes-item_cut lot_comment c.args.lots.now c.loop-lot.lot-index (get_or c.args.lots.now c.loop-lot.lot-index (0, 0)) c.from_residual.result c.loop-lot-test.true (get_or_default _ _ _ _ c.loop-lot-test.true) c.loop-lot.invariant c.in_err-write_lot_comment.ensures c.from_residual.ensures.0
+    Writes-item_cut lot_comment c.args.lots.now c.loop-lot.lot-index (get_or c.args.lots.now c.loop-lot.lot-index (0, 0)) c.from_residual.result c.loop-lot-test.true
+    (get_or_default _ _ _ _ c.loop-lot-test.true) c.loop-lot.invariant c.in_err-write_lot_comment.ensures c.from_residual.ensures.0
 
 pub returns : goal.returns
 returns g c = rw (take_all _ _ c.loop-lot-test.false) at c.loop-lot.invariant

@@ -1,6 +1,6 @@
 -- What holds each time round the loop of `write_withdrawn_line`.
 use Rattle.std.proofs.Common.{◌≡◌, Ok}
-use Rattle.votes.specs.declared.streams.Broken.{Broken}
+use Rattle.streams.specs.declared.streams.Broken.{Broken}
 use Rattle.sheet.specs.Entries.{shown}
 use Rattle.sheet.specs.Writing.{Writes}
 use Rattle.sheet.proofs.Withdrawn.{joined, is_none_yet, so_far}

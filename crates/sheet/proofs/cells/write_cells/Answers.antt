@@ -11,7 +11,8 @@ loop-k-init g c = Writes-no_stage (cell_text c.args.cell.now) c.args.place c.arg
 pub loop-k-preserved : goal.loop-k-preserved
 loop-k-preserved g c =
     let from : c.args.place ≤ c.loop-k.k = omega arith in
-    Writes-next (cell_text c.args.cell.now) c.args.place c.args.stages.now c.loop-k.k c.index-stages-k.result _ from c.loop-k-test.true c.index-stages-k.is c.loop-k.invariant c.in_ok-write_cell.ensures
+    Writes-next (cell_text c.args.cell.now) c.args.place c.args.stages.now c.loop-k.k c.index-stages-k.result _ from c.loop-k-test.true c.index-stages-k.is
+    c.loop-k.invariant c.in_ok-write_cell.ensures
 
 pub returns-in_err-write_cell : goal.returns-in_err-write_cell
 returns-in_err-write_cell g c =

@@ -12,7 +12,8 @@ loop-k-init g c = Writes-no_stage (elected_at (shown c.args.ward.now)) 0 c.args.
 pub loop-k-preserved : goal.loop-k-preserved
 loop-k-preserved g c =
     let from : 0 ≤ c.loop-k.k = omega arith in
-    Writes-next (elected_at (shown c.args.ward.now)) 0 c.args.stages.now c.loop-k.k c.index-stages-k.result _ from c.loop-k-test.true c.index-stages-k.is c.loop-k.invariant c.in_ok-write_elected_at.ensures
+    Writes-next (elected_at (shown c.args.ward.now)) 0 c.args.stages.now c.loop-k.k c.index-stages-k.result _ from c.loop-k-test.true c.index-stages-k.is
+    c.loop-k.invariant c.in_ok-write_elected_at.ensures
 
 pub returns-in_err-write_elected_at : goal.returns-in_err-write_elected_at
 returns-in_err-write_elected_at g c =

@@ -1,6 +1,6 @@
 -- What holds each time round the loop of `write_elected_stages`.
 use Rattle.std.proofs.Common.{take, Ok}
-use Rattle.votes.specs.declared.streams.Broken.{Broken}
+use Rattle.streams.specs.declared.streams.Broken.{Broken}
 use Rattle.sheet.specs.Cells.{from_place}
 use Rattle.sheet.specs.Entries.{shown}
 use Rattle.sheet.specs.Page.{elected_at}

@@ -10,11 +10,13 @@ loop-byte-init g c = Puts-none _ _
 
 pub loop-byte-preserved : goal.loop-byte-preserved
 loop-byte-preserved g c =
-    Puts-item plain_byte c.args.bytes.now c.loop-byte.byte-index (slice_index c.args.bytes.now c.loop-byte.byte-index) _ c.loop-byte-test.true (get_or_default c.args.bytes.now c.loop-byte.byte-index 0 _ c.loop-byte-test.true) c.loop-byte.invariant c.in_ok-put_plain_byte.ensures
+    Puts-item plain_byte c.args.bytes.now c.loop-byte.byte-index (slice_index c.args.bytes.now c.loop-byte.byte-index) _ c.loop-byte-test.true
+    (get_or_default c.args.bytes.now c.loop-byte.byte-index 0 _ c.loop-byte-test.true) c.loop-byte.invariant c.in_ok-put_plain_byte.ensures
 
 pub returns-in_err-put_plain_byte : goal.returns-in_err-put_plain_byte
 returns-in_err-put_plain_byte g c =
-    Puts-item_cut plain_byte c.args.bytes.now c.loop-byte.byte-index (slice_index c.args.bytes.now c.loop-byte.byte-index) c.from_residual.result c.loop-byte-test.true (get_or_default c.args.bytes.now c.loop-byte.byte-index 0 _ c.loop-byte-test.true) c.loop-byte.invariant c.in_err-put_plain_byte.ensures c.from_residual.ensures.0
+    Puts-item_cut plain_byte c.args.bytes.now c.loop-byte.byte-index (slice_index c.args.bytes.now c.loop-byte.byte-index) c.from_residual.result c.loop-byte-test.true
+    (get_or_default c.args.bytes.now c.loop-byte.byte-index 0 _ c.loop-byte-test.true) c.loop-byte.invariant c.in_err-put_plain_byte.ensures c.from_residual.ensures.0
 
 pub returns : goal.returns
 returns g c = rw (take_all _ _ c.loop-byte-test.false) at c.loop-byte.invariant

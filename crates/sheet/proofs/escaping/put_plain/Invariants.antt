@@ -1,7 +1,7 @@
 -- What holds each time round the loop of `put_plain`.
 use Rattle.std.proofs.Common.{take, Ok}
 use Rattle.std.specs.List.{flat_map}
-use Rattle.votes.specs.declared.streams.Broken.{Broken}
+use Rattle.streams.specs.declared.streams.Broken.{Broken}
 use Rattle.sheet.specs.Lines.{plain_byte}
 use Rattle.sheet.specs.Writing.{Puts}
 use Rattle.sheet.proofs.escaping.put_plain.Given as goal

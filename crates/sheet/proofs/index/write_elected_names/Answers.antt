@@ -10,7 +10,8 @@ loop-candidate-init g c = Writes-none _ _
 
 pub loop-candidate-preserved : goal.loop-candidate-preserved
 loop-candidate-preserved g c =
-    Writes-item (λ candidate. elected_name (elected_shown candidate)) c.args.elected.now c.loop-candidate.candidate-index c.candidate-item.result _ c.loop-candidate-test.true c.candidate-item.is c.loop-candidate.invariant c.in_ok-write_elected_name.ensures
+    Writes-item (λ candidate. elected_name (elected_shown candidate)) c.args.elected.now c.loop-candidate.candidate-index c.candidate-item.result _
+    c.loop-candidate-test.true c.candidate-item.is c.loop-candidate.invariant c.in_ok-write_elected_name.ensures
 
 pub returns-in_err-write_elected_name : goal.returns-in_err-write_elected_name
 returns-in_err-write_elected_name g c =

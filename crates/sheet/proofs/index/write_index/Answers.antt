@@ -18,13 +18,16 @@ pub returns-in_err-write_index_heads : goal.returns-in_err-write_index_heads
 returns-in_err-write_index_heads g c =
     let r = c.from_residual-in_err-write_index_heads.result in
     let failure = c.from_residual-in_err-write_index_heads.ensures.0 in
-    Writes-front _ r failure (Writes-front _ r failure (Writes-failed r failure (Writes-then _ (Writes-then _ c.in_ok-write_index_opening.ensures c.in_ok-write_title.ensures) c.in_err-write_index_heads.ensures)))
+    Writes-front _ r failure (Writes-front _ r failure (Writes-failed r failure
+    (Writes-then _ (Writes-then _ c.in_ok-write_index_opening.ensures c.in_ok-write_title.ensures) c.in_err-write_index_heads.ensures)))
 
 pub returns-in_err-write_index_rows : goal.returns-in_err-write_index_rows
 returns-in_err-write_index_rows g c =
     let r = c.from_residual-in_err-write_index_rows.result in
     let failure = c.from_residual-in_err-write_index_rows.ensures.0 in
-    Writes-front _ r failure (Writes-failed r failure (Writes-then _ (Writes-then _ (Writes-then _ c.in_ok-write_index_opening.ensures c.in_ok-write_title.ensures) c.in_ok-write_index_heads.ensures) c.in_err-write_index_rows.ensures))
+    Writes-front _ r failure (Writes-failed r failure (Writes-then _
+    (Writes-then _ (Writes-then _ c.in_ok-write_index_opening.ensures c.in_ok-write_title.ensures) c.in_ok-write_index_heads.ensures) c.in_err-write_index_rows.ensures))
 
 pub returns : goal.returns
-returns g c = Writes-then _ (Writes-then _ (Writes-then _ (Writes-then _ c.in_ok-write_index_opening.ensures c.in_ok-write_title.ensures) c.in_ok-write_index_heads.ensures) c.in_ok-write_index_rows.ensures) c.write_text.ensures
+returns g c = Writes-then _ (Writes-then _ (Writes-then _ (Writes-then _ c.in_ok-write_index_opening.ensures c.in_ok-write_title.ensures) c.in_ok-write_index_heads.ensures)
+    c.in_ok-write_index_rows.ensures) c.write_text.ensures

@@ -10,7 +10,8 @@ loop-ward-init g c = Writes-none _ _
 
 pub loop-ward-preserved : goal.loop-ward-preserved
 loop-ward-preserved g c =
-    Writes-item (λ ward. index_row (listed ward)) c.args.wards.now c.loop-ward.ward-index c.ward-item.result _ c.loop-ward-test.true c.ward-item.is c.loop-ward.invariant c.in_ok-write_index_row.ensures
+    Writes-item (λ ward. index_row (listed ward)) c.args.wards.now c.loop-ward.ward-index c.ward-item.result _ c.loop-ward-test.true c.ward-item.is
+    c.loop-ward.invariant c.in_ok-write_index_row.ensures
 
 pub returns-in_err-write_index_row : goal.returns-in_err-write_index_row
 returns-in_err-write_index_row g c =

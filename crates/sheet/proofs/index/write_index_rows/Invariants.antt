@@ -1,7 +1,7 @@
 -- What holds each time round the loop of `write_index_rows`.
 use Rattle.std.proofs.Common.{take, Ok}
 use Rattle.std.specs.List.{flat_map}
-use Rattle.votes.specs.declared.streams.Broken.{Broken}
+use Rattle.streams.specs.declared.streams.Broken.{Broken}
 use Rattle.sheet.specs.Index.{index_row, listed}
 use Rattle.sheet.specs.Writing.{Writes}
 use Rattle.sheet.proofs.index.write_index_rows.Given as goal

@@ -1,7 +1,7 @@
 -- What holds each time round the loop of `write_preferences`.
 use Rattle.std.proofs.Common.{take, Ok}
 use Rattle.std.specs.List.{flat_map}
-use Rattle.votes.specs.declared.streams.Broken.{Broken}
+use Rattle.streams.specs.declared.streams.Broken.{Broken}
 use Rattle.sheet.specs.Lines.{preference}
 use Rattle.sheet.specs.Writing.{Writes}
 use Rattle.sheet.proofs.line.write_preferences.Given as goal

@@ -15,4 +15,5 @@ returns-in_err-write_each g c =
     Writes-front _ r failure (Writes-failed r failure (Writes-then _ (rw c.from.ensures at c.in_ok-write_pieces.ensures) (rw c.stages_before.ensures at c.in_err-write_each.ensures)))
 
 pub returns : goal.returns
-returns g c = Writes-then _ (Writes-then _ (rw c.from.ensures at c.in_ok-write_pieces.ensures) (rw c.stages_before.ensures at c.in_ok-write_each.ensures)) (rw (c.settled_at.ensures, c.name_or_withdrawn.ensures) at c.write_line.ensures)
+returns g c = Writes-then _ (Writes-then _ (rw c.from.ensures at c.in_ok-write_pieces.ensures) (rw c.stages_before.ensures at c.in_ok-write_each.ensures))
+    (rw (c.settled_at.ensures, c.name_or_withdrawn.ensures) at c.write_line.ensures)

@@ -1,6 +1,6 @@
 -- What holds each time round the loop of `write_stages`.
 use Rattle.std.proofs.Common.{take, Ok}
-use Rattle.votes.specs.declared.streams.Broken.{Broken}
+use Rattle.streams.specs.declared.streams.Broken.{Broken}
 use Rattle.sheet.specs.Entries.{shown}
 use Rattle.sheet.specs.Sheet.{stages_text}
 use Rattle.sheet.specs.Writing.{Writes}

@@ -5,4 +5,5 @@ use Rattle.sheet.specs.Spreadsheet.{stage_cells}
 use Rattle.sheet.proofs.spreadsheet.push_all_cells.Given as goal
 
 abbrev pub invariant-loop-k : goal.invariant-loop-k
-invariant-loop-k l = map string_bytes l.row.items ++ each_after (stage_cells l.line) (take l.k l.stages) (drop l.k l.stages) ≡ map string_bytes l.fn.row.items ++ each_after (stage_cells l.line) [] l.stages
+invariant-loop-k l = map string_bytes l.row.items ++ each_after (stage_cells l.line) (take l.k l.stages) (drop l.k l.stages) ≡ map string_bytes l.fn.row.items
+    ++ each_after (stage_cells l.line) [] l.stages

@@ -1,7 +1,7 @@
 -- What holds each time round the loop of `write_tables`.
 use Rattle.std.proofs.Common.{take, length, Ok}
 use Rattle.std.specs.List.{flat_map, range_with_len}
-use Rattle.votes.specs.declared.streams.Broken.{Broken}
+use Rattle.streams.specs.declared.streams.Broken.{Broken}
 use Rattle.sheet.specs.Entries.{shown}
 use Rattle.sheet.specs.Table.{table_at}
 use Rattle.sheet.specs.Writing.{Writes}

@@ -15,7 +15,8 @@ loop-candidate-preserved g c =
 
 pub returns-in_err-write : goal.returns-in_err-write
 returns-in_err-write g c =
-    rw flat_map-map (Writes-item_cut (λ candidate. g.T.OfCandidate.text c.args.told.now candidate.0 (string_bytes candidate.1)) c.args.ward.now.candidates.now c.loop-candidate.candidate-index c.candidate-item.result c.from_residual.result
+    rw flat_map-map (Writes-item_cut (λ candidate. g.T.OfCandidate.text c.args.told.now candidate.0 (string_bytes candidate.1)) c.args.ward.now.candidates.now
+    c.loop-candidate.candidate-index c.candidate-item.result c.from_residual.result
     c.loop-candidate-test.true c.candidate-item.is c.loop-candidate.invariant c.in_err-write.ensures c.from_residual.ensures.0)
 
 pub returns : goal.returns

@@ -28,7 +28,8 @@ returns-in-Ok-commit_copy g c =
       same = λ clean db rests s left.
           let is : x ≡ s = read_left s x db left (read.holds clean db (left_ours s db left) rests).0 in (
             c.holdings_of.ensures ∙ ap holdings_of is,
-            λ honest new. subst (λ (y : OfficeState). IsAt y full) is (copy_is_at x t full read.judged (λ trees is_open may. g.met.T.Store.settled c.commit_copy.new.copy.store trees is_open may) (made.done honest tt new)),
+            λ honest new. subst (λ (y : OfficeState). IsAt y full) is
+                (copy_is_at x t full read.judged (λ trees is_open may. g.met.T.Store.settled c.commit_copy.new.copy.store trees is_open may) (made.done honest tt new)),
           );
       stops = λ clean honest db rests s left new.
           let found = read.holds clean db (left_ours s db left) rests in
@@ -40,11 +41,17 @@ returns-in-Ok-commit_copy g c =
           record {
             same = (
               c.holdings_of.ensures ∙ ap holdings_of is,
-              λ honest new. subst (λ (y : OfficeState). IsAt y full) is (copy_is_at x t full read.judged (λ trees is_open may. g.met.T.Store.settled c.commit_copy.new.copy.store trees is_open may) (made.done honest tt new)),
+              λ honest new. subst (λ (y : OfficeState). IsAt y full) is
+                  (copy_is_at x t full read.judged (λ trees is_open may. g.met.T.Store.settled c.commit_copy.new.copy.store trees is_open may) (made.done honest tt new)),
             );
             stops = λ honest new. subst (λ (y : OfficeState). LeavesNoneOrAll y blank full) is (copy_stops x t blank full found.1 honest (c.commit_copy.ensures.survives tt new));
           };
-      made = λ honest new. (x, c.holdings_of.ensures, copy_is_at x t full read.judged (λ trees is_open may. g.met.T.Store.settled c.commit_copy.new.copy.store trees is_open may) (made.done honest tt new));
+      made = λ honest new. (
+        x,
+        c.holdings_of.ensures,
+        copy_is_at x t full read.judged (λ trees is_open may. g.met.T.Store.settled c.commit_copy.new.copy.store trees is_open may)
+            (made.done honest tt new),
+      );
       whole = λ honest new. copy_whole x t blank full read.judged honest (c.commit_copy.ensures.survives tt new);
       told = λ clean db ours rests new. tt;
       cause = λ clean db rests s left new. tt;
@@ -78,7 +85,8 @@ returns-in-Ok g c =
           let found = read.holds clean old.now (left_ours s old.now was.1) was.0 in
           record {
             same = tt;
-            stops = λ honest new. subst (λ (y : OfficeState). LeavesNoneOrAll y blank full) (read_left s x old.now was.1 found.0) (copy_stops x t blank full found.1 honest (c.commit_copy.ensures.survives tt new));
+            stops = λ honest new. subst (λ (y : OfficeState). LeavesNoneOrAll y blank full) (read_left s x old.now was.1 found.0)
+                (copy_stops x t blank full found.1 honest (c.commit_copy.ensures.survives tt new));
           };
       made = λ honest new. tt;
       whole = λ honest new. copy_whole x t blank full read.judged honest (c.commit_copy.ensures.survives tt new);

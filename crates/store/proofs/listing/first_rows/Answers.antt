@@ -25,7 +25,8 @@ returns-clause-lists g c =
 pub returns-clause-rise : goal.returns-clause-rise
 returns-clause-rise g c =
     rw c.new.ensures.items
-    (first_rise c.in_ok-wards.wards.items c.in_ok-candidates.candidates.items _ c.in_ok-lots.lots.items c.in_ok-receipts.receipts.items c.in_ok-wards.ensures.rise c.in_ok-candidates.ensures.rise c.in_ok-batches.ensures.rise c.in_ok-lots.ensures.rise c.in_ok-receipts.ensures.rise)
+    (first_rise c.in_ok-wards.wards.items c.in_ok-candidates.candidates.items _ c.in_ok-lots.lots.items c.in_ok-receipts.receipts.items c.in_ok-wards.ensures.rise
+    c.in_ok-candidates.ensures.rise c.in_ok-batches.ensures.rise c.in_ok-lots.ensures.rise c.in_ok-receipts.ensures.rise)
 
 pub returns-in_err-wards-clause-lists : goal.returns-in_err-wards-clause-lists
 returns-in_err-wards-clause-lists g c =

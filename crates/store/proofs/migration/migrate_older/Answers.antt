@@ -12,8 +12,12 @@ returns-clause-opened g c clean db is office rests =
     let mid = c.read_older.ensures.reads.rests before (c.in_ok-older.ensures.opens before) db rests in
     let found = c.in_ok-older.ensures.found before db is office rests in
     let form = c.in_ok-older.older.form in
-    let new = state g.S.Store c.commit_migration.new.conn in
-    (found.0, (form, found.1), rests_is_at found.0 new (λ trees is_open may. g.met.S.Store.settled c.commit_migration.new.conn.store trees is_open may) found.1.is.is (c.in_ok-commit_migration.ensures.done clean found.0 (rests_older form db found.0 (state g.S.Store c.read_older.new.conn) mid found.1, found.2)))
+    let new = state g.S.Store c.commit_migration.new.conn in (
+      found.0,
+      (form, found.1),
+      rests_is_at found.0 new (λ trees is_open may. g.met.S.Store.settled c.commit_migration.new.conn.store trees is_open may) found.1.is.is
+          (c.in_ok-commit_migration.ensures.done clean found.0 (rests_older form db found.0 (state g.S.Store c.read_older.new.conn) mid found.1, found.2)),
+    )
 
 pub returns-clause-leaves : goal.returns-clause-leaves
 returns-clause-leaves g c clean db is office rests =

@@ -29,7 +29,8 @@ returns-in-OlderSchema-clause-leaves g c clean db ours is rests =
     let before = c.migrate_older.ensures.clean clean in
     let told = rw c.in-OlderSchema.is at (c.in-Err.ensures.told before db ours rests) in
     let mid = c.check.ensures.reads.rests before (c.in-Err.ensures.older before db ours rests c.in-OlderSchema.is) db rests in
-    leaves_later db (state g.S.Store c.args.conn.now) (state g.S.Store c.check.new.conn) (state g.S.Store c.migrate_older.new.conn) c.check.ensures.reads before (c.migrate_older.ensures.leaves clean db is told.1 mid)
+    leaves_later db (state g.S.Store c.args.conn.now) (state g.S.Store c.check.new.conn) (state g.S.Store c.migrate_older.new.conn) c.check.ensures.reads before
+    (c.migrate_older.ensures.leaves clean db is told.1 mid)
 
 pub returns-in-OlderSchema-clause-told : goal.returns-in-OlderSchema-clause-told
 returns-in-OlderSchema-clause-told g c clean db ours is rests =
@@ -45,7 +46,8 @@ returns-in-OlderSchema-clause-reads g c clean db rests s held =
     absurd (two_versions db told.1 (state_version db s held))
 
 pub returns-in-OlderSchema-clause-unchanged : goal.returns-in-OlderSchema-clause-unchanged
-returns-in-OlderSchema-clause-unchanged g c = if_read_first c.migrate_older.result (state g.S.Store c.args.conn.now) (state g.S.Store c.check.new.conn) (state g.S.Store c.migrate_older.new.conn) c.check.ensures.reads c.migrate_older.ensures.unchanged
+returns-in-OlderSchema-clause-unchanged g c = if_read_first c.migrate_older.result (state g.S.Store c.args.conn.now) (state g.S.Store c.check.new.conn)
+    (state g.S.Store c.migrate_older.new.conn) c.check.ensures.reads c.migrate_older.ensures.unchanged
 
 pub returns-in-OlderSchema-clause-wears : goal.returns-in-OlderSchema-clause-wears
 returns-in-OlderSchema-clause-wears g c = wears_then _ _ _ c.migrate_older.ensures.clean (reads_wear _ _ c.check.ensures.reads) c.migrate_older.ensures.wears

@@ -22,7 +22,8 @@ pub returns-in-Ok-None-clause-told : goal.returns-in-Ok-None-clause-told
 returns-in-Ok-None-clause-told g c clean db schema rests =
     let rows = c.in_ok-rows.rows in
     let lists = c.in_ok-rows.ensures.lists.lists clean db (first_begins (tables_in c.args.form) db.schema schema) rests in
-    none_of_form c.args.form db schema (λ x held. (rw c.in-Ok-None.field-0-is at c.in-Ok-None.ensures.none) (older_are c.args.form db (state_of rows) x (tabulated rows) lists c.in_ok-rows.ensures.rise c.in_ok-rows.ensures.bare held))
+    none_of_form c.args.form db schema (λ x held. (rw c.in-Ok-None.field-0-is at c.in-Ok-None.ensures.none)
+    (older_are c.args.form db (state_of rows) x (tabulated rows) lists c.in_ok-rows.ensures.rise c.in_ok-rows.ensures.bare held))
 
 pub returns-in_err-rows-clause-fails : goal.returns-in_err-rows-clause-fails
 returns-in_err-rows-clause-fails g c clean db schema rests =

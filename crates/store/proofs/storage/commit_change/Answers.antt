@@ -10,7 +10,8 @@ pub returns-in_err-commit-clause-survives : goal.returns-in_err-commit-clause-su
 returns-in_err-commit-clause-survives g c was now change rests =
     let both : Survives (state g.S.Store c.args.conn.now) (state g.S.Store c.commit.new.self.0) (λ trees. trees ≡ (state g.S.Store c.write_change.new.tx.conn.now).now.trees) = search rules in
     let begun : Sees was (state g.S.Store c.transaction-tx.result.conn.now) = search rules in
-    let before : HasCleanDisk (state g.S.Store c.commit.new.self.0) → HasCleanDisk (state g.S.Store c.write_change.new.tx.conn.now) = λ clean. let low = c.commit.ensures.survives.clean in omega (arith, low, clean) in
+    let before : HasCleanDisk (state g.S.Store c.commit.new.self.0) → HasCleanDisk (state g.S.Store c.write_change.new.tx.conn.now) = λ clean. let low
+    = c.commit.ensures.survives.clean in omega (arith, low, clean) in
     let it : Survives (state g.S.Store c.args.conn.now) (state g.S.Store c.commit.new.self.0) (Stores now) =
     survives_storing now (state g.S.Store c.args.conn.now) (state g.S.Store c.write_change.new.tx.conn.now) (state g.S.Store c.commit.new.self.0) both
     (λ clean. c.in_ok-write_change.ensures.writes (before clean) (was, now) (change, begun)) in
@@ -20,7 +21,8 @@ pub returns-clause-survives : goal.returns-clause-survives
 returns-clause-survives g c was now change rests =
     let both : Survives (state g.S.Store c.args.conn.now) (state g.S.Store c.commit.new.self.0) (λ trees. trees ≡ (state g.S.Store c.write_change.new.tx.conn.now).now.trees) = search rules in
     let begun : Sees was (state g.S.Store c.transaction-tx.result.conn.now) = search rules in
-    let before : HasCleanDisk (state g.S.Store c.commit.new.self.0) → HasCleanDisk (state g.S.Store c.write_change.new.tx.conn.now) = λ clean. let low = c.commit.ensures.survives.clean in omega (arith, low, clean) in
+    let before : HasCleanDisk (state g.S.Store c.commit.new.self.0) → HasCleanDisk (state g.S.Store c.write_change.new.tx.conn.now) = λ clean. let low
+    = c.commit.ensures.survives.clean in omega (arith, low, clean) in
     let it : Survives (state g.S.Store c.args.conn.now) (state g.S.Store c.commit.new.self.0) (Stores now) =
     survives_storing now (state g.S.Store c.args.conn.now) (state g.S.Store c.write_change.new.tx.conn.now) (state g.S.Store c.commit.new.self.0) both
     (λ clean. c.in_ok-write_change.ensures.writes (before clean) (was, now) (change, begun)) in
@@ -32,5 +34,6 @@ returns-clause-done g c clean was now change rests =
     let begun : Sees was (state g.S.Store c.transaction-tx.result.conn.now) = search rules in
     let before : HasCleanDisk (state g.S.Store c.write_change.new.tx.conn.now) = let low = c.commit.ensures.survives.clean in omega (arith, low, ended) in
     let mid : Sees now (state g.S.Store c.write_change.new.tx.conn.now) = c.in_ok-write_change.ensures.writes before (was, now) (change, begun) in
-    let it : Rests now (state g.S.Store c.commit.new.self.0) = rests_committed now (state g.S.Store c.write_change.new.tx.conn.now) (state g.S.Store c.commit.new.self.0) mid (c.in_ok-commit.ensures.ok ended).1 in
+    let it : Rests now (state g.S.Store c.commit.new.self.0) = rests_committed now (state g.S.Store c.write_change.new.tx.conn.now)
+    (state g.S.Store c.commit.new.self.0) mid (c.in_ok-commit.ensures.ok ended).1 in
     search (rules, it)

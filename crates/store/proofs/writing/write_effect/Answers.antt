@@ -43,7 +43,8 @@ pub returns-in-PapersKeyed : goal.returns-in-PapersKeyed
 returns-in-PapersKeyed g c =
     let papers = map keyed_entry c.in-PapersKeyed.papers.items in
     rw c.in-PapersKeyed.is (alters_same (rw c.deref.ensures.value at c.add_entries.ensures)
-    (λ x. subst (λ (rows : List Row). SameContents (added_all Keying rows (tables_with x.0 x.1)) (tables_with (with_effect (papers_keyed papers) x.0) x.1)) (mapped_twice keyed_entry row_of_keyed c.in-PapersKeyed.papers.items) (papers_put x.0 x.1 papers)))
+    (λ x. subst (λ (rows : List Row). SameContents (added_all Keying rows (tables_with x.0 x.1)) (tables_with (with_effect (papers_keyed papers) x.0) x.1))
+    (mapped_twice keyed_entry row_of_keyed c.in-PapersKeyed.papers.items) (papers_put x.0 x.1 papers)))
 
 pub returns-in-PaperJudged : goal.returns-in-PaperJudged
 returns-in-PaperJudged g c = rw c.in-PaperJudged.is (alters_same c.add_entry-in-PaperJudged.ensures (λ x. verdict_put x.0 x.1 (judged_entry c.in-PaperJudged.judged)))

@@ -10,7 +10,8 @@ returns-in-Ok g c =
     record {
       same_reference = ran.same_reference;
       runs = λ clean inside. (c.in-Ok.field-0, ran.runs clean inside);
-      keeps = λ clean. keeps _ _ (state g.S.Store c.args.tx.now.conn.now) (state g.S.Store c.execute.new.self.conn.now) (Ok c.in-Ok.field-0) (ran.runs clean) (λ h. ap (state g.S.Store) (ran.ended h).1);
+      keeps = λ clean. keeps _ _ (state g.S.Store c.args.tx.now.conn.now) (state g.S.Store c.execute.new.self.conn.now) (Ok c.in-Ok.field-0) (ran.runs clean)
+          (λ h. ap (state g.S.Store) (ran.ended h).1);
       survives = ran.survives;
       told = tt;
     }

@@ -11,7 +11,8 @@ returns-clause-removes g c =
     executed (rw c.delete_text.ensures at c.execute.ensures)
     (λ contents sees. (
       sees.inside,
-      λ count ran. row_removed c.args.table c.requires.changes (bound c.args.key.now) (state g.S.Store c.args.tx.now.conn.now) (state g.S.Store c.execute.new.tx.conn.now) (Ok count) (λ inside. ran) contents sees,
+      λ count ran. row_removed c.args.table c.requires.changes (bound c.args.key.now) (state g.S.Store c.args.tx.now.conn.now) (state g.S.Store c.execute.new.tx.conn.now)
+          (Ok count) (λ inside. ran) contents sees,
     ))
 
 pub returns-clause-told : goal.returns-clause-told

@@ -11,7 +11,8 @@ returns-clause-replaces g c =
     executed (rw c.update_text.ensures at c.execute.ensures)
     (λ contents sees. (
       sees.inside,
-      λ count ran. row_replaced c.args.table c.requires.changes (bound c.args.values.now) c.requires.kinds (state g.S.Store c.args.tx.now.conn.now) (state g.S.Store c.execute.new.tx.conn.now) (Ok count) (λ inside. ran) contents sees,
+      λ count ran. row_replaced c.args.table c.requires.changes (bound c.args.values.now) c.requires.kinds (state g.S.Store c.args.tx.now.conn.now)
+          (state g.S.Store c.execute.new.tx.conn.now) (Ok count) (λ inside. ran) contents sees,
     ))
 
 pub returns-clause-told : goal.returns-clause-told

@@ -11,7 +11,8 @@ returns-clause-sets g c =
     executed (rw c.set_text.ensures at c.execute.ensures)
     (λ contents sees. (
       sees.inside,
-      λ count ran. value_set_there c.args.setting (bound c.args.values.now) c.requires.kind (state g.S.Store c.args.tx.now.conn.now) (state g.S.Store c.execute.new.tx.conn.now) (Ok count) (λ inside. ran) contents sees,
+      λ count ran. value_set_there c.args.setting (bound c.args.values.now) c.requires.kind (state g.S.Store c.args.tx.now.conn.now)
+          (state g.S.Store c.execute.new.tx.conn.now) (Ok count) (λ inside. ran) contents sees,
     ))
 
 pub returns-clause-told : goal.returns-clause-told

@@ -15,7 +15,8 @@ returns-clause-run g c clean contents at =
     let high = to_z-of_z w64 c.args.high (search rules) in
     let rests = at (c.rows_between.ensures.reads.was_open clean (c.in_ok-rows.ensures.opens clean)) in
     run_read g.E.Entries.TABLE c.args.low c.args.high contents old rests c.in_ok-rows.rows.items
-    (rw (c.TABLE.ensures, low, high) at (c.in_ok-rows.ensures.shows clean old.now (rw c.TABLE.ensures (begins_to g.E.Entries.TABLE old.now.schema (office_of contents old rests).begins)) (rests_at contents old rests)))
+    (rw (c.TABLE.ensures, low, high) at (c.in_ok-rows.ensures.shows clean old.now (rw c.TABLE.ensures (begins_to g.E.Entries.TABLE old.now.schema (office_of contents old rests).begins))
+    (rests_at contents old rests)))
     _ (rw c.deref.ensures.value at c.in_ok-entries.ensures.reads)
 
 pub returns-clause-are : goal.returns-clause-are
@@ -25,7 +26,8 @@ returns-clause-are g c clean contents at =
     let high = to_z-of_z w64 c.args.high (search rules) in
     let rests = at (c.rows_between.ensures.reads.was_open clean (c.in_ok-rows.ensures.opens clean)) in
     all_in_table g.E.Entries.TABLE c.args.low c.args.high contents old rests c.in_ok-rows.rows.items
-    (rw (c.TABLE.ensures, low, high) at (c.in_ok-rows.ensures.shows clean old.now (rw c.TABLE.ensures (begins_to g.E.Entries.TABLE old.now.schema (office_of contents old rests).begins)) (rests_at contents old rests)))
+    (rw (c.TABLE.ensures, low, high) at (c.in_ok-rows.ensures.shows clean old.now (rw c.TABLE.ensures (begins_to g.E.Entries.TABLE old.now.schema (office_of contents old rests).begins))
+    (rests_at contents old rests)))
     _ (rw c.deref.ensures.value at c.in_ok-entries.ensures.reads)
 
 pub returns-in_err-entries-clause-cause : goal.returns-in_err-entries-clause-cause
@@ -38,7 +40,8 @@ returns-in_err-entries-clause-cause g c clean contents at all =
     rw (p.1, p.2) (elim (rw c.deref.ensures.value at c.in_err-entries.ensures.cause) [
       | inl memory ↦ inl memory
       | inr wrong ↦ absurd (none_other g.E.Entries.TABLE c.args.low c.args.high contents old rests c.in_ok-rows.rows.items
-          (rw (c.TABLE.ensures, low, high) at (c.in_ok-rows.ensures.shows clean old.now (rw c.TABLE.ensures (begins_to g.E.Entries.TABLE old.now.schema (office_of contents old rests).begins)) (rests_at contents old rests)))
+          (rw (c.TABLE.ensures, low, high) at (c.in_ok-rows.ensures.shows clean old.now
+          (rw c.TABLE.ensures (begins_to g.E.Entries.TABLE old.now.schema (office_of contents old rests).begins)) (rests_at contents old rests)))
           g.E.Entries.is_row all wrong.1)
     ])
 

@@ -7,7 +7,8 @@ use Rattle.tables.proofs.runs.find_rowid.Goals as goal
 
 pub returns-clause-there : goal.returns-clause-there
 returns-clause-there g c clean many db begins rests =
-    if_stands_at c.args.table (bound c.args.key.now) db c.in_ok-rows.rows.items c.in_ok-id.id (c.in_ok-rows.ensures.shows clean many db begins rests) (rw c.deref.ensures.value at c.in_ok-id.ensures.id)
+    if_stands_at c.args.table (bound c.args.key.now) db c.in_ok-rows.rows.items c.in_ok-id.id (c.in_ok-rows.ensures.shows clean many db begins rests)
+    (rw c.deref.ensures.value at c.in_ok-id.ensures.id)
 
 pub returns-in_err-rows-clause-fails : goal.returns-in_err-rows-clause-fails
 returns-in_err-rows-clause-fails g c clean many contents at kinds =

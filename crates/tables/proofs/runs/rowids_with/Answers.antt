@@ -9,7 +9,8 @@ use Rattle.tables.proofs.runs.rowids_with.Goals as goal
 
 pub returns-clause-shows : goal.returns-clause-shows
 returns-clause-shows g c clean many db begins rests =
-    if_rowid_shown c.args.table (bound c.args.key.now) (mapped_length _ c.args.key.now ∙ many) db begins (state g.S.Store c.args.conn.now) (state g.S.Store c.query.new.conn) (λ rows. rows.items) c.query.result rests
+    if_rowid_shown c.args.table (bound c.args.key.now) (mapped_length _ c.args.key.now ∙ many) db begins (state g.S.Store c.args.conn.now)
+    (state g.S.Store c.query.new.conn) (λ rows. rows.items) c.query.result rests
     (rw c.select_rowid_text.ensures at (c.query.ensures.shown clean))
 
 pub returns-clause-opens : goal.returns-clause-opens

@@ -13,7 +13,8 @@ returns-then-branch-clause-body g c =
     let within : c.min-front.result ≤ length c.args.behind.now = search rules in
     let begins : take (length (take c.min-front.result c.args.behind.now)) buffer ≡ take c.min-front.result c.args.behind.now = search rules in
     let own = ap (λ n. take n buffer) (length-take-le c.min-front.result c.args.behind.now within) in
-    body_in-whole _ _ _ c.fill.new.room _ c.min-front.result c.args.size (back_filled _ _ _ _ _ c.args.size _ len full fits (sym own ∙ begins)) within fits (one_of_min _ _ _ c.min-front.ensures) (c.in_ok-fill.ensures.full c.if-branch.true)
+    body_in-whole _ _ _ c.fill.new.room _ c.min-front.result c.args.size (back_filled _ _ _ _ _ c.args.size _ len full fits (sym own ∙ begins)) within fits
+    (one_of_min _ _ _ c.min-front.ensures) (c.in_ok-fill.ensures.full c.if-branch.true)
 
 pub returns-else-branch-clause-body : goal.returns-else-branch-clause-body
 returns-else-branch-clause-body g c =

@@ -7,7 +7,8 @@ use Rattle.wire.proofs.serving.serve_one.Goals as goal
 
 pub returns-in-Ok-clause-served : goal.returns-in-Ok-clause-served
 returns-in-Ok-clause-served g c = λ clean open_before s at.
-    Serves-asked (settings_entry c.args.settings) (g.R.Source.held c.args.reader.now) (g.W.Sink.taken c.args.writer.now) (g.W.Sink.taken c.respond.new.writer) s (http_request_entry c.in-Ok.asked) c.respond.result
+    Serves-asked (settings_entry c.args.settings) (g.R.Source.held c.args.reader.now) (g.W.Sink.taken c.args.writer.now) (g.W.Sink.taken c.respond.new.writer) s
+    (http_request_entry c.in-Ok.asked) c.respond.result
     c.respond.new.office.closed (state g.S.Store c.respond.new.office.held) c.in-Ok.ensures.asks (c.respond.ensures.served clean open_before s at)
 
 pub returns-in-Ok-clause-read_failed : goal.returns-in-Ok-clause-read_failed
@@ -24,15 +25,18 @@ returns-in-Ok-clause-write_failed g c = OnWriteFailed-both c.respond.result _ _ 
 
 pub returns-in-Ok-clause-closed_served : goal.returns-in-Ok-clause-closed_served
 returns-in-Ok-clause-closed_served g c = λ closed.
-    ServesClosed-asked (settings_entry c.args.settings) (g.R.Source.held c.args.reader.now) (g.W.Sink.taken c.args.writer.now) (g.W.Sink.taken c.respond.new.writer) (http_request_entry c.in-Ok.asked) c.respond.result
+    ServesClosed-asked (settings_entry c.args.settings) (g.R.Source.held c.args.reader.now) (g.W.Sink.taken c.args.writer.now) (g.W.Sink.taken c.respond.new.writer)
+    (http_request_entry c.in-Ok.asked) c.respond.result
     c.in-Ok.ensures.asks (c.respond.ensures.closed_served closed)
 
 -- memory ran out for it
 pub returns-in-Err-Memory-clause-served : goal.returns-in-Err-Memory-clause-served
 returns-in-Err-Memory-clause-served g c = λ clean open_before s at.
-    Serves-memory (settings_entry c.args.settings) (g.R.Source.held c.args.reader.now) (g.W.Sink.taken c.args.writer.now) (g.W.Sink.taken c.tell_no_memory.new.writer) s c.tell_no_memory.result c.args.office.now.closed
+    Serves-memory (settings_entry c.args.settings) (g.R.Source.held c.args.reader.now) (g.W.Sink.taken c.args.writer.now)
+    (g.W.Sink.taken c.tell_no_memory.new.writer) s c.tell_no_memory.result c.args.office.now.closed
     (state g.S.Store c.args.office.now.held) (record { is_open = open_before; at = at }) c.tell_no_memory.ensures.told
 
 pub returns-in-Err-Memory-clause-closed_served : goal.returns-in-Err-Memory-clause-closed_served
 returns-in-Err-Memory-clause-closed_served g c = λ closed.
-    ServesClosed-memory (settings_entry c.args.settings) (g.R.Source.held c.args.reader.now) (g.W.Sink.taken c.args.writer.now) (g.W.Sink.taken c.tell_no_memory.new.writer) c.tell_no_memory.result c.tell_no_memory.ensures.told
+    ServesClosed-memory (settings_entry c.args.settings) (g.R.Source.held c.args.reader.now) (g.W.Sink.taken c.args.writer.now)
+    (g.W.Sink.taken c.tell_no_memory.new.writer) c.tell_no_memory.result c.tell_no_memory.ensures.told

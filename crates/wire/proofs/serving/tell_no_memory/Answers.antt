@@ -3,4 +3,5 @@ use Rattle.wire.proofs.ServingLemmas.{IsServed-put}
 use Rattle.wire.proofs.serving.tell_no_memory.Goals as goal
 
 pub returns-clause-told : goal.returns-clause-told
-returns-clause-told g c = IsServed-put _ (g.W.Sink.taken c.args.writer.now) (g.W.Sink.taken c.write_response.new.writer) c.no_memory.result c.write_response.result c.no_memory.ensures c.write_response.ensures.puts
+returns-clause-told g c = IsServed-put _ (g.W.Sink.taken c.args.writer.now) (g.W.Sink.taken c.write_response.new.writer) c.no_memory.result
+    c.write_response.result c.no_memory.ensures c.write_response.ensures.puts

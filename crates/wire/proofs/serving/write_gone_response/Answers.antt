@@ -3,4 +3,5 @@ use Rattle.wire.proofs.ServingLemmas.{IsServed-put}
 use Rattle.wire.proofs.serving.write_gone_response.Goals as goal
 
 pub returns-clause-told : goal.returns-clause-told
-returns-clause-told g c = IsServed-put _ (g.W.Sink.taken c.args.writer.now) (g.W.Sink.taken c.write_response.new.writer) c.gone.result c.write_response.result c.gone.ensures c.write_response.ensures.puts
+returns-clause-told g c = IsServed-put _ (g.W.Sink.taken c.args.writer.now) (g.W.Sink.taken c.write_response.new.writer) c.gone.result c.write_response.result
+    c.gone.ensures c.write_response.ensures.puts

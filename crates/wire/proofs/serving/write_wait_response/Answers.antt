@@ -2,6 +2,6 @@
 use Rattle.wire.proofs.ServingLemmas.{IsServed-put}
 use Rattle.wire.proofs.serving.write_wait_response.Goals as goal
 
--- the name of this goal is a guess: nothing has checked it yet
 pub returns-clause-told : goal.returns-clause-told
-returns-clause-told g c = IsServed-put _ (g.W.Sink.taken c.args.writer.now) (g.W.Sink.taken c.write_response.new.writer) c.waits.result c.write_response.result c.waits.ensures c.write_response.ensures.puts
+returns-clause-told g c = IsServed-put _ (g.W.Sink.taken c.args.writer.now) (g.W.Sink.taken c.write_response.new.writer) c.waits.result c.write_response.result
+    c.waits.ensures c.write_response.ensures.puts

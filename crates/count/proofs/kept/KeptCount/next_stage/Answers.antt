@@ -19,7 +19,8 @@ use Rattle.count.proofs.kept.KeptCount.next_stage.Goals.{In_ok-places-in-Some}
 pub returns-in-None-clause-some : goal.returns-in-None-clause-some
 returns-in-None-clause-some c contest history kept =
     let none : None ≡ next_action contest c.args.lots.now history =
-    kept-tells (λ k h. next_action k c.args.lots.now h) None c.self.inside.terms c.self.inside.bundles c.self.inside.places.items c.self.inside.stages.items c.deref.result.now c.args.self.now contest history
+    kept-tells (λ k h. next_action k c.args.lots.now h) None c.self.inside.terms c.self.inside.bundles c.self.inside.places.items c.self.inside.stages.items
+    c.deref.result.now c.args.self.now contest history
     c.self.view_is c.deref.ensures.value c.self.invariant c.in-None.ensures kept in
     (λ nothing. absurd (cc), λ some. subst (λ (o : Option Action). IsSome o) (sym none) some)
 
@@ -27,7 +28,8 @@ returns-in-None-clause-some c contest history kept =
 pub returns-in_ok-places-in-Some-clause-some : goal.returns-in_ok-places-in-Some-clause-some
 returns-in_ok-places-in-Some-clause-some c contest history kept =
     let one : Some c.in-Some.action ≡ next_action contest c.args.lots.now history =
-    kept-tells (λ k h. next_action k c.args.lots.now h) (Some c.in-Some.action) c.self.inside.terms c.self.inside.bundles c.self.inside.places.items c.self.inside.stages.items c.deref.result.now c.args.self.now contest history
+    kept-tells (λ k h. next_action k c.args.lots.now h) (Some c.in-Some.action) c.self.inside.terms c.self.inside.bundles c.self.inside.places.items
+    c.self.inside.stages.items c.deref.result.now c.args.self.now contest history
     c.self.view_is c.deref.ensures.value c.self.invariant c.in-Some.ensures kept in
     (λ found. subst (λ (o : Option Action). IsSome o) one refl, λ some. refl)
 
@@ -47,5 +49,6 @@ returns-in_ok-places-in-Some-clause-is c contest history kept =
     c.self.inside.stages.items c.in_ok-places-in-Some.stages.items c.in-Some.action c.self.invariant (subst (IsKeptOf contest history) (sym c.self.view_is) kept)
     (λ papers. c.in-Some.ensures papers ∙ ap (λ (l : List Stage). next_action (contest_of c.self.inside.terms papers) c.args.lots.now (reverse l)) c.deref.ensures.value)
     (λ due. c.in_ok-places-in-Some.ensures.places (lent c due))
-    (λ due. subst (λ (l : List Stage). Adds on (reverse l) c.in-Some.action (reverse c.in_ok-places-in-Some.stages.items)) c.deref-in-Some-2.ensures.value (c.in_ok-places-in-Some.ensures.stage (lent c due))) in
+    (λ due. subst (λ (l : List Stage). Adds on (reverse l) c.in-Some.action (reverse c.in_ok-places-in-Some.stages.items)) c.deref-in-Some-2.ensures.value
+    (c.in_ok-places-in-Some.ensures.stage (lent c due))) in
     (next.0 ∙ ap (λ (k : CountKept). places_after contest (with_next contest c.args.lots.now history) k.bundles) c.self.view_is, next.1)

@@ -8,7 +8,8 @@ use Rattle.count_office.proofs.side_jobs.LocalJobsSideJobs.copy.Goals as goal
 
 pub returns-in-Err-clause-told : goal.returns-in-Err-clause-told
 returns-in-Err-clause-told g c =
-    failure_told g.O.Sink.taken g.O.Sink.failed g.E.Sink.taken g.E.Sink.failed (state g.S.Store) c.args.office.now c.args.office.now c.args.out.now c.args.err.now c.tell_failure.new.err (Office Memory) c.tell_failure.result
+    failure_told g.O.Sink.taken g.O.Sink.failed g.E.Sink.taken g.E.Sink.failed (state g.S.Store) c.args.office.now c.args.office.now c.args.out.now c.args.err.now c.tell_failure.new.err
+    (Office Memory) c.tell_failure.result
     c.tell_failure.ensures
 
 pub returns-in-Err-clause-stays : goal.returns-in-Err-clause-stays

@@ -16,18 +16,27 @@ returns-in-Ok-clause-copies g c clean is_open s at =
 
 pub returns-in-Err-Office-clause-copies : goal.returns-in-Err-Office-clause-copies
 returns-in-Err-Office-clause-copies g c clean is_open s at =
-    let here = subst (λ (o : OfficeValue _). IsAt s (state g.S.Store o.held)) (sym c.self.view_is) at in
-    (rw c.in-Err-Office.field-0-is at (c.in-Err-Office.ensures.kept clean s here), left_reading s _ (state g.S.Store c.self.inside.store) (state g.S.Store c.copy_to.new.self) c.copy_to.ensures.reads clean here)
+    let here = subst (λ (o : OfficeValue _). IsAt s (state g.S.Store o.held)) (sym c.self.view_is) at in (
+      rw c.in-Err-Office.field-0-is at (c.in-Err-Office.ensures.kept clean s here),
+      left_reading s _ (state g.S.Store c.self.inside.store)
+          (state g.S.Store c.copy_to.new.self) c.copy_to.ensures.reads clean here,
+    )
 
 pub returns-in-Err-Taken-clause-copies : goal.returns-in-Err-Taken-clause-copies
 returns-in-Err-Taken-clause-copies g c clean is_open s at =
-    let here = subst (λ (o : OfficeValue _). IsAt s (state g.S.Store o.held)) (sym c.self.view_is) at in
-    (rw c.in-Err-Taken.field-0-is at (c.in-Err-Taken.ensures.kept clean s here), left_reading s c.self.inside.closed (state g.S.Store c.self.inside.store) (state g.S.Store c.copy_to.new.self) c.copy_to.ensures.reads clean here)
+    let here = subst (λ (o : OfficeValue _). IsAt s (state g.S.Store o.held)) (sym c.self.view_is) at in (
+      rw c.in-Err-Taken.field-0-is at (c.in-Err-Taken.ensures.kept clean s here),
+      left_reading s c.self.inside.closed (state g.S.Store c.self.inside.store)
+          (state g.S.Store c.copy_to.new.self) c.copy_to.ensures.reads clean here,
+    )
 
 pub returns-in-Err-Copy-clause-copies : goal.returns-in-Err-Copy-clause-copies
 returns-in-Err-Copy-clause-copies g c clean is_open s at =
-    let here = subst (λ (o : OfficeValue _). IsAt s (state g.S.Store o.held)) (sym c.self.view_is) at in
-    (rw c.in-Err-Copy.field-0-is at (c.in-Err-Copy.ensures.kept clean s here), left_reading s c.self.inside.closed (state g.S.Store c.self.inside.store) (state g.S.Store c.copy_to.new.self) c.copy_to.ensures.reads clean here)
+    let here = subst (λ (o : OfficeValue _). IsAt s (state g.S.Store o.held)) (sym c.self.view_is) at in (
+      rw c.in-Err-Copy.field-0-is at (c.in-Err-Copy.ensures.kept clean s here),
+      left_reading s c.self.inside.closed (state g.S.Store c.self.inside.store)
+          (state g.S.Store c.copy_to.new.self) c.copy_to.ensures.reads clean here,
+    )
 
 pub returns-in-Err-Office-clause-cause : goal.returns-in-Err-Office-clause-cause
 returns-in-Err-Office-clause-cause g c clean is_open s at opened blank =

@@ -13,6 +13,8 @@ returns-in-Err-clause-reads g c clean is_open s at =
 pub returns-clause-reads : goal.returns-clause-reads
 returns-clause-reads g c clean is_open s at =
     let before = subst (λ h. HasCleanDisk (state g.S.Store h)) c.index_of.ensures.held clean in
-    index_read c.args.title.now s c.in-Ok.overviews c.index_of.result c.wards.new.self.closed c.index_of.new.self.closed (state g.S.Store c.wards.new.self.held) (state g.S.Store c.index_of.new.self.held)
-    (c.in-Ok.ensures.reads before is_open s at) (λ here. subst (λ h. IsAt s (state g.S.Store h)) (sym c.index_of.ensures.held) here) (rw c.deref.ensures.value at c.index_of.ensures.told) c.index_of.ensures.stopped
+    index_read c.args.title.now s c.in-Ok.overviews c.index_of.result c.wards.new.self.closed c.index_of.new.self.closed (state g.S.Store c.wards.new.self.held)
+    (state g.S.Store c.index_of.new.self.held)
+    (c.in-Ok.ensures.reads before is_open s at) (λ here. subst (λ h. IsAt s (state g.S.Store h)) (sym c.index_of.ensures.held) here)
+    (rw c.deref.ensures.value at c.index_of.ensures.told) c.index_of.ensures.stopped
     c.index_of.ensures.open_still

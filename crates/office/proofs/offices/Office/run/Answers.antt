@@ -28,7 +28,8 @@ returns-in-Err-clause-fault g c clean is_open s at =
     let r = c.request-item.result in
     let st = state g.S.Store c.handle.new.self.held in
     let here_s = after s (take i rs) in
-    let handled = subst (λ id. Handled here_s (step here_s r.actor id r.command) (Err c.in-Err.fault) c.handle.new.self.closed st) c.as_str.ensures.value (c.in-Err.ensures.handled clean here.is_open here_s here.at) in
+    let handled = subst (λ id. Handled here_s (step here_s r.actor id r.command) (Err c.in-Err.fault) c.handle.new.self.closed st) c.as_str.ensures.value
+    (c.in-Err.ensures.handled clean here.is_open here_s here.at) in
     let stop = stops_after s rs i r c.in-Err.fault c.handle.new.self.closed st (omega arith) c.request-item.is handled in
     let counted : i ≡ vec_len c.stopped-in-Err.result.answers = sym c.loop-request.invariant.count ∙ sym (ap vec_len c.stopped-in-Err.ensures.answers) in
     subst (λ f. IfSome f (StopsAfter s rs (vec_len c.stopped-in-Err.result.answers) c.handle.new.self.closed st)) (sym c.stopped-in-Err.ensures.fault)
@@ -44,7 +45,8 @@ returns-in-Err-clause-headline g c clean is_open earlier at =
     let r = c.request-item.result in
     let st = state g.S.Store c.handle.new.self.held in
     let here_s = after s (take i rs) in
-    let handled = subst (λ id. Handled here_s (step here_s r.actor id r.command) (Err c.in-Err.fault) c.handle.new.self.closed st) c.as_str.ensures.value (c.in-Err.ensures.handled clean here.is_open here_s here.at) in
+    let handled = subst (λ id. Handled here_s (step here_s r.actor id r.command) (Err c.in-Err.fault) c.handle.new.self.closed st) c.as_str.ensures.value
+    (c.in-Err.ensures.handled clean here.is_open here_s here.at) in
     let counted : i ≡ vec_len c.stopped-in-Err.result.answers = sym c.loop-request.invariant.count ∙ sym (ap vec_len c.stopped-in-Err.ensures.answers) in
     subst (λ n. LeavesState st (IsAfterBeginning earlier rs n)) counted (stops_at_beginning earlier rs i r c.in-Err.fault c.handle.new.self.closed st (omega arith) c.request-item.is handled)
 
@@ -59,7 +61,8 @@ loop-request-preserved g c =
     → Handled (after s (take i rs)) (step_of (after s (take i rs)) r) (Ok c.in-Ok-handle.answer) c.handle.new.self.closed st = λ clean is_open s at.
     let here = c.loop-request.invariant.open_at (c.in-Ok-handle.ensures.clean clean) is_open s at in
     let here_s = after s (take i rs) in
-    subst (λ id. Handled here_s (step here_s r.actor id r.command) (Ok c.in-Ok-handle.answer) c.handle.new.self.closed st) c.as_str.ensures.value (c.in-Ok-handle.ensures.handled clean here.is_open here_s here.at) in
+    subst (λ id. Handled here_s (step here_s r.actor id r.command) (Ok c.in-Ok-handle.answer) c.handle.new.self.closed st) c.as_str.ensures.value
+    (c.in-Ok-handle.ensures.handled clean here.is_open here_s here.at) in
     record {
       count = c.put_answer.ensures.count ∙ ap (λ n. n + 1) c.loop-request.invariant.count;
       room = omega arith;

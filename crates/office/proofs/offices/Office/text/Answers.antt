@@ -22,7 +22,8 @@ returns-in-Ok-Some-clause-reads g c clean is_open s at =
     let found : IsSheetFor (option_map (election_of s) (ward_at s c.args.ward)) (Some c.in-Ok-Some.sheet) = rw c.in-Ok-Some.field-0-is at (c.in-Ok-Some.ensures.shows before s here) in
     let still = subst (λ h. IsAt s (state g.S.Store h)) (sym c.read_text.ensures.held) (c.load_sheet.ensures.keeps before s here) in
     sheet_found s c.args.ward c.in-Ok-Some.sheet found (λ w there is.
-    text_read c.args.text (λ e. IsSheetOf e c.in-Ok-Some.sheet) s c.args.ward w c.in-Ok-Some.sheet.counted.ward.phase c.read_text.result c.self.inside.closed c.read_text.new.self.closed (state g.S.Store c.read_text.new.self.held)
+    text_read c.args.text (λ e. IsSheetOf e c.in-Ok-Some.sheet) s c.args.ward w c.in-Ok-Some.sheet.counted.ward.phase c.read_text.result c.self.inside.closed c.read_text.new.self.closed
+    (state g.S.Store c.read_text.new.self.held)
     in_range there (ap (λ (x : WardEntry). x.phase) is.counted_is.ward_is) is opened still c.read_text.ensures.told c.read_text.ensures.open_still (c.read_text.ensures.stopped opened))
 
 pub returns-in-Ok-Some-clause-cause : goal.returns-in-Ok-Some-clause-cause
@@ -31,4 +32,5 @@ returns-in-Ok-Some-clause-cause g c clean is_open s at =
     let before : HasCleanDisk (state g.S.Store c.load_sheet.new.self) = subst (λ h. HasCleanDisk (state g.S.Store h)) c.read_text.ensures.held clean in
     let found : IsSheetFor (option_map (election_of s) (ward_at s c.args.ward)) (Some c.in-Ok-Some.sheet) = rw c.in-Ok-Some.field-0-is at (c.in-Ok-Some.ensures.shows before s here) in
     if_of_memory (state g.S.Store c.args.self.now.held) (state g.S.Store c.read_text.new.self.held) c.read_text.result
-    (sheet_found s c.args.ward c.in-Ok-Some.sheet found (λ w there is. c.read_text.ensures.cause (election_of s w) is (textual_at s c.args.ward w (λ x at_x. c.texts_are_there.ensures s x here.is at_x) there)))
+    (sheet_found s c.args.ward c.in-Ok-Some.sheet found (λ w there is. c.read_text.ensures.cause (election_of s w) is
+    (textual_at s c.args.ward w (λ x at_x. c.texts_are_there.ensures s x here.is at_x) there)))

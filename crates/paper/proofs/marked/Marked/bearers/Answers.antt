@@ -20,14 +20,16 @@ loop-i-preserved c =
           record {
             size = ap length w.bearers-is ∙ length-set c.loop-i.bearers c.from-n.result w.and.result ∙ c.loop-i.invariant.size;
             so_far =
-                AreBearers-more c.as_slice-c-items.result.now c.self.inside.marks c.loop-i.i c.from-n.result c.loop-i.bearers c.if-n-lt-NUMBERS.bearers w.and.result c.loop-i.invariant.so_far c.loop-i-test.true there c.from-n.ensures
+                AreBearers-more c.as_slice-c-items.result.now c.self.inside.marks c.loop-i.i c.from-n.result c.loop-i.bearers c.if-n-lt-NUMBERS.bearers
+                w.and.result c.loop-i.invariant.so_far c.loop-i-test.true there c.from-n.ensures
                 w.if-n-lt-NUMBERS.true c.loop-i.invariant.size w.and.ensures w.bearers-is;
           }
       | else-n-lt-NUMBERS w ↦
           record {
             size = ap length w.bearers-is ∙ c.loop-i.invariant.size;
             so_far =
-                AreBearers-past c.as_slice-c-items.result.now c.self.inside.marks c.loop-i.i c.from-n.result c.loop-i.bearers c.if-n-lt-NUMBERS.bearers c.loop-i.invariant.so_far c.loop-i-test.true there c.from-n.ensures
+                AreBearers-past c.as_slice-c-items.result.now c.self.inside.marks c.loop-i.i c.from-n.result c.loop-i.bearers c.if-n-lt-NUMBERS.bearers
+                c.loop-i.invariant.so_far c.loop-i-test.true there c.from-n.ensures
                 w.if-n-lt-NUMBERS.false w.bearers-is;
           }
     ]

@@ -11,7 +11,8 @@ pub returns : goal.returns
 returns g c =
     loads_as c.in_ok-keyings.ensures
     (λ s is told same.
-    subst (λ (ks : List KeyedEntry). CountAfter g.P.KeepsPapers.holds (λ js. StandFor g.P.KeepsPapers.holds c.args.ballots (ballots_by js)) c.args.columns (map judged_entry c.args.verdicts.items) c.add_each.new.ballots ks)
+    subst (λ (ks : List KeyedEntry). CountAfter g.P.KeepsPapers.holds (λ js. StandFor g.P.KeepsPapers.holds c.args.ballots (ballots_by js)) c.args.columns
+    (map judged_entry c.args.verdicts.items) c.add_each.new.ballots ks)
     (c.agreed.ensures ∙ ap agreed (told.1 same)) (rw c.deref.ensures.value at c.in_ok-add_each.ensures.adds))
 
 pub returns-in_err-add_each : goal.returns-in_err-add_each

@@ -11,4 +11,5 @@ use Rattle.store.proofs.storage.Store.all_receipts.Goals as goal
 pub returns : goal.returns
 returns g c =
     let e = c.entries_beginning.ensures in
-    rw (← c.self.view_is) (loads_entries (λ found. found.items) receipt_entry row_of_receipt receipt_in receipt_back (λ s. s.receipts) all_receipts_listed receipts_fit e.finds e.cause refl e.opens e.reads)
+    rw (← c.self.view_is) (loads_entries (λ found. found.items) receipt_entry row_of_receipt receipt_in receipt_back
+    (λ s. s.receipts) all_receipts_listed receipts_fit e.finds e.cause refl e.opens e.reads)

@@ -30,4 +30,5 @@ pub returns-then-is_err : goal.returns-then-is_err
 returns-then-is_err g c = loads_stopped {f = Memory} refl (loads_both c.loop-clerk.invariant c.in_ok-overview.ensures) (λ s is told. refl)
 
 pub returns : goal.returns
-returns g c = loads_as c.loop-clerk.invariant (λ s is told. told ∙ ap (map (clerk_view_of s (batch_entry c.args.batch.now))) (take_all c.loop-clerk.clerk-index c.args.clerks.now c.loop-clerk-test.false))
+returns g c = loads_as c.loop-clerk.invariant (λ s is told. told ∙ ap (map (clerk_view_of s (batch_entry c.args.batch.now)))
+    (take_all c.loop-clerk.clerk-index c.args.clerks.now c.loop-clerk-test.false))

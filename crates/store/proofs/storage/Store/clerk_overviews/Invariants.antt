@@ -7,4 +7,5 @@ use Rattle.store.specs.Loads.{LoadsAt}
 use Rattle.store.proofs.storage.Store.clerk_overviews.Given as goal
 
 abbrev pub invariant-loop-clerk : goal.invariant-loop-clerk
-invariant-loop-clerk g l = LoadsAt (state g.S.Store l.initial.self) (state g.S.Store l.self) (Ok l.found) (λ s found. map clerk_view found.items ≡ map (clerk_view_of s (batch_entry l.batch)) (take l.clerk-index l.clerks))
+invariant-loop-clerk g l = LoadsAt (state g.S.Store l.initial.self) (state g.S.Store l.self) (Ok l.found)
+    (λ s found. map clerk_view found.items ≡ map (clerk_view_of s (batch_entry l.batch)) (take l.clerk-index l.clerks))

@@ -10,7 +10,8 @@ returns-clause-done g c clean is_open s at tabulated is =
     let change = c.args.change.now in
     let here = subst (λ (h : Held _). IsAt s (state g.S.Store h)) (sym c.self.view_is) at in
     let opened = subst (λ (h : Held _). IsTrue (state g.S.Store h).is_open) (sym c.self.view_is) is_open in
-    if_change_is_at c.commit_change.result change s (state g.S.Store c.commit_change.new.conn) (λ trees now_open may. g.met.S.Store.settled c.commit_change.new.conn.store trees now_open may) tabulated is
+    if_change_is_at c.commit_change.result change s (state g.S.Store c.commit_change.new.conn)
+    (λ trees now_open may. g.met.S.Store.settled c.commit_change.new.conn.store trees now_open may) tabulated is
     (c.commit_change.ensures.done clean (tables_of s) (changed_tables change s) (changes_to change s) (here.rests opened))
 
 pub returns-clause-stops : goal.returns-clause-stops

@@ -7,7 +7,8 @@ use Rattle.store.proofs.storage.Store.contest_part.Goals as goal
 pub returns : goal.returns
 returns g c =
     loads_as (loads_both c.in_ok-part.ensures c.in_ok-candidates.ensures)
-    (λ s is told. let e = told.0 in same_part _ _ (ap (λ p. p.ward) e) (ap (λ p. p.candidate) e) told.1 (ap (λ p. p.batch) e) (ap (λ p. p.third) e) (ap (λ p. p.own) e) (ap (λ p. p.keyings) e) (ap (λ p. p.verdict) e) (ap (λ p. p.poll) e) (ap (λ p. p.due) e) (ap (λ p. p.elected) e))
+    (λ s is told. let e = told.0 in same_part _ _ (ap (λ p. p.ward) e) (ap (λ p. p.candidate) e) told.1 (ap (λ p. p.batch) e) (ap (λ p. p.third) e)
+    (ap (λ p. p.own) e) (ap (λ p. p.keyings) e) (ap (λ p. p.verdict) e) (ap (λ p. p.poll) e) (ap (λ p. p.due) e) (ap (λ p. p.elected) e))
 
 pub returns-in_err-candidates : goal.returns-in_err-candidates
 returns-in_err-candidates g c = loads_cut c.from_residual-in_err-candidates.ensures.1 c.in_ok-part.ensures c.in_err-candidates.ensures

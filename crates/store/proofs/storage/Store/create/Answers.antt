@@ -7,4 +7,5 @@ use Rattle.store.proofs.storage.Store.create.Goals as goal
 
 pub returns-in-Ok-clause-made : goal.returns-in-Ok-clause-made
 returns-in-Ok-clause-made g c clean blank =
-    rests_is_at empty_office (state g.S.Store c.commit_new_office.new.conn) (λ trees is_open may. g.met.S.Store.settled c.commit_new_office.new.conn.store trees is_open may) empty_is_a_state (c.in-Ok.ensures.done clean blank)
+    rests_is_at empty_office (state g.S.Store c.commit_new_office.new.conn) (λ trees is_open may. g.met.S.Store.settled c.commit_new_office.new.conn.store trees is_open may) empty_is_a_state
+    (c.in-Ok.ensures.done clean blank)

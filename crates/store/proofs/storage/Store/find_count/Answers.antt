@@ -24,7 +24,8 @@ returns g c =
     let contest = c.in-Some.contest in
     let it : IsContestAt s c.args.ward (Some contest) = rw c.in-Some.is at told.0 in
     let yes : c.is_contested.result ≡ true = search rules in
-    subst (λ (o : Option WardEntry). IsCountedFor (option_map (election_of s) o) c.in_ok-count.count) (sym it.0) (told.1 it.1 (contested_told s contest _ _ c.deref.ensures.value it.1 c.is_contested.ensures ∙ yes)))
+    subst (λ (o : Option WardEntry). IsCountedFor (option_map (election_of s) o) c.in_ok-count.count) (sym it.0)
+    (told.1 it.1 (contested_told s contest _ _ c.deref.ensures.value it.1 c.is_contested.ensures ∙ yes)))
 
 pub returns-then-is_none : goal.returns-then-is_none
 returns-then-is_none g c =

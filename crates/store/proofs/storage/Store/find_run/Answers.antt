@@ -11,7 +11,8 @@ returns g c =
     loads_as (loads_both c.in_ok-found.ensures c.in_ok-papers.ensures)
     (λ s is told.
     let there : Some (batch_entry c.in-Some.given) ≡ batch_at s c.args.batch = rw c.in-Some.is at told.0 in
-    seen_keying s is a.batch a.round a.clerk (batch_entry c.in-Some.given) (sym there) c.in_ok-papers.papers.items told.1 (rw c.deref.ensures.value at (sym c.is_keying.ensures ∙ c.if-not-is_keying.false)))
+    seen_keying s is a.batch a.round a.clerk (batch_entry c.in-Some.given) (sym there) c.in_ok-papers.papers.items told.1
+    (rw c.deref.ensures.value at (sym c.is_keying.ensures ∙ c.if-not-is_keying.false)))
 
 pub returns-in_err-papers : goal.returns-in_err-papers
 returns-in_err-papers g c = loads_cut c.from_residual-in_err-papers.ensures.1 c.in_ok-found.ensures c.in_err-papers.ensures

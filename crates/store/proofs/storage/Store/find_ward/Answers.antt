@@ -10,4 +10,5 @@ use Rattle.store.proofs.storage.Store.find_ward.Goals as goal
 pub returns : goal.returns
 returns g c =
     let e = c.find_entry.ensures in
-    rw (← c.self.view_is) (loads_entry _ _ _ ward_entry row_of_ward ward_in ward_back (λ s. ward_at s c.args.ward) (λ s is. ward_found s is c.args.ward) (λ s is. ward_fits s is c.args.ward) (rw c.number.ensures at e.found) (rw c.number.ensures at e.cause) refl e.opens e.reads)
+    rw (← c.self.view_is) (loads_entry _ _ _ ward_entry row_of_ward ward_in ward_back (λ s. ward_at s c.args.ward) (λ s is. ward_found s is c.args.ward)
+    (λ s is. ward_fits s is c.args.ward) (rw c.number.ensures at e.found) (rw c.number.ensures at e.cause) refl e.opens e.reads)

@@ -12,4 +12,5 @@ use Rattle.store.proofs.storage.Store.list_batches.Goals as goal
 pub returns : goal.returns
 returns g c =
     let e = c.entries_referring.ensures in
-    rw (← c.self.view_is) (loads_entries (λ found. found.items) batch_entry row_of_batch batch_in batch_back (λ s. batches_of s c.args.ward) (λ s is. batches_listed s is c.args.ward) batches_fit (rw c.number.ensures at e.finds) (rw c.number.ensures at e.cause) refl e.opens e.reads)
+    rw (← c.self.view_is) (loads_entries (λ found. found.items) batch_entry row_of_batch batch_in batch_back (λ s. batches_of s c.args.ward)
+    (λ s is. batches_listed s is c.args.ward) batches_fit (rw c.number.ensures at e.finds) (rw c.number.ensures at e.cause) refl e.opens e.reads)

@@ -12,4 +12,5 @@ use Rattle.store.proofs.storage.Store.list_bundles.Goals as goal
 pub returns : goal.returns
 returns g c =
     let e = c.entries_beginning.ensures in
-    rw (← c.self.view_is) (loads_entries (λ found. found.items) placed_entry row_of_placed bundle_in bundle_back (λ s. bundles_at s c.args.ward) (λ s is. bundles_listed s is c.args.ward) bundles_fit (rw c.number.ensures at e.finds) (rw c.number.ensures at e.cause) refl e.opens e.reads)
+    rw (← c.self.view_is) (loads_entries (λ found. found.items) placed_entry row_of_placed bundle_in bundle_back (λ s. bundles_at s c.args.ward)
+    (λ s is. bundles_listed s is c.args.ward) bundles_fit (rw c.number.ensures at e.finds) (rw c.number.ensures at e.cause) refl e.opens e.reads)

@@ -11,4 +11,6 @@ use Rattle.store.proofs.storage.Store.list_by_key.Goals as goal
 pub returns : goal.returns
 returns g c =
     let e = c.entries_beginning.ensures in
-    rw (← c.self.view_is) (loads_entries (λ found. found.items) keyed_entry row_of_keyed keyed_in keyed_back (λ s. keying_of s c.args.batch c.args.round c.args.clerk) (λ s is. keying_listed s is c.args.batch c.args.round c.args.clerk) keyings_fit (rw (c.number.ensures, c.number-2.ensures, c.number-3.ensures) at e.finds) (rw (c.number.ensures, c.number-2.ensures, c.number-3.ensures) at e.cause) refl e.opens e.reads)
+    rw (← c.self.view_is) (loads_entries (λ found. found.items) keyed_entry row_of_keyed keyed_in keyed_back (λ s. keying_of s c.args.batch c.args.round c.args.clerk)
+    (λ s is. keying_listed s is c.args.batch c.args.round c.args.clerk) keyings_fit (rw (c.number.ensures, c.number-2.ensures, c.number-3.ensures) at e.finds)
+    (rw (c.number.ensures, c.number-2.ensures, c.number-3.ensures) at e.cause) refl e.opens e.reads)

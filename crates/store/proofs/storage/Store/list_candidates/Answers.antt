@@ -11,4 +11,5 @@ use Rattle.store.proofs.storage.Store.list_candidates.Goals as goal
 pub returns : goal.returns
 returns g c =
     let e = c.entries_beginning.ensures in
-    rw (← c.self.view_is) (loads_entries (λ found. found.items) candidate_entry row_of_candidate candidate_in candidate_back (λ s. candidates_of s c.args.ward) (λ s is. candidates_listed s is c.args.ward) candidates_fit (rw c.number.ensures at e.finds) (rw c.number.ensures at e.cause) refl e.opens e.reads)
+    rw (← c.self.view_is) (loads_entries (λ found. found.items) candidate_entry row_of_candidate candidate_in candidate_back (λ s. candidates_of s c.args.ward)
+    (λ s is. candidates_listed s is c.args.ward) candidates_fit (rw c.number.ensures at e.finds) (rw c.number.ensures at e.cause) refl e.opens e.reads)

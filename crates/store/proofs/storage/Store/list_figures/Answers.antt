@@ -12,4 +12,5 @@ use Rattle.store.proofs.storage.Store.list_figures.Goals as goal
 pub returns : goal.returns
 returns g c =
     let e = c.entries_beginning.ensures in
-    rw (← c.self.view_is) (loads_entries (λ found. found.items) figure_entry row_of_figure figure_in figure_back (λ s. figures_at s c.args.ward) (λ s is. figures_listed s is c.args.ward) figures_fit (rw c.number.ensures at e.finds) (rw c.number.ensures at e.cause) refl e.opens e.reads)
+    rw (← c.self.view_is) (loads_entries (λ found. found.items) figure_entry row_of_figure figure_in figure_back (λ s. figures_at s c.args.ward)
+    (λ s is. figures_listed s is c.args.ward) figures_fit (rw c.number.ensures at e.finds) (rw c.number.ensures at e.cause) refl e.opens e.reads)

@@ -11,4 +11,5 @@ use Rattle.store.proofs.storage.Store.list_lots.Goals as goal
 pub returns : goal.returns
 returns g c =
     let e = c.entries_beginning.ensures in
-    rw (← c.self.view_is) (loads_entries (λ found. found.items) lot_entry row_of_lot lot_in lot_back (λ s. lots_of s c.args.ward) (λ s is. lots_listed s is c.args.ward) lots_fit (rw c.number.ensures at e.finds) (rw c.number.ensures at e.cause) refl e.opens e.reads)
+    rw (← c.self.view_is) (loads_entries (λ found. found.items) lot_entry row_of_lot lot_in lot_back (λ s. lots_of s c.args.ward)
+    (λ s is. lots_listed s is c.args.ward) lots_fit (rw c.number.ensures at e.finds) (rw c.number.ensures at e.cause) refl e.opens e.reads)

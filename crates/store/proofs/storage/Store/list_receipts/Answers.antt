@@ -12,4 +12,5 @@ use Rattle.store.proofs.storage.Store.list_receipts.Goals as goal
 pub returns : goal.returns
 returns g c =
     let e = c.entries_beginning.ensures in
-    rw (← c.self.view_is) (loads_entries (λ found. found.items) receipt_entry row_of_receipt receipt_in receipt_back (λ s. receipts_of s (Some c.args.actor)) (λ s is. receipts_listed s is c.args.actor) receipts_fit (rw c.number.ensures at e.finds) (rw c.number.ensures at e.cause) refl e.opens e.reads)
+    rw (← c.self.view_is) (loads_entries (λ found. found.items) receipt_entry row_of_receipt receipt_in receipt_back (λ s. receipts_of s (Some c.args.actor))
+    (λ s is. receipts_listed s is c.args.actor) receipts_fit (rw c.number.ensures at e.finds) (rw c.number.ensures at e.cause) refl e.opens e.reads)

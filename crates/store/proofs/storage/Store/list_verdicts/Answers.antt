@@ -11,4 +11,5 @@ use Rattle.store.proofs.storage.Store.list_verdicts.Goals as goal
 pub returns : goal.returns
 returns g c =
     let e = c.entries_beginning.ensures in
-    rw (← c.self.view_is) (loads_entries (λ found. found.items) judged_entry row_of_judged judged_in judged_back (λ s. verdicts_of s c.args.batch) (λ s is. verdicts_listed s is c.args.batch) verdicts_fit (rw c.number.ensures at e.finds) (rw c.number.ensures at e.cause) refl e.opens e.reads)
+    rw (← c.self.view_is) (loads_entries (λ found. found.items) judged_entry row_of_judged judged_in judged_back (λ s. verdicts_of s c.args.batch)
+    (λ s is. verdicts_listed s is c.args.batch) verdicts_fit (rw c.number.ensures at e.finds) (rw c.number.ensures at e.cause) refl e.opens e.reads)

@@ -24,7 +24,8 @@ returns g c =
     let contest = c.in-Some.contest in
     let it : IsContestAt s c.args.ward (Some contest) = rw c.in-Some.is at told.0 in
     let yes : c.is_in_count.result ≡ true = search rules in
-    subst (λ (o : Option WardEntry). IsSheetFor (option_map (election_of s) o) c.in_ok-sheet.sheet) (sym it.0) (told.1 it.1 (in_count_told s contest _ _ c.deref.ensures.value it.1 c.is_in_count.ensures ∙ yes)))
+    subst (λ (o : Option WardEntry). IsSheetFor (option_map (election_of s) o) c.in_ok-sheet.sheet) (sym it.0)
+    (told.1 it.1 (in_count_told s contest _ _ c.deref.ensures.value it.1 c.is_in_count.ensures ∙ yes)))
 
 pub returns-then-is_none : goal.returns-then-is_none
 returns-then-is_none g c =

@@ -10,4 +10,5 @@ pub returns : goal.returns
 returns g c =
     loads_as c.in_ok-candidates.ensures
     (λ s is told. λ are.
-    pile_told s (batch_entry c.args.batch.now) c.columns_of.result _ _ _ c.in-Ok.ensures (c.columns_of.ensures.is ∙ ap columns_of (ap (map candidate_entry) c.deref.ensures.value ∙ told)) c.agreed-papers.ensures are.they_are (sym c.is_keyed.ensures ∙ c.if-not-is_keyed.false))
+    pile_told s (batch_entry c.args.batch.now) c.columns_of.result _ _ _ c.in-Ok.ensures
+    (c.columns_of.ensures.is ∙ ap columns_of (ap (map candidate_entry) c.deref.ensures.value ∙ told)) c.agreed-papers.ensures are.they_are (sym c.is_keyed.ensures ∙ c.if-not-is_keyed.false))

@@ -37,5 +37,6 @@ returns-then-is_err g c = loads_stopped {f = Memory} refl (loads_both c.loop-bat
 pub returns : goal.returns
 returns g c =
     let road = YieldsList-from_vec c.args.batches.items (search rules) (search rules) in
-    let all : c.loop-batch.yielded ≡ c.args.batches.items = sym (mapped_itself c.loop-batch.yielded) ∙ (YieldsList-end road c.loop-batch.yielded _ c.loop-batch.yielded_by _ c.next.new.self c.in-None.is c.next.ensures.steps).0 in
+    let all : c.loop-batch.yielded ≡ c.args.batches.items = sym (mapped_itself c.loop-batch.yielded) ∙
+    (YieldsList-end road c.loop-batch.yielded _ c.loop-batch.yielded_by _ c.next.new.self c.in-None.is c.next.ensures.steps).0 in
     loads_as c.loop-batch.invariant.reads (λ s is told. told ∙ ap (map (read_view_of s c.args.ward)) (ap (map batch_entry) all))

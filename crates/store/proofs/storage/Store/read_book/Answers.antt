@@ -26,7 +26,8 @@ returns-in-Ok g c =
       bundles_are = told.0 ∙ law.bundles s w is there.0;
       figures_are = told.1 ∙ law.figures s w is there.0;
     } in
-    let found = some_found c.in-Ok.kept ((rw (c.deref-2.ensures.value, c.deref-3.ensures.value) at c.in-Ok.ensures.some) e of) (rw (c.deref-2.ensures.value, c.deref-3.ensures.value) at c.in-Ok.ensures.is) in
+    let found = some_found c.in-Ok.kept ((rw (c.deref-2.ensures.value, c.deref-3.ensures.value) at c.in-Ok.ensures.some) e of)
+    (rw (c.deref-2.ensures.value, c.deref-3.ensures.value) at c.in-Ok.ensures.is) in
     (found.0, found.1, found.2 e of))
 
 pub returns-in_err-figures : goal.returns-in_err-figures

@@ -20,7 +20,8 @@ loop-batch-preserved g c =
     let bs = take k (map batch_entry c.args.batches.now) in
     let js = settled_judgements s c.args.columns bs in
     subst (λ (ls : List Judgement). StandFor g.P.KeepsPapers.holds c.in_ok-ballots.ballots (ballots_by ls))
-    (ap (λ (vs : List JudgedEntry). js ++ judgements_on c.args.columns vs (settled_papers s b)) told.0.1 ∙ (judgements_after s c.args.columns bs b ∙ ap (settled_judgements s c.args.columns) (sym next)))
+    (ap (λ (vs : List JudgedEntry). js ++ judgements_on c.args.columns vs (settled_papers s b)) told.0.1 ∙
+    (judgements_after s c.args.columns bs b ∙ ap (settled_judgements s c.args.columns) (sym next)))
     (told.1 js told.0.0))
 
 pub returns-in_err-verdicts : goal.returns-in_err-verdicts
@@ -32,4 +33,5 @@ returns-in_err-ballots g c = loads_cut c.from_residual-in_err-ballots.ensures.1 
 pub returns : goal.returns
 returns g c =
     loads_as c.loop-batch.invariant
-    (λ s is told. subst (λ (bs : List BatchEntry). StandFor g.P.KeepsPapers.holds c.loop-batch.ballots (ballots_by (settled_judgements s c.args.columns bs))) (entries_all batch_entry c.args.batches.now _ c.loop-batch-test.false) told)
+    (λ s is told. subst (λ (bs : List BatchEntry). StandFor g.P.KeepsPapers.holds c.loop-batch.ballots (ballots_by (settled_judgements s c.args.columns bs)))
+    (entries_all batch_entry c.args.batches.now _ c.loop-batch-test.false) told)

@@ -7,4 +7,5 @@ use Rattle.store.specs.Loads.{LoadsAt}
 use Rattle.store.proofs.storage.Store.settled_ballots.Given as goal
 
 abbrev pub invariant-loop-batch : goal.invariant-loop-batch
-invariant-loop-batch g l = LoadsAt (state g.S.Store l.initial.self) (state g.S.Store l.self) (Ok l.ballots) (λ s ballots. StandFor g.P.KeepsPapers.holds ballots (ballots_by (settled_judgements s l.columns (take l.batch-index (map batch_entry l.batches)))))
+invariant-loop-batch g l = LoadsAt (state g.S.Store l.initial.self) (state g.S.Store l.self) (Ok l.ballots)
+    (λ s ballots. StandFor g.P.KeepsPapers.holds ballots (ballots_by (settled_judgements s l.columns (take l.batch-index (map batch_entry l.batches)))))

@@ -12,7 +12,8 @@ returns g c =
     (λ s is told.
     let e = told.1 in
     let there : Some (batch_entry c.in-Some.batch) ≡ batch_at s c.args.batch = rw c.in-Some.is at told.0.0 in
-    same_part _ _ (ap (λ p. p.ward) e ∙ ap (ward_for s) there) (ap (λ p. p.candidate) e) (ap (λ p. p.candidates) e) there (told.0.1.0 ∙ ap (third_for s) there) (ap (λ p. p.own) e) (told.0.1.1 ∙ ap (keyings_for s) there) (ap (λ p. p.verdict) e) (ap (λ p. p.poll) e) (ap (λ p. p.due) e) (ap (λ p. p.elected) e))
+    same_part _ _ (ap (λ p. p.ward) e ∙ ap (ward_for s) there) (ap (λ p. p.candidate) e) (ap (λ p. p.candidates) e) there (told.0.1.0 ∙ ap (third_for s) there)
+    (ap (λ p. p.own) e) (told.0.1.1 ∙ ap (keyings_for s) there) (ap (λ p. p.verdict) e) (ap (λ p. p.poll) e) (ap (λ p. p.due) e) (ap (λ p. p.elected) e))
 
 pub returns-in_err-third_clerk : goal.returns-in_err-third_clerk
 returns-in_err-third_clerk g c = loads_cut c.from_residual-in_err-third_clerk.ensures.1 c.in_ok-found.ensures c.in_err-third_clerk.ensures

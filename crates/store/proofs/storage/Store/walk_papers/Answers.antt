@@ -25,7 +25,9 @@ returns g c =
     let e = c.in_ok-counted.ensures in
     let b = c.args.batch.now in
     rw (← c.self.view_is) (loads_as {x = c.in_ok-counted.counted}
-    (loads_walked {visitor = record { ballots = c.args.ballots; columns = c.args.columns; verdicts = c.args.verdicts; start = _ }} (HasCounted g) keyed_entry row_of_keyed keyed_in keyed_back (λ s. keying_of s b.number b.round (lower_clerk (batch_entry b))) (λ s is. keying_listed s is b.number b.round (lower_clerk (batch_entry b)))
+    (loads_walked {visitor = record { ballots = c.args.ballots; columns = c.args.columns; verdicts = c.args.verdicts; start = _ }}
+    (HasCounted g) keyed_entry row_of_keyed keyed_in keyed_back (λ s. keying_of s b.number b.round (lower_clerk (batch_entry b)))
+    (λ s is. keying_listed s is b.number b.round (lower_clerk (batch_entry b)))
     (rw (c.number.ensures, c.number-2.ensures, c.number-3.ensures, c.lower_clerk.ensures) at e.finds) e.opens e.reads
     (c.requires.columns, c.requires.verdicts, count_none g.P.KeepsPapers.holds g.B.Start.were_counted g.B.Start.columns g.B.Start.verdicts c.args.ballots c.requires.start))
     (λ s is told.

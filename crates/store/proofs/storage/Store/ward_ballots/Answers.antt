@@ -19,7 +19,8 @@ returns-then-in_count g c =
     loads_as (loads_both c.in_ok-batches.ensures (rw c.deref.ensures.value at c.in_ok-settled.ensures))
     (λ s is told counted.
     subst (λ (entry : BallotsEntry). StandFor g.P.KeepsPapers.holds c.in_ok-settled.settled entry)
-    (ap (λ (bs : List BatchEntry). ballots_by (settled_judgements s c.args.columns bs)) told.0 ∙ counted_alone c.settled_papers_suffice.ensures s is c.args.ward c.args.columns (counted c.if-in_count.true)) told.1)
+    (ap (λ (bs : List BatchEntry). ballots_by (settled_judgements s c.args.columns bs)) told.0 ∙ counted_alone c.settled_papers_suffice.ensures s is c.args.ward c.args.columns
+    (counted c.if-in_count.true)) told.1)
 
 pub returns-in_err-settled : goal.returns-in_err-settled
 returns-in_err-settled g c = loads_cut c.from_residual-in_err-settled.ensures.1 c.in_ok-batches.ensures c.in_err-settled.ensures

@@ -24,7 +24,8 @@ loop-ward-preserved g c =
       reads = loads_as (loads_both c.loop-ward.invariant.reads c.in_ok-overview.ensures)
           (λ s is told. λ same.
           ap (map ward_view) grown
-          ∙ mapped_more ward_view (λ (w : Ward). ward_view_of s (ward_entry w)) c.loop-ward.found.items c.in_ok-overview.overview c.loop-ward.yielded c.in-Some.ward (told.0 same) (told.1 (ward_there s is c.args.wards.items same (length c.loop-ward.yielded) c.in-Some.ward turn.0 turn.1)));
+          ∙ mapped_more ward_view (λ (w : Ward). ward_view_of s (ward_entry w)) c.loop-ward.found.items c.in_ok-overview.overview c.loop-ward.yielded c.in-Some.ward
+          (told.0 same) (told.1 (ward_there s is c.args.wards.items same (length c.loop-ward.yielded) c.in-Some.ward turn.0 turn.1)));
     }
 
 pub returns-in_err-overview : goal.returns-in_err-overview
@@ -36,7 +37,8 @@ returns-then-is_err g c = loads_stopped {f = Memory} refl (loads_both c.loop-war
 pub returns : goal.returns
 returns g c =
     let road = YieldsList-from_vec c.args.wards.items (search rules) (search rules) in
-    let all : c.loop-ward.yielded ≡ c.args.wards.items = sym (mapped_itself c.loop-ward.yielded) ∙ (YieldsList-end road c.loop-ward.yielded _ c.loop-ward.yielded_by _ c.next.new.self c.in-None.is c.next.ensures.steps).0 in
+    let all : c.loop-ward.yielded ≡ c.args.wards.items = sym (mapped_itself c.loop-ward.yielded) ∙
+    (YieldsList-end road c.loop-ward.yielded _ c.loop-ward.yielded_by _ c.next.new.self c.in-None.is c.next.ensures.steps).0 in
     loads_as c.loop-ward.invariant.reads
     (λ s is told. λ same.
     told same ∙ ap (map (λ (w : Ward). ward_view_of s (ward_entry w))) all ∙ sym (mapped_twice ward_entry (ward_view_of s) c.args.wards.items) ∙ ap (map (ward_view_of s)) same)

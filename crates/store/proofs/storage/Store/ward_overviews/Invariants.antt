@@ -10,5 +10,6 @@ use Rattle.store.proofs.storage.Store.ward_overviews.Given as goal
 abbrev pub invariant-loop-ward : goal.invariant-loop-ward
 invariant-loop-ward g l = record {
   goes : (goal.iterator-loop-ward g).can_next l.ward-iterator × (goal.iterator-loop-ward g).is_finite l.ward-iterator;
-  reads : LoadsAt (state g.S.Store l.initial.self) (state g.S.Store l.self) (Ok l.found) (λ s found. map ward_entry l.fn.wards.items ≡ s.wards → map ward_view found.items ≡ map (λ (w : Ward). ward_view_of s (ward_entry w)) l.yielded);
+  reads : LoadsAt (state g.S.Store l.initial.self) (state g.S.Store l.self) (Ok l.found) (λ s found. map ward_entry l.fn.wards.items ≡ s.wards
+      → map ward_view found.items ≡ map (λ (w : Ward). ward_view_of s (ward_entry w)) l.yielded);
 }

@@ -15,10 +15,12 @@ pub returns-in_err-add_both-2 : goal.returns-in_err-add_both-2
 returns-in_err-add_both-2 g c = alters_cut c.from_residual-in_err-add_both-2.ensures.1 (alters_after c.in_ok-write_new_office.ensures c.in_ok-add_both.ensures) c.in_err-add_both-2.ensures
 
 pub returns-in_err-add_both-3 : goal.returns-in_err-add_both-3
-returns-in_err-add_both-3 g c = alters_cut c.from_residual-in_err-add_both-3.ensures.1 (alters_after (alters_after c.in_ok-write_new_office.ensures c.in_ok-add_both.ensures) c.in_ok-add_both-2.ensures) c.in_err-add_both-3.ensures
+returns-in_err-add_both-3 g c = alters_cut c.from_residual-in_err-add_both-3.ensures.1
+    (alters_after (alters_after c.in_ok-write_new_office.ensures c.in_ok-add_both.ensures) c.in_ok-add_both-2.ensures) c.in_err-add_both-3.ensures
 
 pub returns-in_err-add_both-4 : goal.returns-in_err-add_both-4
-returns-in_err-add_both-4 g c = alters_cut c.from_residual-in_err-add_both-4.ensures.1 (alters_after (alters_after (alters_after c.in_ok-write_new_office.ensures c.in_ok-add_both.ensures) c.in_ok-add_both-2.ensures) c.in_ok-add_both-3.ensures) c.in_err-add_both-4.ensures
+returns-in_err-add_both-4 g c = alters_cut c.from_residual-in_err-add_both-4.ensures.1
+    (alters_after (alters_after (alters_after c.in_ok-write_new_office.ensures c.in_ok-add_both.ensures) c.in_ok-add_both-2.ensures) c.in_ok-add_both-3.ensures) c.in_err-add_both-4.ensures
 
 pub returns : goal.returns
 returns g c =

@@ -15,7 +15,8 @@ returns-in_err-replace_entries g c = alters_failed c.from_residual.ensures.1 c.i
 pub returns : goal.returns
 returns g c =
     let a = c.args.addition.now in
-    let moved = alters_same {from = λ (x : OfficeState × TabulationEntries). tables_with x.0 x.1} {to = λ x. tables_with x.0 (with_moved a.moved.items x.1)} (rw c.deref.ensures.value at c.in_ok-replace_entries.ensures)
+    let moved = alters_same {from = λ (x : OfficeState × TabulationEntries). tables_with x.0 x.1} {to = λ x. tables_with x.0 (with_moved a.moved.items x.1)}
+    (rw c.deref.ensures.value at c.in_ok-replace_entries.ensures)
     (λ x. bundles_moved x.0 x.1 a.moved.items) in
     alters_both moved (rw (c.deref-2.ensures.value, c.deref-3.ensures.value) at c.add_both.ensures)
     (λ x was sees. (

@@ -10,7 +10,8 @@ use Rattle.wire.proofs.parsed.Parsed.asked.Goals as goal
 
 pub returns-in-Head : goal.returns-in-Head
 returns-in-Head c = λ parsed.
-    asks_result (settings_entry c.args.settings) c.args.got.now c.in-Head.head c.min.result _ c.asked_with.result c.min.ensures (rest_of c.min.result c.args.got.now) (subst (λ (p : Parsed). IsParsed (settings_entry c.args.settings) c.args.got.now p) c.in-Head.is parsed)
+    asks_result (settings_entry c.args.settings) c.args.got.now c.in-Head.head c.min.result _ c.asked_with.result c.min.ensures (rest_of c.min.result c.args.got.now)
+    (subst (λ (p : Parsed). IsParsed (settings_entry c.args.settings) c.args.got.now p) c.in-Head.is parsed)
     c.asked_with.ensures
 
 pub returns-in-Partial : goal.returns-in-Partial

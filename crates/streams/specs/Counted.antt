@@ -1,6 +1,6 @@
 -- What a stream that counts its failures is made of, and what it takes for a failure.
 use Rattle.std.specs.Prelude.{ℕ, ◌==◌, ◌&&◌, nat_lt, if◌then◌else◌, Result, Ok, Err, Option, Some, None}
-use Rattle.votes.specs.declared.counted.Counted.{Counted}
+use Rattle.streams.specs.declared.counted.Counted.{Counted}
 
 -- the reader or writer under a count
 abbrev pub stream_of : {T : Type 0} → Counted T → T

@@ -1,7 +1,7 @@
 //! A reader or a writer of the standard library with a count of its failures.
 
 ghost use Rattle.std.specs.Prelude.{◌≡◌, ◌+◌, ◌-◌, ◌^◌, ◌<◌};
-ghost use Rattle.votes.specs.Counted.{stream_of, failed_calls, taken_of, given_of};
+ghost use Rattle.streams.specs.Counted.{stream_of, failed_calls, taken_of, given_of};
 
 use crate::streams::{Broken, Sink, Source};
 use std::io;

@@ -1,7 +1,7 @@
 -- Of the proof of `put_all`: what holds at each round of its loop, and what gets less.
 use Rattle.std.proofs.Common.{◌≡◌, ◌-◌, ◌≤◌, length, take}
 use Rattle.std.specs.Io.KnownBytes.{Appends}
-use Rattle.votes.proofs.streams.put_all.Given as goal
+use Rattle.streams.proofs.streams.put_all.Given as goal
 
 abbrev pub invariant-loop-at : goal.invariant-loop-at
 invariant-loop-at g l = record {

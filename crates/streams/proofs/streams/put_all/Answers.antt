@@ -1,8 +1,8 @@
 -- Of the proof of `put_all`: what is shown by hand.
 use Rattle.std.proofs.Common.{rules, ◌∙◌}
 use Rattle.std.proofs.lemmas.List.{take_rest}
-use Rattle.votes.proofs.Beginnings.{Appends-take_more}
-use Rattle.votes.proofs.streams.put_all.Goals as goal
+use Rattle.streams.proofs.Beginnings.{Appends-take_more}
+use Rattle.streams.proofs.streams.put_all.Goals as goal
 
 pub loop-at-preserved : goal.loop-at-preserved
 loop-at-preserved g c = record {
