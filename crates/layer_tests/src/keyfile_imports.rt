@@ -12,11 +12,11 @@ use std::test::Fail;
 
 /// Gives some bytes, one at a time, and fails at the read behind them.
 #[derive(Drop)]
-struct Torn<'a> {
+struct TornFile<'a> {
     left: &'a [u8],
 }
 
-impl<'a> Read for Torn<'a> {
+impl<'a> Read for TornFile<'a> {
     fn read(&mut self, room: &mut [u8]) -> io::Result<usize> {
         match self.left {
             [] => Err(io::Error::from(ErrorKind::BrokenPipe)),
@@ -223,13 +223,13 @@ fn break_off(rt: &(impl Abort + AllocGlobal), digest: Option<FileDigest>) -> Res
     let left = b"paper,1,2,3\n1,,,\n2,,".as_slice();
     gives(
         rt,
-        Torn { left },
+        TornFile { left },
         None,
         "file fault 8 at record 2: read failed",
     )?;
     gives(
         rt,
-        Torn { left },
+        TornFile { left },
         digest,
         "file fault 8 at record 0: read failed",
     )

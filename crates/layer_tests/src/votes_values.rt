@@ -49,12 +49,12 @@ impl Write for Full {
 /// Fails at the first call and at every second one after it; in between it takes all bytes, and gives
 /// one.
 #[derive(Drop)]
-struct Torn {
+struct TornStream {
     page: Vec<u8>,
     fails: bool,
 }
 
-impl Torn {
+impl TornStream {
     fn next(&mut self) -> io::Result<()> {
         self.fails = !self.fails;
         if self.fails {
@@ -64,7 +64,7 @@ impl Torn {
     }
 }
 
-impl Write for Torn {
+impl Write for TornStream {
     fn write(&mut self, bytes: &[u8]) -> io::Result<usize> {
         self.next()?;
         self.page.extend_from_slice(bytes)?;
@@ -76,7 +76,7 @@ impl Write for Torn {
     }
 }
 
-impl Read for Torn {
+impl Read for TornStream {
     fn read(&mut self, room: &mut [u8]) -> io::Result<usize> {
         self.next()?;
         Ok(room.len().min(1))
@@ -246,7 +246,7 @@ fn fails_call_by_call<S: Sink + Source>(
 fn streams_fail_call_by_call(rt: HostRuntime) {
     is_full(&rt, &mut Counted::new(Full));
     gives_ballot(&rt, &mut Counted::new(b"ballot".as_slice()));
-    let torn = Torn {
+    let torn = TornStream {
         page: Vec::new(rt.alloc()),
         fails: false,
     };
