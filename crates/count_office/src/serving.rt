@@ -91,7 +91,8 @@ fn serve_at<H: Host, S: Alter>(
     gate_files: &Option<GateFiles>,
     office: &mut Office<S>,
 ) -> Result<(), Failure>
-    ensures { MayServe (λ given. (given ≡ settings_with (given_by serving.entry.origin) (option_map gate_at gate_files.now) given.file given.whole) × IfSome (H.file host.old) (λ numbers. given.file ≡ numbers))
+    ensures { MayServe (λ given. (given ≡ settings_with (given_by serving.entry.origin) (option_map gate_at gate_files.now) given.file given.whole)
+        × IfSome (H.file host.old) (λ numbers. given.file ≡ numbers))
         (stream_of H.Port.Stream.held H.Port.Stream.taken H.Port.Stream.failed) (state S.Store)
         serving.entry.port (H.known host.old) (H.known host.new) serving.entry.connections office.old office.new result }
 {

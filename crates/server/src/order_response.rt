@@ -221,7 +221,8 @@ fn respond_to_message<L: Stream, A: SideJobs, S: Alter>(
 ) -> (L, PendingResponse)
     requires { HasTaken (L.taken stream) [] }
     ensures told { IsSent (stream_of L.held L.taken L.failed) result.0 result.1.bytes.items result.1.sent }
-    ensures followed { (got : List ℕ) → IsMessage got (order_message_entry message.now) → FollowsOrder (settings_in A.whole server_settings.entry) (state S.Store) office.old got result.1.bytes.items office.new }
+    ensures followed { (got : List ℕ) → IsMessage got (order_message_entry message.now)
+        → FollowsOrder (settings_in A.whole server_settings.entry) (state S.Store) office.old got result.1.bytes.items office.new }
 {
     if !is_for_file(message, server_settings.file) {
         return tell_refused(
