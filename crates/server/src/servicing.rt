@@ -271,7 +271,7 @@ fn is_without_file<A: SideJobs>(side_jobs: &A, parsed: Parsed, is_closed: bool) 
 
 /// A client's request that is processed: its parsed head, its bytes, and the time of the clock.
 #[derive(Clone, Copy)]
-struct Due<'a> {
+struct ReceivedRequest<'a> {
     parsed: Parsed,
     got: &'a [u8],
     moment: u64,
@@ -282,7 +282,7 @@ struct Due<'a> {
 /// cases nothing else is done. Otherwise the request is processed, and its code is counted if it is wrong.
 fn answer_client<A: SideJobs, S: Alter>(
     server_settings: ServerSettings<'_, A>,
-    due: Due<'_>,
+    due: ReceivedRequest<'_>,
     office: &mut Office<S>,
     kept: &mut ServerMemory,
 ) -> PendingResponse
@@ -291,7 +291,7 @@ fn answer_client<A: SideJobs, S: Alter>(
         (record { listener = Listener.Clients; number = number; moment = due.entry.moment; got = due.entry.got.now; answer = result.bytes.items }) (served_office office.new (memory_entry kept.new)) }
     ensures untold { result.sent ≡ 0 }
 {
-    let Due {
+    let ReceivedRequest {
         parsed,
         got,
         moment,
@@ -448,7 +448,7 @@ pub fn service<L: Stream, A: SideJobs, S: Alter>(
         Ok(Some(parsed)) => {
             let got = client.got.as_slice();
             let unread = parsed.body_to_come(got.len());
-            let due = Due {
+            let due = ReceivedRequest {
                 parsed,
                 got,
                 moment: now,

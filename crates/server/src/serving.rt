@@ -232,12 +232,12 @@ fn pause<L>(table: &ConnectionTable<L>, look: u64, now: u64) -> Duration
 }
 
 /// The settings of a server, and the most clients to accept.
-struct Serving<'a, A> {
+struct RoundSettings<'a, A> {
     server_settings: ServerSettings<'a, A>,
     most: u64,
 }
 
-impl<A> Clone for Serving<'_, A> {
+impl<A> Clone for RoundSettings<'_, A> {
     ghost is_clone = { λ x y. y ≡ x };
 
     ghost is_infallible = { λ _. ⊤ };
@@ -247,7 +247,7 @@ impl<A> Clone for Serving<'_, A> {
     }
 }
 
-impl<A> Copy for Serving<'_, A> {}
+impl<A> Copy for RoundSettings<'_, A> {}
 
 /// Ends a round: closes the connections that are timed out, accepts pending ones, and waits for events. Returns whether all
 /// clients were accepted and all connections are closed.
@@ -280,7 +280,7 @@ fn end_round<D: Network>(
 /// are serviced first.
 fn serve_rounds<D: Network, A: SideJobs, S: Alter>(
     network: &mut D,
-    serving: Serving<'_, A>,
+    serving: RoundSettings<'_, A>,
     table: &mut ConnectionTable<D::Stream>,
     office: &mut Office<S>,
     kept: &mut ServerMemory,
@@ -359,7 +359,7 @@ pub fn serve_connections<D: Network, A: SideJobs, S: Alter>(
     let Ok(mut kept) = ServerMemory::new(alloc) else {
         return Err(ServeError::Memory);
     };
-    let serving = Serving {
+    let serving = RoundSettings {
         server_settings,
         most,
     };
