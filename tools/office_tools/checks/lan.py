@@ -31,7 +31,7 @@ def wrongly_answered():
     cases = [((name, "--network", NETWORK), name in ACCEPTED) for name in ACCEPTED + REFUSED]
     cases += [((NAME, "--network", network), is_one) for network, is_one in NETWORKS.items()]
     cases += [((NAME, "--network", NETWORK, "--port", port), is_one) for port, is_one in PORTS.items()]
-    cases += [((NAME, "other", "--network", NETWORK), False), (("--remove",), False), ((NAME, "--frobnicate"), False), ((NAME, "--port"), False)]
+    cases += [((NAME, *words), False) for words in ([], ["other", "--network", NETWORK], ["--remove"], ["--more"], ["--port"])]
     for words, is_accepted in cases:
         status, out, err = told(*words)
         if (status, bool(out)) != ((0, True) if is_accepted else (2, False)) or is_accepted == err.startswith("count-office-lan: "):
