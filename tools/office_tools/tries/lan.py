@@ -127,7 +127,7 @@ def change(debian, secret):
     other.unlink()
     debian.compare(before)
     see("the teller is answered as before", curl(TELLER, *secret, WORK), 0, '"batch":14,"columns":[1,2,3,4,5],"keyed":true', " 200")
-    see("another network is let in", debian.run(LAN, "--network", ALLOWED, "--network", OTHER), 0, f"{ALLOWED} and {OTHER}")
+    see("another network is let in", debian.run(LAN, "--network", ALLOWED, "--network", OTHER), 0, f"{ALLOWED} and {OTHER}. ")
     see("its machines are answered", curl(STRANGER, *secret, WORK), 0, " 200")
     return debian.trusting(see("the machine gets a name", debian.run(LAN, NAME), 0, f"--origin https://{NAME}"))
 
@@ -144,7 +144,7 @@ def main():
         key(secret)
         secret = change(debian, secret)
         see("which the office has to be given", curl(TELLER, *secret, WORK, at=f"https://{NAME}"), 0, '"error":"forbidden"', " 403")
-        see("all of it is removed", debian.run(LAN, "--remove"), 0, "removed")
+        see("everything is removed", debian.run(LAN, "--remove"), 0, "removed")
         debian.compare(before)
         see("nothing is left, and nothing answers with TLS", curl(TELLER, "-k", WORK), 7)
         see("nginx is as it was before", curl(TELLER, "/", at=f"http://{HERE}"), 0, "Welcome to nginx", " 200")
