@@ -110,3 +110,17 @@ def completions(program):
     """Returns {shell: the text of its completions}."""
     orders = helps.orders(program)
     return {"bash": bash(orders), "zsh": zsh(orders), "fish": fish(orders)}
+
+
+def lan_completions(script):
+    """Returns {shell: the text of the completions} of count-office-lan, whose options alone are offered."""
+    listed = helps.items(helps.sections(helps.told(script, "--help"))["Options"])
+    options = {option.name.split("--")[1].split()[0]: option for option in listed}
+    names = " ".join(f"--{name}" for name in options)
+    takes = {name: "-x " if "<" in option.name else "" for name, option in options.items()}
+    fish_lines = (f"complete -c count-office-lan -f -l {name} {takes[name]}-d {quoted(one.text)}\n" for name, one in options.items())
+    return {
+        "bash": f"# What bash offers behind `count-office-lan`.\ncomplete -W '{names}' count-office-lan\n",
+        "zsh": f"#compdef count-office-lan\n# What zsh offers behind `count-office-lan`.\ncompadd -- {names}\n",
+        "fish": "# What fish offers behind `count-office-lan`.\n" + "".join(fish_lines),
+    }

@@ -60,3 +60,25 @@ def check_page(checker, version, date):
     lines += [escaped(" ".join(line for line in found[""] if line)), *listed(helps.items(words[:end]))]
     lines += [".SH EXIT STATUS", escaped("\n".join(line for line in words[end:] if line)), ".SH SEE ALSO", "\\fBcount\\-office\\fR(1)"]
     return "\n".join(lines) + "\n"
+
+
+LAN_FILES = """.SH FILES
+.TP
+/etc/nginx/conf.d/count\\-office\\-lan.conf
+The site of nginx. What is changed in it by hand is kept: the script then changes nothing.
+.TP
+/etc/nginx/count\\-office\\-lan
+The certificate and its key.
+.SH SEE ALSO
+\\fBcount\\-office\\fR(1)"""
+
+
+def lan_page(script, version, date):
+    """Returns count-office-lan(1): how tellers on a local network are let in."""
+    found = helps.sections(helps.told(script, "--help"))
+    about, example = filter(None, found[""])
+    _, does, status = "\n".join(found["Options"]).strip().split("\n\n")
+    lines = head("count\\-office\\-lan", date, version, "lets tellers on a local network key through nginx",
+                 "\\fBcount\\-office\\-lan\\fR [\\fIOPTIONS\\fR] [\\fINAME\\fR]")
+    lines += [escaped(about.replace(":", ".") + "\n" + does), *listed(helps.items(found["Arguments"]) + helps.items(found["Options"]))]
+    return "\n".join([*lines, ".SH EXAMPLE", escaped(example), ".SH EXIT STATUS", escaped(status), LAN_FILES]) + "\n"

@@ -30,9 +30,10 @@ if [ "$1" = configure ]; then
 fi
 """
 
-# An upgrade leaves a served office alone until the new program is there.
+# An upgrade leaves a served office alone until the new program is there. Without the package nobody could remove the site of nginx.
 BEFORE_REMOVAL = """#!/bin/sh
 set -e
+if [ "$1" = remove ] && [ -e /etc/nginx/conf.d/count-office-lan.conf ]; then count-office-lan --remove || true; fi
 if [ "$1" = remove ] && [ -d /run/systemd/system ]; then systemctl stop 'count-office@*.service'; fi
 """
 
