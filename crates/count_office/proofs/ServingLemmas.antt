@@ -30,7 +30,8 @@ given_for serving codes_at gate_files numbers settings gate (is, file) = record 
 }
 
 -- the office was served at doors that were opened on a port and closed again
-pub served_on : {L S : Type 0} (serving : Serving) (gate_files : Option GateFiles) (numbers : Option FileNumbers) (file : FileNumbers) (whole : Option Bool) (stream : Stream L) (state_of : Held S → State)
+pub served_on : {L S : Type 0} (serving : Serving) (gate_files : Option GateFiles) (numbers : Option FileNumbers) (file : FileNumbers) (whole : Option Bool)
+    (stream : Stream L) (state_of : Held S → State)
     (before opened later : ℕ → NetworkEntry L) (first last : NetworkEntry L) (old new : OfficeValue S) (ends : Result (Unit {0}) ServeError)
     → opened ≡ before → first ≡ before serving.port → later serving.port ≡ last → IsElsewhereSame serving.port opened later → IfSome numbers (λ known. file ≡ known)
     → ServesAtNetwork (settings_with (given_by serving.origin) (option_map gate_at gate_files) file whole) stream state_of first last serving.connections old new ends

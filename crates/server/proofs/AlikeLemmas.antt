@@ -114,7 +114,8 @@ module _ (settings : ServerSettingsEntry) where
     answers_first view next exchange later (sent, inr told, is_next) others = inl (sent, told, subst (λ (v : OfficeState). AnswersOwn v later) is_next others)
 
     -- of all that are answered so, a clerk's own
-    own_seen : (view : OfficeState) (exchanges own : List Exchange) → AnswersAsSeen state_of settings clerk view exchanges → AreClients exchanges → AreOwn settings.clients clerk exchanges own → AnswersOwn view own
+    own_seen : (view : OfficeState) (exchanges own : List Exchange) → AnswersAsSeen state_of settings clerk view exchanges → AreClients exchanges
+        → AreOwn settings.clients clerk exchanges own → AnswersOwn view own
     own_seen view [] own seen clients none = subst (AnswersOwn view) (sym none) tt
     own_seen view (exchange ∷ exchanges) own (inl (next, turn, rest)) (client, clients) (inl (under, (later, is, others))) =
         let it : IsAnsweredBySeen state_of settings clerk view exchange next = subst (λ (listener : Listener). RespondsBySeen listener state_of settings clerk view exchange next) client turn in

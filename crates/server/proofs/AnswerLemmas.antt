@@ -60,7 +60,8 @@ no_fault s what status old new response closed st (entry, tells, inr (fault, tol
 
 -- ---- one call
 
-module _ {S : Type 0} (state_of : Held S → State) (old new : OfficeValue S) (asked : HttpRequestEntry) (before after answer : List ℕ) (served : Served) (is_before : before ≡ []) (is_answer : answer ≡ after) where
+module _ {S : Type 0} (state_of : Held S → State) (old new : OfficeValue S) (asked : HttpRequestEntry) (before after answer : List ℕ) (served : Served)
+    (is_before : before ≡ []) (is_answer : answer ≡ after) where
   these : (IsReady : _) → IsServed IsReady (Some before) (Some after) served → IsServed IsReady (Some []) (Some answer) served
   these IsReady it =
       subst (λ (a : List ℕ). IsServed IsReady (Some []) (Some a) served) (sym is_answer) (subst (λ (b : List ℕ). IsServed IsReady (Some b) (Some after) served) is_before it)
@@ -154,7 +155,8 @@ module _ {S : Type 0} (settings : HttpSettingsEntry) (state_of : Held S → Stat
   kept_at : (s : OfficeState) (reads : List ReadEntry) (entry : ReadEntry) → Contains reads entry → AreReadAt s reads → IsRead s entry.what entry.answer
   kept_at s reads entry (place, within, is) right = subst (λ (r : ReadEntry). IsRead s r.what r.answer) is (right place entry within)
 
-  told_from : (s : OfficeState) (what : Resource) (got answer : List ℕ) (closed : Bool) (st : State) (number moment : ℕ) → Asks settings got (reading what) → IsRead s what answer → IsOpenAt s closed st
+  told_from : (s : OfficeState) (what : Resource) (got answer : List ℕ) (closed : Bool) (st : State) (number moment : ℕ) → Asks settings got (reading what)
+      → IsRead s what answer → IsOpenAt s closed st
       → EndsSo (record { listener = Clients; number = number; moment = moment; got = got; answer = answer }) (IsServed (λ response. ReadiesFor settings (Some got) s response closed st))
   told_from s what got answer closed st number moment asks it open_at = (
     Answered it.status,
@@ -170,7 +172,8 @@ module _ {S : Type 0} (settings : HttpSettingsEntry) (state_of : Held S → Stat
   )
 
   -- from what was kept
-  pub served_again : (office : OfficeValue S) (kept : MemoryEntry) (number moment : ℕ) (got : List ℕ) (what : Resource) (answer : List ℕ) (entry : ReadEntry) → office.closed ≡ false → Asks settings got (reading what)
+  pub served_again : (office : OfficeValue S) (kept : MemoryEntry) (number moment : ℕ) (got : List ℕ) (what : Resource) (answer : List ℕ) (entry : ReadEntry)
+      → office.closed ≡ false → Asks settings got (reading what)
       → Contains kept.reads entry → entry.what ≡ what → entry.answer ≡ answer
       → ServesClient settings state_of (served_office office kept) (record { listener = Clients; number = number; moment = moment; got = got; answer = answer }) (served_office office kept)
   served_again office kept number moment got what answer entry is_open asks there same told = record {
@@ -184,7 +187,8 @@ module _ {S : Type 0} (settings : HttpSettingsEntry) (state_of : Held S → Stat
   }
 
   -- and a wrong code is noted behind it
-  pub noted_still : (old : ServedOffice S) (exchange : Exchange) (new : OfficeValue S) (kept later : MemoryEntry) → later.reads ≡ kept.reads → ServesClient settings state_of old exchange (served_office new kept)
+  pub noted_still : (old : ServedOffice S) (exchange : Exchange) (new : OfficeValue S) (kept later : MemoryEntry) → later.reads ≡ kept.reads
+      → ServesClient settings state_of old exchange (served_office new kept)
       → ServesClient settings state_of old exchange (served_office new later)
   noted_still old exchange new kept later same it = record {
     serves = it.serves;

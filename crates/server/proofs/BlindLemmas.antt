@@ -140,7 +140,8 @@ module _ (itself : SeenIsAlike) (alike : AlikeOfficesAnswerAlike) (seen : SeenIs
         record { own = λ under. ([], answers under, same); denied = denies; other = λ not. same }
 
     -- a keying was handed on, the clerk's own or another's
-    keying_seen : (s : OfficeState) (exchange : Exchange) (served : Served) (n batch : ℕ) (entry : KeyingEntry) (request : Request) → IsState s → Asks settings.clients exchange.got (keying n batch entry)
+    keying_seen : (s : OfficeState) (exchange : Exchange) (served : Served) (n batch : ℕ) (entry : KeyingEntry) (request : Request) → IsState s
+        → Asks settings.clients exchange.got (keying n batch entry)
         → IsHandedOn n batch entry request → (response : _) → IsTold (told_response (told_of (step_of s request))) response → IsPut (Some []) (Some exchange.answer) response served
         → IsAnsweredBySeen state_of settings clerk (seen_by clerk s) exchange (seen_by clerk (after s (request ∷ [])))
     keying_seen s exchange served n batch entry request state asks handed response told put = go (n == clerk) refl

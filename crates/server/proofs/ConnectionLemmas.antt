@@ -37,10 +37,12 @@ one_under number exchange is = ap (λ (b : Bool). cond b (exchange ∷ []) []) (
 -- visits of others more
 pub same_under : (number : ℕ) (exchanges more : List Exchange) → All (λ (v : Exchange). v.number ≡ number → ⊥) more → exchanges_of number (exchanges ++ more) ≡ exchanges_of number exchanges
 same_under number exchanges more others =
-    filter-append (λ (v : Exchange). v.number == number) exchanges more ∙ ap (λ (vs : List Exchange). exchanges_of number exchanges ++ vs) (none_under number more others) ∙ append-nil (exchanges_of number exchanges)
+    filter-append (λ (v : Exchange). v.number == number) exchanges more ∙ ap (λ (vs : List Exchange). exchanges_of number exchanges ++ vs)
+    (none_under number more others) ∙ append-nil (exchanges_of number exchanges)
 
 -- a visit of his more, who had none
-pub first_under : (number : ℕ) (exchanges : List Exchange) (exchange : Exchange) → exchanges_of number exchanges ≡ [] → exchange.number ≡ number → exchanges_of number (exchanges ++ exchange ∷ []) ≡ exchange ∷ []
+pub first_under : (number : ℕ) (exchanges : List Exchange) (exchange : Exchange) → exchanges_of number exchanges ≡ [] → exchange.number ≡ number
+    → exchanges_of number (exchanges ++ exchange ∷ []) ≡ exchange ∷ []
 first_under number exchanges exchange none is =
     filter-append (λ (v : Exchange). v.number == number) exchanges (exchange ∷ []) ∙ ap (λ (vs : List Exchange). vs ++ exchanges_of number (exchange ∷ [])) none ∙ one_under number exchange is
 
@@ -48,25 +50,29 @@ module _ {L : Type 0} (settings : ServerSettingsEntry) (stream : Stream L) where
   -- ---- one client
 
   -- how it went with him so far, by what was gathered of him and his answer
-  pub went_so : (came : Accepted L) (now : L) (got : List ℕ) (answer : Option PendingResponse) (his : List Exchange) → IsServedSo stream came.stream now got answer → HasExchangeFor (option_map (λ (a : PendingResponse). a.bytes.items) answer) his
+  pub went_so : (came : Accepted L) (now : L) (got : List ℕ) (answer : Option PendingResponse) (his : List Exchange) → IsServedSo stream came.stream now got answer
+      → HasExchangeFor (option_map (λ (a : PendingResponse). a.bytes.items) answer) his
       → ((exchange : Exchange) → his ≡ exchange ∷ [] → IsGathered settings stream came exchange) → HadExchange settings stream (record { came = came; last = now }) his
   went_so came now got None his own had gathered = subst (λ (vs : List Exchange). HadExchange settings stream (record { came = came; last = now }) vs) (sym had) own.untold
   went_so came now got (Some answer) his own (exchange, is, same) gathered =
       subst (λ (vs : List Exchange). HadExchange settings stream (record { came = came; last = now }) vs) (sym is)
       (gathered exchange is, (answer.sent, subst (λ (bytes : List ℕ). IsSent stream now bytes answer.sent) (sym same) own))
 
-  pub gathered_for : (connection : ServedConnection L) (his : List Exchange) (exchange : Exchange) → HadExchange settings stream connection his → his ≡ exchange ∷ [] → IsGathered settings stream connection.came exchange
+  pub gathered_for : (connection : ServedConnection L) (his : List Exchange) (exchange : Exchange) → HadExchange settings stream connection his
+      → his ≡ exchange ∷ [] → IsGathered settings stream connection.came exchange
   gathered_for connection his exchange went is = let it = subst (λ (vs : List Exchange). HadExchange settings stream connection vs) is went in it.0
 
   -- he is as he was, whatever visits others had
-  stands_still : (exchanges more : List Exchange) (connection : ServedConnection L) (client : Client L) → All (λ (v : Exchange). v.number ≡ client.number → ⊥) more → IsOpenConnection stream exchanges connection client
+  stands_still : (exchanges more : List Exchange) (connection : ServedConnection L) (client : Client L) → All (λ (v : Exchange). v.number ≡ client.number → ⊥) more
+      → IsOpenConnection stream exchanges connection client
       → IsOpenConnection stream (exchanges ++ more) connection client
   stands_still exchanges more connection client others it =
       record { listener = it.listener; last = it.last; own = it.own; his = subst (HasExchangeFor (answer_of client)) (sym (same_under client.number exchanges more others)) it.his }
 
   -- ---- one went on
 
-  module _ (all_connections : List (ServedConnection L)) (exchanges more : List Exchange) (clients : List (Client L)) (place : ℕ) (old new : Client L) (within : place < length clients) (is : old ≡ get_or clients place old)
+  module _ (all_connections : List (ServedConnection L)) (exchanges more : List Exchange) (clients : List (Client L)) (place : ℕ) (old new : Client L)
+      (within : place < length clients) (is : old ≡ get_or clients place old)
       (number : new.number ≡ old.number) (apart : AllPairs (λ (a b : Client L). a.number < b.number) clients) (known : All (λ (c : Client L). c.number < length all_connections) clients)
       (mine : All (λ (v : Exchange). v.number ≡ old.number) more) where
     here : (d : Client L) → old ≡ get_or clients place d
@@ -118,12 +124,15 @@ module _ {L : Type 0} (settings : ServerSettingsEntry) (stream : Stream L) where
 
     pub all_came : map (λ (g : ServedConnection L). g.came) all_now ≡ map (λ (g : ServedConnection L). g.came) all_connections
     all_came =
-        let came_at = get_or-map (λ (g : ServedConnection L). g.came) all_connections old.number (record { came = record { listener = old.listener; stream = old.stream }; last = old.stream }) (record { listener = old.listener; stream = old.stream }) low in
+        let came_at = get_or-map (λ (g : ServedConnection L). g.came) all_connections old.number
+        (record { came = record { listener = old.listener; stream = old.stream }; last = old.stream }) (record { listener = old.listener; stream = old.stream }) low in
         map-set (λ (g : ServedConnection L). g.came) all_connections old.number (record { came = his_guest.came; last = new.stream })
-        ∙ ap (λ (c : Accepted L). set (map (λ (g : ServedConnection L). g.came) all_connections) old.number c) (sym came_at) ∙ set-get_or (map (λ (g : ServedConnection L). g.came) all_connections) old.number (record { listener = old.listener; stream = old.stream })
+        ∙ ap (λ (c : Accepted L). set (map (λ (g : ServedConnection L). g.came) all_connections) old.number c) (sym came_at) ∙ set-get_or
+        (map (λ (g : ServedConnection L). g.came) all_connections) old.number (record { listener = old.listener; stream = old.stream })
 
     -- how it went with all of them, where it went so with him
-    pub went_still : AllHadExchanges settings stream all_connections exchanges → HadExchange settings stream (record { came = his_guest.came; last = new.stream }) (exchanges_of old.number (exchanges ++ more))
+    pub went_still : AllHadExchanges settings stream all_connections exchanges → HadExchange settings stream (record { came = his_guest.came; last = new.stream })
+        (exchanges_of old.number (exchanges ++ more))
         → AllHadExchanges settings stream all_now (exchanges ++ more)
     went_still went his = record {
       each = λ k d lt. by k d lt (cases_eq k old.number);
@@ -196,18 +205,22 @@ module _ {L : Type 0} (settings : ServerSettingsEntry) (stream : Stream L) where
 
   -- ---- all of them
 
-  pub are_same : (all_connections : List (ServedConnection L)) (exchanges : List Exchange) (gone : List (Removed L)) (came came_then : ℕ) (clients clients_then : List (Client L)) → came_then ≡ came → clients_then ≡ clients
+  pub are_same : (all_connections : List (ServedConnection L)) (exchanges : List Exchange) (gone : List (Removed L)) (came came_then : ℕ) (clients clients_then : List (Client L))
+      → came_then ≡ came → clients_then ≡ clients
       → AreIn settings stream all_connections exchanges gone came clients → AreIn settings stream all_connections exchanges gone came_then clients_then
   are_same all_connections exchanges gone came came_then clients clients_then same_came same_clients are =
-      subst (λ (n : ℕ). AreIn settings stream all_connections exchanges gone n clients_then) (sym same_came) (subst (λ (cs : List (Client L)). AreIn settings stream all_connections exchanges gone came cs) (sym same_clients) are)
+      subst (λ (n : ℕ). AreIn settings stream all_connections exchanges gone n clients_then) (sym same_came)
+      (subst (λ (cs : List (Client L)). AreIn settings stream all_connections exchanges gone came cs) (sym same_clients) are)
 
   -- one went on: all who came are there as before, and those who are in
-  pub one_went_on : (all_connections : List (ServedConnection L)) (exchanges more : List Exchange) (gone : List (Removed L)) (came : ℕ) (clients : List (Client L)) (place : ℕ) (old new : Client L) → AreIn settings stream all_connections exchanges gone came clients
+  pub one_went_on : (all_connections : List (ServedConnection L)) (exchanges more : List Exchange) (gone : List (Removed L)) (came : ℕ) (clients : List (Client L))
+      (place : ℕ) (old new : Client L) → AreIn settings stream all_connections exchanges gone came clients
       → place < length clients → old ≡ get_or clients place old → new.listener ≡ old.listener → new.number ≡ old.number → All (λ (v : Exchange). v.number ≡ old.number) more
       → ((connection : ServedConnection L) → IsOpenConnection stream exchanges connection old → HadExchange settings stream connection (exchanges_of old.number exchanges)
       → IsOf stream connection.came.stream new × HasExchangeFor (answer_of new) (exchanges_of old.number (exchanges ++ more))
       × ((exchange : Exchange) → exchanges_of old.number (exchanges ++ more) ≡ exchange ∷ [] → IsGathered settings stream connection.came exchange))
-      → (all : List (ServedConnection L)) × (map (λ (g : ServedConnection L). g.came) all ≡ map (λ (g : ServedConnection L). g.came) all_connections) × AreIn settings stream all (exchanges ++ more) gone came (set clients place new)
+      → (all : List (ServedConnection L)) × (map (λ (g : ServedConnection L). g.came) all ≡ map (λ (g : ServedConnection L). g.came) all_connections)
+      × AreIn settings stream all (exchanges ++ more) gone came (set clients place new)
   one_went_on all_connections exchanges more gone came clients place old new are within is listener number mine goes =
       let here = get_or_read clients place old within is in
       let some_guest : ServedConnection L = record { came = record { listener = old.listener; stream = old.stream }; last = old.stream } in
@@ -242,28 +255,35 @@ module _ {L : Type 0} (settings : ServerSettingsEntry) (stream : Stream L) where
   one_longer all_connections start = length_push all_connections (record { came = start; last = start.stream })
 
   -- whoever comes has had no turn, and was told nothing
-  came_in : (all_connections : List (ServedConnection L)) (exchanges : List Exchange) (start : Accepted L) → AllHadExchanges settings stream all_connections exchanges → HasTaken (stream.taken start.stream) []
+  came_in : (all_connections : List (ServedConnection L)) (exchanges : List Exchange) (start : Accepted L) → AllHadExchanges settings stream all_connections exchanges
+      → HasTaken (stream.taken start.stream) []
       → AllHadExchanges settings stream (with_one all_connections start) exchanges
   came_in all_connections exchanges start went fresh = record {
     each = λ k d lt. by k d lt (cases_eq k (length all_connections));
-    known = All-weaker (λ (v : Exchange). v.number < length all_connections) (λ (v : Exchange). v.number < length (with_one all_connections start)) (λ v less. omega (arith, less, one_longer all_connections start)) exchanges went.known;
+    known = All-weaker (λ (v : Exchange). v.number < length all_connections) (λ (v : Exchange). v.number < length (with_one all_connections start))
+        (λ v less. omega (arith, less, one_longer all_connections start)) exchanges went.known;
   }
     where
-      by : (k : ℕ) (d : ServedConnection L) → k < length (with_one all_connections start) → (k ≡ length all_connections) ⊎ (k ≡ length all_connections → ⊥) → HadExchange settings stream (get_or (with_one all_connections start) k d) (exchanges_of k exchanges)
+      by : (k : ℕ) (d : ServedConnection L) → k < length (with_one all_connections start) → (k ≡ length all_connections) ⊎ (k ≡ length all_connections → ⊥)
+          → HadExchange settings stream (get_or (with_one all_connections start) k d) (exchanges_of k exchanges)
       by k d lt (inl e) =
-          let none = none_under k exchanges (All-weaker (λ (v : Exchange). v.number < length all_connections) (λ (v : Exchange). v.number ≡ k → ⊥) (λ v less same. omega (arith, less, same, e)) exchanges went.known) in
+          let none = none_under k exchanges (All-weaker (λ (v : Exchange). v.number < length all_connections) (λ (v : Exchange). v.number ≡ k → ⊥)
+          (λ v less same. omega (arith, less, same, e)) exchanges went.known) in
           subst (λ (g : ServedConnection L). HadExchange settings stream g (exchanges_of k exchanges)) (sym (get_or_push all_connections (record { came = start; last = start.stream }) d k (sym e)))
           (subst (λ (vs : List Exchange). HadExchange settings stream (record { came = start; last = start.stream }) vs) (sym none) fresh)
       by k d lt (inr ne) =
           let less : k < length all_connections = omega (arith, lt, ne, one_longer all_connections start) in
-          subst (λ (g : ServedConnection L). HadExchange settings stream g (exchanges_of k exchanges)) (sym (get_or_append_left all_connections (record { came = start; last = start.stream } ∷ []) d k less)) (went.each k d less)
+          subst (λ (g : ServedConnection L). HadExchange settings stream g (exchanges_of k exchanges))
+          (sym (get_or_append_left all_connections (record { came = start; last = start.stream } ∷ []) d k less)) (went.each k d less)
 
   known_on : (all_connections : List (ServedConnection L)) (start : Accepted L) (clients : List (Client L)) → All (λ (c : Client L). c.number < length all_connections) clients
       → All (λ (c : Client L). c.number < length (with_one all_connections start)) clients
   known_on all_connections start clients known =
-      All-weaker (λ (c : Client L). c.number < length all_connections) (λ (c : Client L). c.number < length (with_one all_connections start)) (λ c less. omega (arith, less, one_longer all_connections start)) clients known
+      All-weaker (λ (c : Client L). c.number < length all_connections) (λ (c : Client L). c.number < length (with_one all_connections start))
+      (λ c less. omega (arith, less, one_longer all_connections start)) clients known
 
-  stand_on : (all_connections : List (ServedConnection L)) (start : Accepted L) (exchanges : List Exchange) (clients : List (Client L)) → All (λ (c : Client L). c.number < length all_connections) clients
+  stand_on : (all_connections : List (ServedConnection L)) (start : Accepted L) (exchanges : List Exchange) (clients : List (Client L))
+      → All (λ (c : Client L). c.number < length all_connections) clients
       → All (λ (c : Client L). (connection : ServedConnection L) → IsOpenConnection stream exchanges (get_or all_connections c.number connection) c) clients
       → All (λ (c : Client L). (connection : ServedConnection L) → IsOpenConnection stream exchanges (get_or (with_one all_connections start) c.number connection) c) clients
   stand_on all_connections start exchanges clients known stand = λ k d lt connection.
@@ -271,7 +291,8 @@ module _ {L : Type 0} (settings : ServerSettingsEntry) (stream : Stream L) where
       (sym (get_or_append_left all_connections (record { came = start; last = start.stream } ∷ []) connection (get_or clients k d).number (known k d lt))) (stand k d lt connection)
 
   -- whoever was in or had left is so still
-  left_on : (all_connections : List (ServedConnection L)) (exchanges : List Exchange) (gone : List (Removed L)) (clients : List (Client L)) (start : Accepted L) (client : Client L) → client.number ≡ length all_connections
+  left_on : (all_connections : List (ServedConnection L)) (exchanges : List Exchange) (gone : List (Removed L)) (clients : List (Client L)) (start : Accepted L) (client : Client L)
+      → client.number ≡ length all_connections
       → ((k : ℕ) (d : ServedConnection L) → k < length all_connections → IsIn clients k ⊎ HasLeft stream gone exchanges k (get_or all_connections k d))
       → (k : ℕ) (d : ServedConnection L) → k < length (with_one all_connections start) → IsIn (clients ++ client ∷ []) k ⊎ HasLeft stream gone exchanges k (get_or (with_one all_connections start) k d)
   left_on all_connections exchanges gone clients start client at left k d lt = by (cases_eq k (length all_connections))
@@ -291,29 +312,35 @@ module _ {L : Type 0} (settings : ServerSettingsEntry) (stream : Stream L) where
       })
       by (inr ne) = either (left k d (omega (arith, lt, ne, one_longer all_connections start)))
         where
-          either : IsIn clients k ⊎ HasLeft stream gone exchanges k (get_or all_connections k d) → IsIn (clients ++ client ∷ []) k ⊎ HasLeft stream gone exchanges k (get_or (with_one all_connections start) k d)
+          either : IsIn clients k ⊎ HasLeft stream gone exchanges k (get_or all_connections k d)
+              → IsIn (clients ++ client ∷ []) k ⊎ HasLeft stream gone exchanges k (get_or (with_one all_connections start) k d)
           either (inl is_in) = inl (in_still is_in)
           either (inr it) =
               let less : k < length all_connections = omega (arith, lt, ne, one_longer all_connections start) in
               inr (subst (λ (x : ServedConnection L). HasLeft stream gone exchanges k x) (sym (get_or_append_left all_connections (record { came = start; last = start.stream } ∷ []) d k less)) it)
 
   -- it came in
-  pub one_entered : (all_connections : List (ServedConnection L)) (exchanges : List Exchange) (gone : List (Removed L)) (came : ℕ) (clients : List (Client L)) (start : Accepted L) (client : Client L) → AreIn settings stream all_connections exchanges gone came clients
+  pub one_entered : (all_connections : List (ServedConnection L)) (exchanges : List Exchange) (gone : List (Removed L)) (came : ℕ) (clients : List (Client L))
+      (start : Accepted L) (client : Client L) → AreIn settings stream all_connections exchanges gone came clients
       → HasTaken (stream.taken start.stream) [] → client.listener ≡ start.listener → client.stream ≡ start.stream → client.number ≡ came → client.answer ≡ None → IsOf stream start.stream client
       → AreIn settings stream (with_one all_connections start) exchanges gone (came + 1) (clients ++ client ∷ [])
   one_entered all_connections exchanges gone came clients start client are fresh listener over number unanswered own =
       let at : client.number ≡ length all_connections = number ∙ sym are.count in
       let none : exchanges_of client.number exchanges ≡ [] =
-      none_under client.number exchanges (All-weaker (λ (v : Exchange). v.number < length all_connections) (λ (v : Exchange). v.number ≡ client.number → ⊥) (λ v less same. omega (arith, less, same, at)) exchanges are.went.known) in
+      none_under client.number exchanges (All-weaker (λ (v : Exchange). v.number < length all_connections) (λ (v : Exchange). v.number ≡ client.number → ⊥)
+      (λ v less same. omega (arith, less, same, at)) exchanges are.went.known) in
       let had : HasExchangeFor (answer_of client) (exchanges_of client.number exchanges) =
       subst (λ (a : Option PendingResponse). HasExchangeFor (option_map (λ (x : PendingResponse). x.bytes.items) a) (exchanges_of client.number exchanges)) (sym unanswered) none in
       record {
         count = omega (arith, one_longer all_connections start, are.count);
         went = came_in all_connections exchanges start are.went fresh;
         apart = all_pairs_push (λ (a b : Client L). a.number < b.number) clients client are.apart (λ k d lt. let less = are.known k d lt in omega (arith, less, at));
-        known = All-push (λ (c : Client L). c.number < length (with_one all_connections start)) clients client (known_on all_connections start clients are.known) (omega (arith, at, one_longer all_connections start));
-        stand = All-push (λ (c : Client L). (g : ServedConnection L) → IsOpenConnection stream exchanges (get_or (with_one all_connections start) c.number g) c) clients client (stand_on all_connections start exchanges clients are.known are.stand)
-            (λ g. subst (λ (x : ServedConnection L). IsOpenConnection stream exchanges x client) (sym (get_or_push all_connections (record { came = start; last = start.stream }) g client.number (sym at))) (record { listener = listener; last = sym over; own = own; his = had }));
+        known = All-push (λ (c : Client L). c.number < length (with_one all_connections start)) clients client (known_on all_connections start clients are.known)
+            (omega (arith, at, one_longer all_connections start));
+        stand = All-push (λ (c : Client L). (g : ServedConnection L) → IsOpenConnection stream exchanges (get_or (with_one all_connections start) c.number g) c) clients client
+            (stand_on all_connections start exchanges clients are.known are.stand)
+            (λ g. subst (λ (x : ServedConnection L). IsOpenConnection stream exchanges x client)
+            (sym (get_or_push all_connections (record { came = start; last = start.stream }) g client.number (sym at))) (record { listener = listener; last = sym over; own = own; his = had }));
         sum = omega (arith, are.sum, length_push clients client, one_longer all_connections start);
         left = left_on all_connections exchanges gone clients start client at are.left;
       }
@@ -321,7 +348,8 @@ module _ {L : Type 0} (settings : ServerSettingsEntry) (stream : Stream L) where
   -- ---- one left
 
   -- a reason for which a client may leave holds of it
-  pub why_holds : (exchanges : List Exchange) (connection : ServedConnection L) (client : Client L) (why : CloseReason) → IsOpenConnection stream exchanges connection client → MayBeClosed stream why client → IsWhy stream why client.stream (exchanges_of client.number exchanges)
+  pub why_holds : (exchanges : List Exchange) (connection : ServedConnection L) (client : Client L) (why : CloseReason) → IsOpenConnection stream exchanges connection client
+      → MayBeClosed stream why client → IsWhy stream why client.stream (exchanges_of client.number exchanges)
   why_holds exchanges connection client Broken stood may = may
   why_holds exchanges connection client Unreadable stood may = tt
   why_holds exchanges connection client TimedOut stood may = tt
@@ -329,7 +357,8 @@ module _ {L : Type 0} (settings : ServerSettingsEntry) (stream : Stream L) where
   why_holds exchanges connection client Closing stood may = tt
   why_holds exchanges connection client Done stood may = whole client.answer refl stood.own stood.his may
     where
-      whole : (answer : Option PendingResponse) → client.answer ≡ answer → IsServedSo stream connection.came.stream client.stream client.got.items client.answer → HasExchangeFor (option_map (λ (a : PendingResponse). a.bytes.items) client.answer) (exchanges_of client.number exchanges)
+      whole : (answer : Option PendingResponse) → client.answer ≡ answer → IsServedSo stream connection.came.stream client.stream client.got.items client.answer
+          → HasExchangeFor (option_map (λ (a : PendingResponse). a.bytes.items) client.answer) (exchanges_of client.number exchanges)
           → IsSomeAnd client.answer (λ (a : PendingResponse). length a.bytes.items ≤ a.sent) → IsWhy stream Done client.stream (exchanges_of client.number exchanges)
       whole None is own had all = absurd (subst (λ (x : Option PendingResponse). IsSomeAnd x (λ (a : PendingResponse). length a.bytes.items ≤ a.sent)) is all)
       whole (Some answer) is own had all =
@@ -368,8 +397,10 @@ module _ {L : Type 0} (settings : ServerSettingsEntry) (stream : Stream L) where
             before_again : (n : ℕ) → place < n → n - 1 + 1 ≡ n
             before_again n less = omega (arith, less)
 
-  pub one_left : (all_connections : List (ServedConnection L)) (exchanges : List Exchange) (gone : List (Removed L)) (came : ℕ) (clients : List (Client L)) (place : ℕ) (client : Client L) (why : CloseReason) → AreIn settings stream all_connections exchanges gone came clients
-      → place < length clients → ((d : Client L) → client ≡ get_or clients place d) → MayBeClosed stream why client → AreIn settings stream all_connections exchanges (gone ++ removed_of client why ∷ []) came (remove clients place)
+  pub one_left : (all_connections : List (ServedConnection L)) (exchanges : List Exchange) (gone : List (Removed L)) (came : ℕ) (clients : List (Client L))
+      (place : ℕ) (client : Client L) (why : CloseReason) → AreIn settings stream all_connections exchanges gone came clients
+      → place < length clients → ((d : Client L) → client ≡ get_or clients place d) → MayBeClosed stream why client
+      → AreIn settings stream all_connections exchanges (gone ++ removed_of client why ∷ []) came (remove clients place)
   one_left all_connections exchanges gone came clients place client why are within here may = record {
     count = are.count;
     went = are.went;
@@ -387,8 +418,10 @@ module _ {L : Type 0} (settings : ServerSettingsEntry) (stream : Stream L) where
           → IsIn (remove clients place) k ⊎ HasLeft stream (gone ++ removed_of client why ∷ []) exchanges k (get_or all_connections k d)
       by k d (inl e) left = inr (subst (λ (j : ℕ). HasLeft stream (gone ++ removed_of client why ∷ []) exchanges j (get_or all_connections j d)) (sym e) (record {
         why = why;
-        back = subst (λ (l : L). Contains (gone ++ removed_of client why ∷ []) (record { number = client.number; stream = l; why = why })) (sym (stood d).last) (Contains-push gone (removed_of client why));
-        holds = subst (λ (l : L). IsWhy stream why l (exchanges_of client.number exchanges)) (sym (stood d).last) (why_holds exchanges (get_or all_connections client.number d) client why (stood d) may);
+        back = subst (λ (l : L). Contains (gone ++ removed_of client why ∷ []) (record { number = client.number; stream = l; why = why })) (sym (stood d).last)
+            (Contains-push gone (removed_of client why));
+        holds = subst (λ (l : L). IsWhy stream why l (exchanges_of client.number exchanges)) (sym (stood d).last)
+            (why_holds exchanges (get_or all_connections client.number d) client why (stood d) may);
       }))
       by k d (inr ne) (inl is_in) = inl (in_without clients place client within here k ne is_in)
       by k d (inr ne) (inr it) = inr (record { why = it.why; back = Contains-append_left gone (removed_of client why ∷ []) _ it.back; holds = it.holds })

@@ -1,5 +1,6 @@
 -- What goes out of an order, one frame behind the other.
-use Rattle.std.proofs.Common.{◌≡◌, ◌∙◌, ◌<◌, ◌^◌, ◌++◌, ◌⊎◌, Bool, false, true, ◌&&◌, cond, ℕ, List, [], None, Option, Some, ap, arith, drop, fold, inl, inr, length, length-append, refl, subst, sym, take}
+use Rattle.std.proofs.Common.{◌≡◌, ◌∙◌, ◌<◌, ◌^◌, ◌++◌, ◌⊎◌, Bool, false, true, ◌&&◌, cond, ℕ, List, [], None}
+use Rattle.std.proofs.Common.{Option, Some, ap, arith, drop, fold, inl, inr, length, length-append, refl, subst, sym, take}
 use Rattle.std.proofs.Common.{leb}
 use Rattle.std.specs.Prelude.{⊤, bytes_eq}
 use Rattle.std.proofs.lemmas.Bool.{le-leb, leb-true}
@@ -107,7 +108,8 @@ module _ {L : Type 0} (stream : Stream L) where
   -- ---- one frame more
 
   -- the line took more of it
-  pub out_more : (old new : L) (before after : PendingResponse) → Delivers stream old new before.bytes.items before.sent after.sent → after.bytes.items ≡ before.bytes.items → IsGoingOut stream old before
+  pub out_more : (old new : L) (before after : PendingResponse) → Delivers stream old new before.bytes.items before.sent after.sent
+      → after.bytes.items ≡ before.bytes.items → IsGoingOut stream old before
       → IsGoingOut stream new after
   out_more old new before after delivers same goes = record {
     whole = subst AreWhole (sym same) goes.whole;
@@ -141,7 +143,8 @@ module _ {L : Type 0} (stream : Stream L) where
       )
 
   -- more frames were appended, of which the line took nothing yet
-  told_begun : (now : L) (before after : PendingResponse) → take (length before.bytes.items) after.bytes.items ≡ before.bytes.items → after.sent ≡ before.sent → IsSent stream now before.bytes.items before.sent
+  told_begun : (now : L) (before after : PendingResponse) → take (length before.bytes.items) after.bytes.items ≡ before.bytes.items → after.sent ≡ before.sent
+      → IsSent stream now before.bytes.items before.sent
       → IsSent stream now after.bytes.items after.sent
   told_begun now before after begins still told =
       told_still now before after (drop (length before.bytes.items) after.bytes.items)
@@ -160,6 +163,7 @@ module _ {L : Type 0} (stream : Stream L) where
         end = by end (says.error ∙ ap (λ (e : List ℕ). e ++ rest) goes.quiet);
       }
     where
-      by : ⊤ ⊎ ((rest ≡ err) × IsOver after.bytes.items status []) → error_output_of after.bytes.items ≡ rest → (IsOver after.bytes.items status [] × (error_output_of after.bytes.items ≡ err)) ⊎ AreWhole after.bytes.items
+      by : ⊤ ⊎ ((rest ≡ err) × IsOver after.bytes.items status []) → error_output_of after.bytes.items ≡ rest
+          → (IsOver after.bytes.items status [] × (error_output_of after.bytes.items ≡ err)) ⊎ AreWhole after.bytes.items
       by (inl cut) erred = inr says.whole
       by (inr (all, over)) erred = inl (over, erred ∙ all)

@@ -33,7 +33,8 @@ use Rattle.server.specs.ServedOrders.{IsOrderOutcome, IsFramed, TellsOrder, Tell
 use Rattle.wire.specs.Gates.{HttpSettingsEntry}
 use Rattle.server.specs.Reads.{AreReadAt, ServedOffice, IsRead, ReadEntry, with_none_kept}
 use Rattle.server.specs.Settings.{ServerSettingsEntry}
-use Rattle.server.specs.Exchanges.{AnswersInTurn, AreTurnedAway, ChangesNothing, EndsSo, IsAnsweredAt, IsKeptOf, IsKeptWaiting, IsLastFor, IsStoppedAt, IsToldClosed, IsSentAway, IsWithoutFile, KeepsReads, ServesAt, ServesClient, ServesExchange, Exchange}
+use Rattle.server.specs.Exchanges.{AnswersInTurn, AreTurnedAway, ChangesNothing, EndsSo, IsAnsweredAt, IsKeptOf, IsKeptWaiting, IsLastFor, IsStoppedAt}
+use Rattle.server.specs.Exchanges.{IsToldClosed, IsSentAway, IsWithoutFile, KeepsReads, ServesAt, ServesClient, ServesExchange, Exchange}
 use Rattle.desk.specs.declared.orders.Job.{Job}
 use Rattle.server.specs.declared.served_order.ServedOrder.{ServedOrder}
 use Rattle.server.specs.declared.served_order.ServedOrder.TheVariants as asked
@@ -92,11 +93,17 @@ tells_fault fault response (inr store) tells = subst (λ (f : Fault). IsTold (fa
 
 ready_failed : (settings : HttpSettingsEntry) (bytes : List ℕ) (s : OfficeState) (asked : HttpRequestEntry) (fault : Fault) (response : _) (closed : Bool) (st : State)
     → Asks settings bytes asked
-    → IsTold (fault_response (fault_number fault)) response → FaultLeaves s asked fault closed st → ReadyLeaves settings bytes s (λ sent. TellsFor settings (Some bytes) s sent response) (TellsFault response) closed st
+    → IsTold (fault_response (fault_number fault)) response → FaultLeaves s asked fault closed st
+    → ReadyLeaves settings bytes s (λ sent. TellsFor settings (Some bytes) s sent response) (TellsFault response) closed st
 ready_failed settings bytes s (denied why) fault response closed st asks tells leaves = absurd leaves
 ready_failed settings bytes s (shown clerk show) fault response closed st asks tells leaves = absurd leaves
 ready_failed settings bytes s (reading what) fault response closed st asks tells (inl kept) = inl ([], inr (tells_memory fault response kept.memory tells, refl), kept.open_at)
-ready_failed settings bytes s (reading what) fault response closed st asks tells (inr shut) = inr ([], tells_fault fault response (inr shut.fault) tells, inl refl, (shut.is_closed, leaves_as st _ _ (before_last s []) shut.leaves))
+ready_failed settings bytes s (reading what) fault response closed st asks tells (inr shut) = inr (
+  [],
+  tells_fault fault response (inr shut.fault) tells,
+  inl refl,
+  (shut.is_closed, leaves_as st _ _ (before_last s []) shut.leaves),
+)
 ready_failed settings bytes s (keying clerk batch entry) fault response closed st asks tells (outcome, is, inl kept) = inl ([], inr (tells_memory fault response kept.memory tells, refl), kept.open_at)
 ready_failed settings bytes s (keying clerk batch entry) fault response closed st asks tells (outcome, is, inr shut) =
     let last = is.request ∷ [] in
@@ -130,7 +137,8 @@ ClientLeaves settings s exchange closed st =
     ((sent : List Request) × EndsSo exchange (IsServed (TellsFor settings (Some exchange.got) s sent)) × IsOpenAt (after s sent) closed st)
     ⊎ ((last : List Request) × EndsSo exchange (IsServed TellsFault) × IsLastFor settings exchange.got last × ClosesAt s last closed st)
 
-client_leaves : (settings : HttpSettingsEntry) (s : OfficeState) (exchange : Exchange) (closed : Bool) (st : State) → EndsSo exchange (IsServed (λ response. ReadiesFor settings (Some exchange.got) s response closed st))
+client_leaves : (settings : HttpSettingsEntry) (s : OfficeState) (exchange : Exchange) (closed : Bool) (st : State)
+    → EndsSo exchange (IsServed (λ response. ReadiesFor settings (Some exchange.got) s response closed st))
     → ClientLeaves settings s exchange closed st
 client_leaves settings s exchange closed st (served, it) = elim (ready_leaves settings exchange.got s it.response closed st it.ready) [
   | inl (sent, tells, open_at) ↦ inl (sent, (served, record { response = it.response; ready = tells; put = it.put }), open_at)
@@ -190,7 +198,8 @@ module _ {S : Type 0} (state_of : Held S → State) (folder : Folder) (s : Offic
 abbrev TurnLeaves : {S : Type 0} → Listener → (Held S → State) → ServerSettingsEntry → OfficeState → Exchange → List ReadEntry → Bool → State → Type 0
 TurnLeaves listener state_of settings s exchange reads closed st =
     ((sent : List Request) × IsAnsweredAt listener state_of settings s exchange sent × AreReadAt (after s sent) reads × IsOpenAt (after s sent) closed st)
-    ⊎ ((answered : List Request) × (last : List Request) × IsStoppedAt listener state_of settings s exchange answered last × (closed ≡ true) × LeavesState st (IsAfterSome s (answered ++ last) (length answered)))
+    ⊎ ((answered : List Request) × (last : List Request) × IsStoppedAt listener state_of settings s exchange answered last × (closed ≡ true) × LeavesState st
+    (IsAfterSome s (answered ++ last) (length answered)))
 
 -- ---- what is kept of reads
 
@@ -218,16 +227,19 @@ module _ {S : Type 0} (settings : ServerSettingsEntry) (state_of : Held S → St
   stays_clean old new stays clean = subst (λ (d : ServedOffice S). HasCleanDisk (state_of d.office.held)) stays clean
 
   -- a client that is turned back is told so, and all stays as it was
-  turned_back : (exchange : Exchange) (old new : ServedOffice S) → IsKeptWaiting settings.clients old exchange new ⊎ IsWithoutFile settings old exchange new → IsSentAway settings exchange × (new ≡ old)
+  turned_back : (exchange : Exchange) (old new : ServedOffice S) → IsKeptWaiting settings.clients old exchange new ⊎ IsWithoutFile settings old exchange new
+      → IsSentAway settings exchange × (new ≡ old)
   turned_back exchange old new (inl waits) = (inl waits.told, waits.stays)
   turned_back exchange old new (inr gone) = (inr (gone.told, gone.unknown), gone.stays)
 
-  clean_at : (listener : Listener) (exchange : Exchange) (old new : ServedOffice S) → ServesAt listener settings state_of old exchange new → HasCleanDisk (state_of new.office.held) → HasCleanDisk (state_of old.office.held)
+  clean_at : (listener : Listener) (exchange : Exchange) (old new : ServedOffice S) → ServesAt listener settings state_of old exchange new
+      → HasCleanDisk (state_of new.office.held) → HasCleanDisk (state_of old.office.held)
   clean_at Clients exchange old new (inl it) clean = stays_clean old new (turned_back exchange old new it).1 clean
   clean_at Clients exchange old new (inr it) clean = it.serves.clean clean
   clean_at Orders exchange old new it clean = it.0.tells.clean clean
 
-  away_at : (listener : Listener) (exchange : Exchange) (old new : ServedOffice S) → ServesAt listener settings state_of old exchange new → old.office.closed ≡ true → IsToldClosed listener settings exchange × (new.office ≡ old.office)
+  away_at : (listener : Listener) (exchange : Exchange) (old new : ServedOffice S) → ServesAt listener settings state_of old exchange new
+      → old.office.closed ≡ true → IsToldClosed listener settings exchange × (new.office ≡ old.office)
   away_at Clients exchange old new (inl it) closed = let back = turned_back exchange old new it in (inl back.0, ap (λ (d : ServedOffice S). d.office) back.1)
   away_at Clients exchange old new (inr it) closed = let (told, stays) = it.serves.turned_away closed in (inr told, stays)
   away_at Orders exchange old new (it, emptied, same) closed =
@@ -235,7 +247,8 @@ module _ {S : Type 0} (settings : ServerSettingsEntry) (state_of : Held S → St
       (record { files = it.files; asked = it.asked; is = it.is; cut = it.tells.cut; told = subst (λ (p : Page). IsFramed it.tells.cut p exchange.answer) page it.tells.told }, stays)
 
   -- what is kept behind a client who was served is right at the state after him
-  kept_right : (s : OfficeState) (exchange : Exchange) (old new : ServedOffice S) → ServesClient settings.clients state_of old exchange new → HasCleanDisk (state_of new.office.held) → old.office.closed ≡ false
+  kept_right : (s : OfficeState) (exchange : Exchange) (old new : ServedOffice S) → ServesClient settings.clients state_of old exchange new
+      → HasCleanDisk (state_of new.office.held) → old.office.closed ≡ false
       → IsAt s (state_of old.office.held) → AreReadAt s old.kept.reads → (sent : List Request) → EndsSo exchange (IsServed (TellsFor settings.clients (Some exchange.got) s sent))
       → AreReadAt (after s sent) new.kept.reads
   kept_right s exchange old new it clean is_open at right sent told = by it.keeps
@@ -247,7 +260,8 @@ module _ {S : Type 0} (settings : ServerSettingsEntry) (state_of : Held S → St
           subst (λ (rs : List Request). AreReadAt (after s rs) new.kept.reads) (sym (nothing_sent settings.clients s exchange asked sent asks nothing told)) still.0
 
   -- a client was served
-  served_leaves : (s : OfficeState) (exchange : Exchange) (old new : ServedOffice S) → ServesClient settings.clients state_of old exchange new → HasCleanDisk (state_of new.office.held) → old.office.closed ≡ false
+  served_leaves : (s : OfficeState) (exchange : Exchange) (old new : ServedOffice S) → ServesClient settings.clients state_of old exchange new
+      → HasCleanDisk (state_of new.office.held) → old.office.closed ≡ false
       → IsAt s (state_of old.office.held) → AreReadAt s old.kept.reads → TurnLeaves Clients state_of settings s exchange new.kept.reads new.office.closed (state_of new.office.held)
   served_leaves s exchange old new it clean is_open at right =
       elim (client_leaves settings.clients s exchange new.office.closed (state_of new.office.held) (it.serves clean is_open s at right)) [
@@ -255,7 +269,8 @@ module _ {S : Type 0} (settings : ServerSettingsEntry) (state_of : Held S → St
         | inr (last, ends, is_last, (is_closed, leaves)) ↦ inr ([], last, (ends, refl, is_last), is_closed, leaves)
       ]
 
-  turn_leaves : (listener : Listener) (s : OfficeState) (exchange : Exchange) (old new : ServedOffice S) → ServesAt listener settings state_of old exchange new → HasCleanDisk (state_of new.office.held) → old.office.closed ≡ false
+  turn_leaves : (listener : Listener) (s : OfficeState) (exchange : Exchange) (old new : ServedOffice S) → ServesAt listener settings state_of old exchange new
+      → HasCleanDisk (state_of new.office.held) → old.office.closed ≡ false
       → IsAt s (state_of old.office.held) → AreReadAt s old.kept.reads → TurnLeaves listener state_of settings s exchange new.kept.reads new.office.closed (state_of new.office.held)
   turn_leaves Clients s exchange old new (inl it) clean is_open at right =
       let back = turned_back exchange old new it in
@@ -271,11 +286,13 @@ module _ {S : Type 0} (settings : ServerSettingsEntry) (state_of : Held S → St
         | inr (sent, last, so, is_closed, leaves) ↦ inr (sent, last, tells sent last so, is_closed, leaves)
       ]
 
-  pub cleans : (exchanges : List Exchange) (old new : ServedOffice S) → FoldsTo (ServesExchange settings state_of) old exchanges new → HasCleanDisk (state_of new.office.held) → HasCleanDisk (state_of old.office.held)
+  pub cleans : (exchanges : List Exchange) (old new : ServedOffice S) → FoldsTo (ServesExchange settings state_of) old exchanges new
+      → HasCleanDisk (state_of new.office.held) → HasCleanDisk (state_of old.office.held)
   cleans [] old new same clean = subst (λ (o : ServedOffice S). HasCleanDisk (state_of o.office.held)) (sym same) clean
   cleans (exchange ∷ exchanges) old new (mid, step, rest) clean = clean_at exchange.listener exchange old mid step (cleans exchanges mid new rest clean)
 
-  pub turned_away : (exchanges : List Exchange) (old new : ServedOffice S) → FoldsTo (ServesExchange settings state_of) old exchanges new → old.office.closed ≡ true → AreTurnedAway settings exchanges × (new.office ≡ old.office)
+  pub turned_away : (exchanges : List Exchange) (old new : ServedOffice S) → FoldsTo (ServesExchange settings state_of) old exchanges new
+      → old.office.closed ≡ true → AreTurnedAway settings exchanges × (new.office ≡ old.office)
   turned_away [] old new same closed = (tt, sym (ap (λ (o : ServedOffice S). o.office) same))
   turned_away (exchange ∷ exchanges) old new (mid, step, rest) closed =
       let (away, stays) = away_at exchange.listener exchange old mid step closed in
@@ -306,7 +323,8 @@ module _ {S : Type 0} (settings : ServerSettingsEntry) (state_of : Held S → St
     open_at = λ was. subst (λ x. IsOpenAt x closed st) (sym (fold-append after_one s sent others.answered)) (others.open_at was);
     leaves = leaves_as st _ _ (λ x it.
         subst (λ rs. IsAfterSome s rs (length (sent ++ others.answered)) x) (sym (append_assoc sent others.answered others.last))
-        (subst (λ n. IsAfterSome s (sent ++ (others.answered ++ others.last)) n x) (sym (length-append sent others.answered)) (behind s sent (others.answered ++ others.last) (length others.answered) x it)))
+        (subst (λ n. IsAfterSome s (sent ++ (others.answered ++ others.last)) n x) (sym (length-append sent others.answered))
+        (behind s sent (others.answered ++ others.last) (length others.answered) x it)))
         others.leaves;
   }
 
@@ -321,7 +339,8 @@ module _ {S : Type 0} (settings : ServerSettingsEntry) (state_of : Held S → St
     leaves = leaves;
   }
 
-  keeps : (s : OfficeState) (exchanges : List Exchange) (old new : ServedOffice S) → FoldsTo (ServesExchange settings state_of) old exchanges new → HasCleanDisk (state_of new.office.held) → old.office.closed ≡ false
+  keeps : (s : OfficeState) (exchanges : List Exchange) (old new : ServedOffice S) → FoldsTo (ServesExchange settings state_of) old exchanges new
+      → HasCleanDisk (state_of new.office.held) → old.office.closed ≡ false
       → IsAt s (state_of old.office.held) → AreReadAt s old.kept.reads → Keeps s exchanges new.office.closed (state_of new.office.held)
   keeps s [] old new same clean is_open at right =
       subst (λ (o : ServedOffice S). Keeps s [] o.office.closed (state_of o.office.held)) same (record {

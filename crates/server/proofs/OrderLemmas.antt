@@ -47,7 +47,8 @@ shown_said (cut_behind took) told page status it = taken_known told.out took it.
 shown_said cut_error told page status it = taken_known told.out page.out it.out
 
 -- what is asked had its turn, and its page was told in frames
-pub tells_asked : {L S : Type 0} (stream : Stream L) (state_of : Held S → State) (old new : OfficeValue S) (files : List MessagePartEntry) (what : ServedOrder) (before after : Outputs) (status : ℕ) (err : List ℕ)
+pub tells_asked : {L S : Type 0} (stream : Stream L) (state_of : Held S → State) (old new : OfficeValue S) (files : List MessagePartEntry) (what : ServedOrder)
+    (before after : Outputs) (status : ℕ) (err : List ℕ)
     (now : L) (answer : PendingResponse) → before ≡ untold → after.err ≡ Some err → ((said : List ℕ) → after.out ≡ Some said → IsEnded stream said status err now answer)
     → Tells before after status (λ cut page. WhenOpenAt state_of old new (λ s. IsOrderOutcome (state_of old.held) new.closed (state_of new.held) (folder_of files) s what cut page)
     × (old.closed ≡ true → page ≡ shut_page what)) → (old.closed ≡ true → new ≡ old) → (HasCleanDisk (state_of new.held) → HasCleanDisk (state_of old.held))
@@ -138,7 +139,8 @@ pub follows_unread : {S : Type 0} (settings : ServerSettingsEntry) (state_of : H
 follows_unread {S} settings state_of old new got frames files what unread none tells = record { files = files; asked = what; is = inr (unread, none); tells = tells }
 
 -- what is read is followed, by the words and with the files as they were read
-pub follows_read : {S : Type 0} (settings : ServerSettingsEntry) (state_of : Held S → State) (old new : OfficeValue S) (got frames : List ℕ) (h : OrderMessage) (files : List MessagePart) (what : ServedOrder)
+pub follows_read : {S : Type 0} (settings : ServerSettingsEntry) (state_of : Held S → State) (old new : OfficeValue S) (got frames : List ℕ) (h : OrderMessage)
+    (files : List MessagePart) (what : ServedOrder)
     → IsMessage got (order_message_entry h) → IsForFile settings.file (order_message_entry h) → files ≡ h.files.items → AsksSo settings.whole (order_message_entry h) what
     → TellsAsked state_of old (message_part_entries files) what frames new → FollowsOrder settings state_of old got frames new
 follows_read {S} settings state_of old new got frames h files what message for_file same asks tells =

@@ -16,7 +16,8 @@ gone_more first (one ∷ answers) left gone is rest = (
 )
 
 -- one of those that are kept
-pub kept_has : (answers seen : List CachedRead) (place : ℕ) (one : CachedRead) (what : Resource) (answer : List ℕ) → seen ≡ answers → place < length seen → one ≡ get_or seen place one → one.what ≡ what
+pub kept_has : (answers seen : List CachedRead) (place : ℕ) (one : CachedRead) (what : Resource) (answer : List ℕ) → seen ≡ answers → place < length seen
+    → one ≡ get_or seen place one → one.what ≡ what
     → answer ≡ one.answer.items → (entry : ReadEntry) × Contains (map read_entry answers) entry × (entry.what ≡ what) × (entry.answer ≡ answer)
 kept_has answers seen place one what answer same within is asked told =
     subst (λ (xs : List CachedRead). (entry : ReadEntry) × Contains (map read_entry xs) entry × (entry.what ≡ what) × (entry.answer ≡ answer)) same

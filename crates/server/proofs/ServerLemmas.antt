@@ -1,5 +1,6 @@
 -- From one moment of a hall to another.
-use Rattle.std.proofs.Common.{◌≡◌, ◌≤◌, ◌<◌, ◌+◌, ◌-◌, ◌^◌, ◌∙◌, ◌⊎◌, ◌∷◌, ◌++◌, ℕ, add-zero, true, List, [], None, Option, Some, ap, append-nil, append_assoc, arith, get_or, inl, inr, insert, length, length-set, map, option_map, refl, remove, set, subst, suc, sym, zero}
+use Rattle.std.proofs.Common.{◌≡◌, ◌≤◌, ◌<◌, ◌+◌, ◌-◌, ◌^◌, ◌∙◌, ◌⊎◌, ◌∷◌, ◌++◌, ℕ, add-zero, true, List, [], None, Option, Some, ap}
+use Rattle.std.proofs.Common.{append-nil, append_assoc, arith, get_or, inl, inr, insert, length, length-set, map, option_map, refl, remove, set, subst, suc, sym, zero}
 use Rattle.std.specs.Prelude.{Bool, Err, IfOk, IfSome, Ok, OnOk, Result, is_some, unwrap_or}
 use Rattle.std.specs.Result.{IsErr}
 use Rattle.std.specs.List.{All, FoldsTo}
@@ -138,10 +139,12 @@ module _ {L : Type 0} (gated : Bool) (stream : Stream L) where
       → AreClosedByRule (IsClosedByRule (timeout_rule moment)) now gone old left → All (λ (c : Client L). moment - c.since < timeout) left.clients.items
       → Trace gated stream [] (Some moment) (Some moment) gone later left.clients.items new.clients.items → Trace gated stream [] from (Some moment) before later old.clients.items new.clients.items
   course_round from before now gone later old left new moment shown late none trace =
-      trace_then gated stream [] [] from (Some moment) (Some moment) before gone later old.clients.items left.clients.items new.clients.items (course_look gated stream from moment before now gone old left shown late none) trace
+      trace_then gated stream [] [] from (Some moment) (Some moment) before gone later old.clients.items left.clients.items new.clients.items
+      (course_look gated stream from moment before now gone old left shown late none) trace
 
   -- then a wait, which may fail
-  pub course_wait : (result : Result (Unit {0}) Broken) (from to : Option ℕ) (before mid later : NetworkEntry L) (old new : List (Client L)) → later ≡ after_wait result mid → Trace gated stream [] from to before mid old new
+  pub course_wait : (result : Result (Unit {0}) Broken) (from to : Option ℕ) (before mid later : NetworkEntry L) (old new : List (Client L))
+      → later ≡ after_wait result mid → Trace gated stream [] from to before mid old new
       → Trace gated stream [] from to before later old new
   course_wait (Ok value) from to before mid later old new is trace =
       trace_then gated stream [] [] from to to before mid later old new new trace (trace_none gated stream to mid later new (ap (λ (d : NetworkEntry L). d.events) is))
@@ -151,8 +154,10 @@ module _ {L : Type 0} (settings : ServerSettingsEntry) (stream : Stream L) where
   -- ---- a room
 
   -- nobody came in, and whoever is in is still who it was, or was handed back
-  pub goes_with : (before later : NetworkEntry L) (old new : ConnectionTable L) (gone : List (Removed L)) → later.came ≡ before.came → RemovesMore before.left later.left gone → new.counted ≡ old.counted + 0
-      → ((all_connections : List (ServedConnection L)) (exchanges : List Exchange) (left : List (Removed L)) → AreIn settings stream all_connections exchanges left old.came old.clients.items → AreIn settings stream all_connections exchanges (left ++ gone) new.came new.clients.items)
+  pub goes_with : (before later : NetworkEntry L) (old new : ConnectionTable L) (gone : List (Removed L)) → later.came ≡ before.came
+      → RemovesMore before.left later.left gone → new.counted ≡ old.counted + 0
+      → ((all_connections : List (ServedConnection L)) (exchanges : List Exchange) (left : List (Removed L)) → AreIn settings stream all_connections exchanges left old.came old.clients.items
+      → AreIn settings stream all_connections exchanges (left ++ gone) new.came new.clients.items)
       → GoesOn settings stream [] before later old new
   goes_with before later old new gone same back counted stay = record {
     all_accepted = [];
@@ -191,31 +196,37 @@ module _ {L : Type 0} (settings : ServerSettingsEntry) (stream : Stream L) where
 
   -- some were let go
   module _ (Goes : List (Client L) → Removed L → List (Client L) → Type 0) (outs : Outs Goes) where
-    stay : (gone : List (Removed L)) (all_connections : List (ServedConnection L)) (exchanges : List Exchange) (left : List (Removed L)) (came : ℕ) (old new : List (Client L)) → FoldsTo Goes old gone new
+    stay : (gone : List (Removed L)) (all_connections : List (ServedConnection L)) (exchanges : List Exchange) (left : List (Removed L)) (came : ℕ) (old new : List (Client L))
+        → FoldsTo Goes old gone new
         → AreIn settings stream all_connections exchanges left came old → AreIn settings stream all_connections exchanges (left ++ gone) came new
     stay [] all_connections exchanges left came old new same are =
-        subst (λ (ls : List (Removed L)). AreIn settings stream all_connections exchanges ls came new) (sym (append-nil left)) (subst (λ (cs : List (Client L)). AreIn settings stream all_connections exchanges left came cs) same are)
+        subst (λ (ls : List (Removed L)). AreIn settings stream all_connections exchanges ls came new) (sym (append-nil left))
+        (subst (λ (cs : List (Client L)). AreIn settings stream all_connections exchanges left came cs) same are)
     stay (removed ∷ gone) all_connections exchanges left came old new (mid, goes, others) are =
         subst (λ (ls : List (Removed L)). AreIn settings stream all_connections exchanges ls came new) (append_assoc left (removed ∷ []) gone)
         (stay gone all_connections exchanges (left ++ removed ∷ []) came mid new others (step old mid goes are))
       where
-        step : (clients rest : List (Client L)) → Goes clients removed rest → AreIn settings stream all_connections exchanges left came clients → AreIn settings stream all_connections exchanges (left ++ removed ∷ []) came rest
+        step : (clients rest : List (Client L)) → Goes clients removed rest → AreIn settings stream all_connections exchanges left came clients
+            → AreIn settings stream all_connections exchanges (left ++ removed ∷ []) came rest
         step [] rest it is_in = let out = outs [] removed rest it in absurd (omega (arith, out.out.within))
         step (c ∷ cs) rest it is_in =
             let out = outs (c ∷ cs) removed rest it in
             let client = get_or (c ∷ cs) out.place c in
             subst (λ (rs : List (Client L)). AreIn settings stream all_connections exchanges (left ++ removed ∷ []) came rs) (sym out.out.left)
             (subst (λ (l : Removed L). AreIn settings stream all_connections exchanges (left ++ l ∷ []) came (remove (c ∷ cs) out.place)) (sym (out.out.is c))
-            (one_left settings stream all_connections exchanges left came (c ∷ cs) out.place client out.why is_in out.out.within (λ d. get_or_default (c ∷ cs) out.place c d out.out.within) (out.may stream client)))
+            (one_left settings stream all_connections exchanges left came (c ∷ cs) out.place client out.why is_in out.out.within (λ d. get_or_default (c ∷ cs) out.place c d out.out.within)
+            (out.may stream client)))
 
     pub goes_without : (before later : NetworkEntry L) (old new : ConnectionTable L) → AreClosedByRule Goes before later old new → GoesOn settings stream [] before later old new
     goes_without before later old new it =
-        goes_with before later old new it.gone (ap (λ (d : NetworkEntry L). d.came) it.back) (ap (λ (d : NetworkEntry L). d.left) it.back) (omega (arith, it.counted)) (λ all_connections exchanges left are.
+        goes_with before later old new it.gone (ap (λ (d : NetworkEntry L). d.came) it.back) (ap (λ (d : NetworkEntry L). d.left) it.back)
+        (omega (arith, it.counted)) (λ all_connections exchanges left are.
         stay it.gone all_connections exchanges left new.came old.clients.items new.clients.items it.each
         (subst (λ (n : ℕ). AreIn settings stream all_connections exchanges left n old.clients.items) (sym it.came) are))
 
   -- late ones were closed, and more came in
-  pub goes_round : (before now gone later : NetworkEntry L) (old left new : ConnectionTable L) (moment : ℕ) → now ≡ with_moment before moment → AreClosedByRule (IsClosedByRule (timeout_rule moment)) now gone old left
+  pub goes_round : (before now gone later : NetworkEntry L) (old left new : ConnectionTable L) (moment : ℕ) → now ≡ with_moment before moment
+      → AreClosedByRule (IsClosedByRule (timeout_rule moment)) now gone old left
       → GoesOn settings stream [] gone later left new → GoesOn settings stream [] before later old new
   goes_round before now gone later old left new moment shown late more =
       goes_then [] [] before now later old old new (goes_none before now old (ap (λ (d : NetworkEntry L). d.came) shown, ap (λ (d : NetworkEntry L). d.left) shown))
@@ -231,11 +242,14 @@ module _ {L : Type 0} (settings : ServerSettingsEntry) (stream : Stream L) where
   goes_failure before later table is = goes_none before later table (ap (λ (d : NetworkEntry L). d.came) is, ap (λ (d : NetworkEntry L). d.left) is)
 
   -- one left that may, for its reason
-  pub goes_less : (before later : NetworkEntry L) (old new : ConnectionTable L) (place : ℕ) (client : Client L) (why : CloseReason) → later ≡ with_removed before (removed_of client why) → place < length old.clients.items
-      → ((d : Client L) → client ≡ get_or old.clients.items place d) → MayBeClosed stream why client → new.clients.items ≡ remove old.clients.items place → new.came ≡ old.came → new.counted ≡ old.counted
+  pub goes_less : (before later : NetworkEntry L) (old new : ConnectionTable L) (place : ℕ) (client : Client L) (why : CloseReason)
+      → later ≡ with_removed before (removed_of client why) → place < length old.clients.items
+      → ((d : Client L) → client ≡ get_or old.clients.items place d) → MayBeClosed stream why client → new.clients.items ≡ remove old.clients.items place
+      → new.came ≡ old.came → new.counted ≡ old.counted
       → GoesOn settings stream [] before later old new
   goes_less before later old new place client why back within here may items same_came same_counted =
-      goes_with before later old new (removed_of client why ∷ []) (ap (λ (d : NetworkEntry L). d.came) back) (ap (λ (d : NetworkEntry L). d.left) back) (omega (arith, same_counted)) (λ all_connections exchanges left are.
+      goes_with before later old new (removed_of client why ∷ []) (ap (λ (d : NetworkEntry L). d.came) back) (ap (λ (d : NetworkEntry L). d.left) back)
+      (omega (arith, same_counted)) (λ all_connections exchanges left are.
       are_same settings stream all_connections exchanges (left ++ removed_of client why ∷ []) old.came new.came (remove old.clients.items place) new.clients.items same_came items
       (one_left settings stream all_connections exchanges left old.came old.clients.items place client why are within here may))
 
@@ -263,9 +277,11 @@ module _ {L : Type 0} (settings : ServerSettingsEntry) (stream : Stream L) where
   -- ---- one goes on
 
   -- he has the answer that he had, or none as before
-  had_still : (connection : ServedConnection L) (exchanges : List Exchange) (old new : Client L) → answer_of new ≡ answer_of old → ((start : L) → IsOf stream start old → IsOf stream start new) → IsOpenConnection stream exchanges connection old
+  had_still : (connection : ServedConnection L) (exchanges : List Exchange) (old new : Client L) → answer_of new ≡ answer_of old
+      → ((start : L) → IsOf stream start old → IsOf stream start new) → IsOpenConnection stream exchanges connection old
       → HadExchange settings stream connection (exchanges_of old.number exchanges)
-      → IsOf stream connection.came.stream new × HasExchangeFor (answer_of new) (exchanges_of old.number (exchanges ++ [])) × ((exchange : Exchange) → exchanges_of old.number (exchanges ++ []) ≡ exchange ∷ [] → IsGathered settings stream connection.came exchange)
+      → IsOf stream connection.came.stream new × HasExchangeFor (answer_of new) (exchanges_of old.number (exchanges ++ [])) × ((exchange : Exchange)
+      → exchanges_of old.number (exchanges ++ []) ≡ exchange ∷ [] → IsGathered settings stream connection.came exchange)
   had_still connection exchanges old new same is stood went =
       let under = same_under old.number exchanges [] (All-nil (λ (v : Exchange). v.number ≡ old.number → ⊥)) in (
         is connection.came.stream stood.own,
@@ -274,7 +290,8 @@ module _ {L : Type 0} (settings : ServerSettingsEntry) (stream : Stream L) where
       )
 
   -- he had his turn, of whom all was heard
-  had_turn : {S : Type 0} (state_of : Held S → State) (connection : ServedConnection L) (exchanges : List Exchange) (now : ℕ) (old new : Client L) (before later : ServedOffice S) → (turn : HasResponded settings stream state_of now old new before later)
+  had_turn : {S : Type 0} (state_of : Held S → State) (connection : ServedConnection L) (exchanges : List Exchange) (now : ℕ) (old new : Client L) (before later : ServedOffice S)
+      → (turn : HasResponded settings stream state_of now old new before later)
       → ((start : L) → IsOf stream start old → IsOf stream start new) → IsOpenConnection stream exchanges connection old
       → IsOf stream connection.came.stream new × HasExchangeFor (answer_of new) (exchanges_of old.number (exchanges ++ turn.exchange ∷ []))
       × ((exchange : Exchange) → exchanges_of old.number (exchanges ++ turn.exchange ∷ []) ≡ exchange ∷ [] → IsGathered settings stream connection.came exchange)
@@ -302,8 +319,10 @@ module _ {L : Type 0} (settings : ServerSettingsEntry) (stream : Stream L) where
   ServesJust state_of exchanges before later old new at behind = (it : GoesOnServing settings stream state_of before later old new at behind) × (it.exchanges ≡ exchanges)
 
   -- he went on, and stands in his place again
-  pub goes_on_at : {S : Type 0} (state_of : Held S → State) (before later : NetworkEntry L) (table after : ConnectionTable L) (place : ℕ) (old new : Client L) (at behind : ServedOffice S) (now : ℕ) (exchanges : List Exchange) → IsStill before later
-      → place < length table.clients.items → old ≡ get_or table.clients.items place old → new.listener ≡ old.listener → new.number ≡ old.number → ((start : L) → IsOf stream start old → IsOf stream start new)
+  pub goes_on_at : {S : Type 0} (state_of : Held S → State) (before later : NetworkEntry L) (table after : ConnectionTable L) (place : ℕ) (old new : Client L)
+      (at behind : ServedOffice S) (now : ℕ) (exchanges : List Exchange) → IsStill before later
+      → place < length table.clients.items → old ≡ get_or table.clients.items place old → new.listener ≡ old.listener → new.number ≡ old.number
+      → ((start : L) → IsOf stream start old → IsOf stream start new)
       → HasExchanges settings stream state_of now exchanges old new at behind → after.clients.items ≡ set table.clients.items place new → after.came ≡ table.came → after.counted ≡ table.counted
       → ServesJust state_of exchanges before later table after at behind
   goes_on_at state_of before later table after place old new at behind now (exchange ∷ []) (same_in, same_left) within here listener number is (turn, one) items came counted = (
@@ -340,7 +359,8 @@ module _ {L : Type 0} (settings : ServerSettingsEntry) (stream : Stream L) where
         gone = [];
         back = grows_same before.left later.left same_left;
         own = λ all_connections earlier left are.
-            let (all, all_came, all_are) = one_went_on settings stream all_connections earlier [] left table.came table.clients.items place old new are within here listener number (All-nil (λ (v : Exchange). v.number ≡ old.number))
+            let (all, all_came, all_are) = one_went_on settings stream all_connections earlier [] left table.came table.clients.items place old new are within here listener number
+            (All-nil (λ (v : Exchange). v.number ≡ old.number))
             (λ connection stood went. had_still connection earlier old new answer is stood went) in (
               all,
               all_came ∙ sym (append-nil (map (λ (g : ServedConnection L). g.came) all_connections)),
@@ -364,12 +384,14 @@ module _ {L : Type 0} (settings : ServerSettingsEntry) (stream : Stream L) where
     CourseBy exchanges before later old new = (from : Option ℕ) → (to : Option ℕ) × Trace gated stream (map response_at exchanges) from to before later old new
 
     -- nobody had a turn
-    pub serves_none : (before later : NetworkEntry L) (old new : ConnectionTable L) (office : ServedOffice S) → GoesOn settings stream [] before later old new → CourseBy [] before later old.clients.items new.clients.items
+    pub serves_none : (before later : NetworkEntry L) (old new : ConnectionTable L) (office : ServedOffice S) → GoesOn settings stream [] before later old new
+        → CourseBy [] before later old.clients.items new.clients.items
         → ServesOn settings stream state_of before later old new office office
     serves_none before later old new office goes trace = λ from. let (to, it) = trace from in (to, record { exchanges = []; each = refl; goes_on = goes }, it)
 
     pub serves_then : (before mid later : NetworkEntry L) (old went new : ConnectionTable L) (at between behind : ServedOffice S)
-        → ServesOn settings stream state_of before mid old went at between → ServesOn settings stream state_of mid later went new between behind → ServesOn settings stream state_of before later old new at behind
+        → ServesOn settings stream state_of before mid old went at between → ServesOn settings stream state_of mid later went new between behind
+        → ServesOn settings stream state_of before later old new at behind
     serves_then before mid later old went new at between behind first next = λ from.
         let (between_shown, a, first_course) = first from in
         let (to, b, next_course) = next between_shown in (
@@ -380,7 +402,8 @@ module _ {L : Type 0} (settings : ServerSettingsEntry) (stream : Stream L) where
             goes_on = goes_then a.exchanges b.exchanges before mid later old went new a.goes_on b.goes_on;
           },
           subst (λ (ts : List ResponseAt). Trace gated stream ts from to before later old.clients.items new.clients.items) (sym (map-append response_at a.exchanges b.exchanges))
-              (trace_then gated stream (map response_at a.exchanges) (map response_at b.exchanges) from between_shown to before mid later old.clients.items went.clients.items new.clients.items first_course next_course),
+              (trace_then gated stream (map response_at a.exchanges) (map response_at b.exchanges) from between_shown to before mid later old.clients.items
+              went.clients.items new.clients.items first_course next_course),
         )
 
     -- one had these visits
@@ -393,16 +416,19 @@ module _ {L : Type 0} (settings : ServerSettingsEntry) (stream : Stream L) where
     -- nothing is known of the doors but what was
     pub serves_still : (before later : NetworkEntry L) (table : ConnectionTable L) (office : ServedOffice S) → later ≡ before → ServesOn settings stream state_of before later table table office office
     serves_still before later table office is =
-        serves_none before later table table office (goes_none before later table (still_known before later is)) (λ from. (from, trace_none gated stream from before later table.clients.items (ap (λ (d : NetworkEntry L). d.events) is)))
+        serves_none before later table table office (goes_none before later table (still_known before later is))
+        (λ from. (from, trace_none gated stream from before later table.clients.items (ap (λ (d : NetworkEntry L). d.events) is)))
 
     -- one was named that isn't in
-    pub serves_nobody : (number : ℕ) (before later : NetworkEntry L) (table : ConnectionTable L) (office : ServedOffice S) → later ≡ after_ready (Some number) before → ServesOn settings stream state_of before later table table office office
+    pub serves_nobody : (number : ℕ) (before later : NetworkEntry L) (table : ConnectionTable L) (office : ServedOffice S) → later ≡ after_ready (Some number) before
+        → ServesOn settings stream state_of before later table table office office
     serves_nobody number before later table office is =
         serves_none before later table table office (goes_none before later table (ap (λ (d : NetworkEntry L). d.came) is, ap (λ (d : NetworkEntry L). d.left) is))
         (λ from. (from, course_misses gated stream from number before later table.clients.items is))
 
     -- some were closed until no more bytes were held than may be
-    pub serves_within : (before later : NetworkEntry L) (old new : ConnectionTable L) (office : ServedOffice S) → AreClosedByRule IsClosedForBytes before later old new → ServesOn settings stream state_of before later old new office office
+    pub serves_within : (before later : NetworkEntry L) (old new : ConnectionTable L) (office : ServedOffice S) → AreClosedByRule IsClosedForBytes before later old new
+        → ServesOn settings stream state_of before later old new office office
     serves_within before later old new office gone =
         serves_none before later old new office (goes_without IsClosedForBytes bytes_outs before later old new gone)
         (λ from. (from, course_closes gated stream IsClosedForBytes from (bytes_due gated stream from) before later old new gone))
@@ -410,14 +436,16 @@ module _ {L : Type 0} (settings : ServerSettingsEntry) (stream : Stream L) where
     -- ---- one that was named went on
 
     -- the visits that it had are its turns
-    had_turns : (gate : Option ℕ) (exchanges : List Exchange) (old new : Client L) (at behind : ServedOffice S) → HasExchanges settings stream state_of (moment_of gate) exchanges old new at behind → IsAtGate gated gate exchanges
+    had_turns : (gate : Option ℕ) (exchanges : List Exchange) (old new : Client L) (at behind : ServedOffice S)
+        → HasExchanges settings stream state_of (moment_of gate) exchanges old new at behind → IsAtGate gated gate exchanges
         → HadResponses gated gate (map response_at exchanges) old new
     had_turns gate [] old new at behind (same, answer) at_gate = answer
     had_turns gate (exchange ∷ []) old new at behind (turn, one) at_gate =
         (sym (ap (λ (v : Exchange). v.number) one) ∙ turn.number, turn.unanswered, turn.his ∙ ap (λ (v : Exchange). Some v.answer) one, at_gate)
     had_turns gate (exchange ∷ other ∷ more) old new at behind never at_gate = absurd never
 
-    module _ (before ready : NetworkEntry L) (table : ConnectionTable L) (place number : ℕ) (old new : Client L) (at behind : ServedOffice S) (named : ready ≡ after_ready (Some number) before) (within : place < length table.clients.items)
+    module _ (before ready : NetworkEntry L) (table : ConnectionTable L) (place number : ℕ) (old new : Client L) (at behind : ServedOffice S)
+        (named : ready ≡ after_ready (Some number) before) (within : place < length table.clients.items)
         (here : old ≡ get_or table.clients.items place old) (numbered : IsNumbered table.clients.items place number) (listener : new.listener ≡ old.listener) (same : new.number ≡ old.number)
         (is : (start : L) → IsOf stream start old → IsOf stream start new) where
       his_number : old.number ≡ number
@@ -426,7 +454,8 @@ module _ {L : Type 0} (settings : ServerSettingsEntry) (stream : Stream L) where
       named_still : (later : NetworkEntry L) → IsStill ready later → IsStill before later
       named_still later (in_same, left_same) = (in_same ∙ ap (λ (d : NetworkEntry L). d.came) named, left_same ∙ ap (λ (d : NetworkEntry L). d.left) named)
 
-      serves_back : (result : Result (Option CloseReason) Broken) (later : NetworkEntry L) (taken back : ConnectionTable L) → (went : WasServiced gated settings stream state_of result ready later old new at behind)
+      serves_back : (result : Result (Option CloseReason) Broken) (later : NetworkEntry L) (taken back : ConnectionTable L)
+          → (went : WasServiced gated settings stream state_of result ready later old new at behind)
           → CourseBy went.exchanges before later table.clients.items (set table.clients.items place new)
           → taken.clients.items ≡ remove table.clients.items place → back.clients.items ≡ insert taken.clients.items place new → back.came ≡ table.came → back.counted ≡ table.counted
           → ServesOn settings stream state_of before later table back at behind
@@ -457,7 +486,8 @@ module _ {L : Type 0} (settings : ServerSettingsEntry) (stream : Stream L) where
           (had_turns went.gate went.exchanges old new at behind went.had went.at_gate) broken before ready later named went.comes) out items came counted
 
       -- it left
-      pub serves_leaves : (why : CloseReason) (mid later : NetworkEntry L) (left : ConnectionTable L) → WasServiced gated settings stream state_of (Ok (Some why)) ready mid old new at behind → later ≡ with_removed mid (removed_of new why)
+      pub serves_leaves : (why : CloseReason) (mid later : NetworkEntry L) (left : ConnectionTable L) → WasServiced gated settings stream state_of (Ok (Some why)) ready mid old new at behind
+          → later ≡ with_removed mid (removed_of new why)
           → left.clients.items ≡ remove table.clients.items place → left.came ≡ table.came → left.counted ≡ table.counted → ServesOn settings stream state_of before later table left at behind
       serves_leaves why mid later left went back items came counted =
           let stands = room_with table place new in
@@ -469,7 +499,8 @@ module _ {L : Type 0} (settings : ServerSettingsEntry) (stream : Stream L) where
               exchanges = it.exchanges ++ [];
               each = folds_then (ServesExchange settings state_of) it.exchanges [] at behind behind it.each refl;
               goes_on = goes_then it.exchanges [] before mid later table stands left it.goes_on
-                  (goes_less mid later stands left place new why back (omega (arith, within, length-set table.clients.items place new)) (λ d. sym (get_or-set_same table.clients.items place new d within))
+                  (goes_less mid later stands left place new why back (omega (arith, within, length-set table.clients.items place new))
+                  (λ d. sym (get_or-set_same table.clients.items place new d within))
                   (may_leave stream why new ends) (items ∙ sym (remove_set table.clients.items place new within)) came counted);
             },
             append-nil it.exchanges ∙ just,
@@ -479,7 +510,8 @@ module _ {L : Type 0} (settings : ServerSettingsEntry) (stream : Stream L) where
           (had_turns went.gate went.exchanges old new at behind went.had went.at_gate) why before ready mid later named went.comes back))
 
       -- it left, or is in its place again
-      pub serves_settled : (reason : Option CloseReason) (mid later : NetworkEntry L) (taken left : ConnectionTable L) → WasServiced gated settings stream state_of (Ok reason) ready mid old new at behind
+      pub serves_settled : (reason : Option CloseReason) (mid later : NetworkEntry L) (taken left : ConnectionTable L)
+          → WasServiced gated settings stream state_of (Ok reason) ready mid old new at behind
           → taken.clients.items ≡ remove table.clients.items place → taken.came ≡ table.came → taken.counted ≡ table.counted → IsSettled reason place new mid later taken left
           → ServesOn settings stream state_of before later table left at behind
       serves_settled (Some why) mid later taken left went out came counted (closed, still) =
@@ -529,11 +561,14 @@ module _ {L : Type 0} (settings : ServerSettingsEntry) (stream : Stream L) where
         none_few (Some n) = omega arith
 
     -- a closed office stays as it is
-    pub serving_closed : (before later : NetworkEntry L) (old new : ConnectionTable L) (at : OfficeValue S) (kept : MemoryEntry) (behind : ServedOffice S) → ServesOn settings stream state_of before later old new (served_office at kept) behind
+    pub serving_closed : (before later : NetworkEntry L) (old new : ConnectionTable L) (at : OfficeValue S) (kept : MemoryEntry) (behind : ServedOffice S)
+        → ServesOn settings stream state_of before later old new (served_office at kept) behind
         → at.closed ≡ true → behind.office ≡ at
-    serving_closed before later old new at kept behind on closed = let (to, it, trace) = on None in let away = turned_away settings state_of it.exchanges (served_office at kept) behind it.each closed in away.1
+    serving_closed before later old new at kept behind on closed = let (to, it, trace) = on None in let away = turned_away settings state_of it.exchanges
+        (served_office at kept) behind it.each closed in away.1
 
-    pub serving_clean : (before later : NetworkEntry L) (old new : ConnectionTable L) (at : OfficeValue S) (kept : MemoryEntry) (behind : ServedOffice S) → ServesOn settings stream state_of before later old new (served_office at kept) behind
+    pub serving_clean : (before later : NetworkEntry L) (old new : ConnectionTable L) (at : OfficeValue S) (kept : MemoryEntry) (behind : ServedOffice S)
+        → ServesOn settings stream state_of before later old new (served_office at kept) behind
         → HasCleanDisk (state_of behind.office.held) → HasCleanDisk (state_of at.held)
     serving_clean before later old new at kept behind on clean = let (to, it, trace) = on None in cleans settings state_of it.exchanges (served_office at kept) behind it.each clean
 
@@ -548,7 +583,8 @@ module _ {L : Type 0} (settings : ServerSettingsEntry) (stream : Stream L) where
     none_is_in k clients none it = let some = it.within in let zero : length clients ≡ 0 = ap (λ (cs : List (Client L)). length cs) none in omega (arith, some, zero)
 
     -- all that came since the doors were opened, where nobody was in before, and those that were in at the end were closed
-    pub hall_serves : (before end later : NetworkEntry L) (most : Option ℕ) (old went new : ConnectionTable L) (at : OfficeValue S) (kept : MemoryEntry) (behind : ServedOffice S) (result : Result (Unit {0}) ServeError)
+    pub hall_serves : (before end later : NetworkEntry L) (most : Option ℕ) (old went new : ConnectionTable L) (at : OfficeValue S) (kept : MemoryEntry)
+        (behind : ServedOffice S) (result : Result (Unit {0}) ServeError)
         → kept ≡ (with_none_kept at).kept → ServesOn settings stream state_of before end old went (served_office at kept) behind → AreClosedByRule IsClosed end later went new
         → old.clients.items ≡ [] → old.came ≡ 0 → old.counted ≡ 0 → new.clients.items ≡ [] → OnOk result (went.clients.items ≡ []) → IfSome most (λ n. new.counted ≤ n)
         → OnOk result (IfSome most (λ n. new.counted ≡ n))
@@ -588,7 +624,8 @@ module _ {L : Type 0} (settings : ServerSettingsEntry) (stream : Stream L) where
           keeps = λ clean is_open earlier rests. kept_of settings state_of earlier it.exchanges at behind each clean is_open rests;
         }
       where
-        out : (gone : List (Removed L)) (exchanges : List Exchange) (k : ℕ) (connection : ServedConnection L) → IsIn new.clients.items k ⊎ HasLeft stream gone exchanges k connection → HasLeft stream gone exchanges k connection
+        out : (gone : List (Removed L)) (exchanges : List Exchange) (k : ℕ) (connection : ServedConnection L) → IsIn new.clients.items k ⊎ HasLeft stream gone exchanges k connection
+            → HasLeft stream gone exchanges k connection
         out gone exchanges k connection (inl is_in) = absurd (none_is_in k new.clients.items empty is_in)
         out gone exchanges k connection (inr left) = left
 
@@ -599,7 +636,8 @@ pub sound_empty : {L : Type 0} (settings : ServerSettingsEntry) (stream : Stream
 sound_empty {L} settings stream table none first = ([], [], [], are_same settings stream [] [] [] 0 table.came [] table.clients.items first none (none_in settings stream))
 
 -- of those who are in a room that is sound, whoever has no answer was told nothing
-pub untold_at : {L : Type 0} (settings : ServerSettingsEntry) (stream : Stream L) (table : ConnectionTable L) (place : ℕ) (client : Client L) → IsSound settings stream table → place < length table.clients.items
+pub untold_at : {L : Type 0} (settings : ServerSettingsEntry) (stream : Stream L) (table : ConnectionTable L) (place : ℕ) (client : Client L)
+    → IsSound settings stream table → place < length table.clients.items
     → client ≡ get_or table.clients.items place client → HasSentNothing stream client
 untold_at {L} settings stream table place client (all_connections, exchanges, left, are) within at none =
     let here = get_or_read table.clients.items place client within at client in
@@ -620,20 +658,24 @@ most_all None most came is few all = tt
 most_all (Some n) most came is few all = omega (arith, is, few, all)
 
 -- no more came than were to come, where some were closed behind that
-pub few_closed : (connections : Option ℕ) (most none came closed : ℕ) → most ≡ unwrap_or connections (2 ^ 64 - 1) → none ≡ 0 → (none ≤ most → came ≤ most) → closed ≡ came → IfSome connections (λ n. closed ≤ n)
+pub few_closed : (connections : Option ℕ) (most none came closed : ℕ) → most ≡ unwrap_or connections (2 ^ 64 - 1) → none ≡ 0 → (none ≤ most → came ≤ most)
+    → closed ≡ came → IfSome connections (λ n. closed ≤ n)
 few_closed connections most none came closed is first few same = let all = few (omega (arith, first)) in most_few connections most closed is (omega (arith, all, same))
 
 -- and all came, if nothing failed
-pub all_closed : {E : Type 0} (result : Result (Unit {0}) E) (connections : Option ℕ) (most none came closed : ℕ) → most ≡ unwrap_or connections (2 ^ 64 - 1) → none ≡ 0 → (none ≤ most → came ≤ most) → closed ≡ came → OnOk result (most ≤ came)
+pub all_closed : {E : Type 0} (result : Result (Unit {0}) E) (connections : Option ℕ) (most none came closed : ℕ) → most ≡ unwrap_or connections (2 ^ 64 - 1)
+    → none ≡ 0 → (none ≤ most → came ≤ most) → closed ≡ came → OnOk result (most ≤ came)
     → OnOk result (IfSome connections (λ n. closed ≡ n))
-all_closed (Ok value) connections most none came closed is first few same all = let at_most = few (omega (arith, first)) in most_all connections most closed is (omega (arith, at_most, same)) (omega (arith, all, same))
+all_closed (Ok value) connections most none came closed is first few same all = let at_most = few (omega (arith, first)) in most_all connections most closed is
+    (omega (arith, at_most, same)) (omega (arith, all, same))
 all_closed (Err why) connections most none came closed is first few same all = tt
 
 -- ---- calls of the doors
 
 module _ {L : Type 0} where
   -- one of those that are in went on: no call failed, or the clock did
-  pub called_well : (stream : Stream L) (turns : List ResponseAt) (old new : Client L) (next : Option CloseReason) (gate : Option ℕ) (before later : NetworkEntry L) → IsServiceOutcome stream turns old new (Ok next) (with_gate gate before) later → IsUnfailed before later
+  pub called_well : (stream : Stream L) (turns : List ResponseAt) (old new : Client L) (next : Option CloseReason) (gate : Option ℕ) (before later : NetworkEntry L)
+      → IsServiceOutcome stream turns old new (Ok next) (with_gate gate before) later → IsUnfailed before later
   called_well stream turns old new None gate before later (inl (none, since, is)) =
       let still = gate_still gate before in (ap (λ (d : NetworkEntry L). d.failed) is ∙ still.2, ap (λ (d : NetworkEntry L). d.waits) is ∙ still.3)
   called_well stream turns old new None gate before later (inr (one, is)) =
@@ -641,7 +683,8 @@ module _ {L : Type 0} where
   called_well stream turns old new (Some why) gate before later (since, ends, is) =
       let still = gate_still gate before in (ap (λ (d : NetworkEntry L). d.failed) is ∙ still.2, ap (λ (d : NetworkEntry L). d.waits) is ∙ still.3)
 
-  pub called_in_vain : (stream : Stream L) (turns : List ResponseAt) (old new : Client L) (broken : Broken) (gate : Option ℕ) (before later : NetworkEntry L) → IsServiceOutcome stream turns old new (Err broken) (with_gate gate before) later
+  pub called_in_vain : (stream : Stream L) (turns : List ResponseAt) (old new : Client L) (broken : Broken) (gate : Option ℕ) (before later : NetworkEntry L)
+      → IsServiceOutcome stream turns old new (Err broken) (with_gate gate before) later
       → (later.failed ≡ one_more before.failed) × (later.waits ≡ before.waits)
   called_in_vain stream turns old new broken gate before later (since, is) =
       let still = gate_still gate before in (ap (λ (d : NetworkEntry L). d.failed) is ∙ ap one_more still.2, ap (λ (d : NetworkEntry L). d.waits) is ∙ still.3)
@@ -654,7 +697,8 @@ module _ {L : Type 0} where
   pub unfailed_then : {A : Type 0} (result : Result A Broken) (before mid later : NetworkEntry L) → IsUnfailed before mid → IsCalled result mid later → IsCalled result before later
   unfailed_then result before mid later (failed, waits) (failed_then, waits_then) = (failed_then ∙ ap (failed_after result) failed, waits_then ∙ waits)
 
-  unfailed_leavers : (before later : NetworkEntry L) (old new : ConnectionTable L) (Goes : List (Client L) → Removed L → List (Client L) → Type 0) → AreClosedByRule Goes before later old new → IsUnfailed before later
+  unfailed_leavers : (before later : NetworkEntry L) (old new : ConnectionTable L) (Goes : List (Client L) → Removed L → List (Client L) → Type 0)
+      → AreClosedByRule Goes before later old new → IsUnfailed before later
   unfailed_leavers before later old new Goes it = (ap (λ (d : NetworkEntry L). d.failed) it.back, ap (λ (d : NetworkEntry L). d.waits) it.back)
 
   -- one that was serviced was settled

@@ -43,7 +43,8 @@ same_answer old new before is same = ap Some same ∙ sym (ap (option_map (λ (a
 
 -- bytes that lack nothing have come to their end
 pub come_whole : (its : HttpSettingsEntry) (held : Option (List ℕ)) (got : List ℕ) (parsed : Parsed) (lacking : Completeness) (n : ℕ) → n ≡ length got → lacking ≡ Complete
-    → ((settings : HttpSettingsEntry) (bytes : List ℕ) → length bytes ≡ n → IsParsed settings bytes parsed → IsCompletenessOf settings bytes lacking) → IsParsed its got parsed → IsCome its held got parsed
+    → ((settings : HttpSettingsEntry) (bytes : List ℕ) → length bytes ≡ n → IsParsed settings bytes parsed → IsCompletenessOf settings bytes lacking)
+    → IsParsed its got parsed → IsCome its held got parsed
 come_whole its held got parsed lacking n long nothing completeness_of is = (inl (subst (λ (l : Completeness). IsCompletenessOf its got l) nothing (completeness_of its got (sym long) is)), is)
 
 -- and so have those of a client that sends no more
@@ -74,10 +75,12 @@ told_first response answer before after served is_before is_answer it = (
       (subst (λ (b : List ℕ). IsServed (IsWritten response) (Some b) (Some after) served) is_before it),
 )
 
-pub told_waiting : (exchange : Exchange) (before after : List ℕ) (served : Ending) → before ≡ [] → exchange.answer ≡ after → IsServed (IsWritten waits_response) (Some before) (Some after) served → IsWaitResponse exchange
+pub told_waiting : (exchange : Exchange) (before after : List ℕ) (served : Ending) → before ≡ [] → exchange.answer ≡ after
+    → IsServed (IsWritten waits_response) (Some before) (Some after) served → IsWaitResponse exchange
 told_waiting exchange before after served is_before is_answer it = told_first waits_response exchange.answer before after served is_before is_answer it
 
-pub told_gone : (exchange : Exchange) (before after : List ℕ) (served : Ending) → before ≡ [] → exchange.answer ≡ after → IsServed (IsWritten (fault_response 113)) (Some before) (Some after) served → IsGoneResponse exchange
+pub told_gone : (exchange : Exchange) (before after : List ℕ) (served : Ending) → before ≡ [] → exchange.answer ≡ after
+    → IsServed (IsWritten (fault_response 113)) (Some before) (Some after) served → IsGoneResponse exchange
 told_gone exchange before after served is_before is_answer it = told_first (fault_response 113) exchange.answer before after served is_before is_answer it
 
 -- what isn't whole isn't known to be
@@ -106,7 +109,8 @@ module _ {L : Type 0} (stream : Stream L) where
   heard_on start old new none receives of = heard_more stream start old.stream new.stream old.got.items new.got.items (is_heard start old none of) receives
 
   -- more of his answer was told him
-  pub told_on : (start old now : L) (got : List ℕ) (before : Option PendingResponse) (answer told : PendingResponse) → before ≡ Some answer → Delivers stream old now answer.bytes.items answer.sent told.sent
+  pub told_on : (start old now : L) (got : List ℕ) (before : Option PendingResponse) (answer told : PendingResponse) → before ≡ Some answer
+      → Delivers stream old now answer.bytes.items answer.sent told.sent
       → told.bytes.items ≡ answer.bytes.items → IsServedSo stream start old got before → IsServedSo stream start now got (Some told)
   told_on start old now got before answer told is delivers same of =
       let his = subst (λ (a : Option PendingResponse). IsServedSo stream start old got a) is of in
@@ -118,8 +122,10 @@ module _ {L : Type 0} (stream : Stream L) where
 
   -- he has his turn, of whom all was heard
   pub has_turn : {S : Type 0} (settings : ServerSettingsEntry) (state_of : Held S → State) (now : ℕ) (old mid new : Client L) (before later : ServedOffice S) → old.answer ≡ None
-      → Receives stream old.stream mid.stream old.got.items mid.got.items → mid.listener ≡ old.listener → mid.number ≡ old.number → HasComeAt old.listener settings (stream.held mid.stream) mid.got.items
-      → (exchange : Exchange) × (exchange.listener ≡ mid.listener) × (exchange.number ≡ mid.number) × (exchange.moment ≡ now) × (exchange.got ≡ mid.got.items) × ServesExchange settings state_of before exchange later × (answer_of new ≡ Some exchange.answer)
+      → Receives stream old.stream mid.stream old.got.items mid.got.items → mid.listener ≡ old.listener → mid.number ≡ old.number
+      → HasComeAt old.listener settings (stream.held mid.stream) mid.got.items
+      → (exchange : Exchange) × (exchange.listener ≡ mid.listener) × (exchange.number ≡ mid.number) × (exchange.moment ≡ now) × (exchange.got ≡ mid.got.items)
+      × ServesExchange settings state_of before exchange later × (answer_of new ≡ Some exchange.answer)
       → HasResponded settings stream state_of now old new before later
   has_turn settings state_of now old mid new before later none receives listener number come (exchange, same, mine, at, got, served, his) = record {
     exchange = exchange;
@@ -135,20 +141,23 @@ module _ {L : Type 0} (stream : Stream L) where
   }
 
   -- what became of one that had its turn, and of one that had none
-  pub attends_turn : {S : Type 0} (settings : ServerSettingsEntry) (state_of : Held S → State) (now : ℕ) (serviced : Serviced) (old new : Client L) (before later : ServedOffice S) → (serviced ≡ Waits → ⊥)
+  pub attends_turn : {S : Type 0} (settings : ServerSettingsEntry) (state_of : Held S → State) (now : ℕ) (serviced : Serviced) (old new : Client L) (before later : ServedOffice S)
+      → (serviced ≡ Waits → ⊥)
       → HasResponded settings stream state_of now old new before later → Services settings stream state_of now serviced old new before later
   attends_turn settings state_of now Waits old new before later apart turn = absurd (apart refl)
   attends_turn settings state_of now Served old new before later apart turn = turn
   attends_turn settings state_of now (Leaves why) old new before later apart turn = inl turn
 
-  pub attends_none : {S : Type 0} (settings : ServerSettingsEntry) (state_of : Held S → State) (now : ℕ) (serviced : Serviced) (old new : Client L) (before later : ServedOffice S) → (serviced ≡ Served → ⊥)
+  pub attends_none : {S : Type 0} (settings : ServerSettingsEntry) (state_of : Held S → State) (now : ℕ) (serviced : Serviced) (old new : Client L) (before later : ServedOffice S)
+      → (serviced ≡ Served → ⊥)
       → later ≡ before → answer_of new ≡ answer_of old → Services settings stream state_of now serviced old new before later
   attends_none settings state_of now Waits old new before later apart same answer = (same, answer)
   attends_none settings state_of now Served old new before later apart same answer = absurd (apart refl)
   attends_none settings state_of now (Leaves why) old new before later apart same answer = inr (same, answer)
 
   -- one that can't be heard leaves as broken or unheard
-  pub ends_lost : {A : Type 0} (result : Result A CloseReason) (why : CloseReason) (client : Client L) → result ≡ Err why → IsLostOnly result → (result ≡ Err Broken → HasFailed (stream.failed client.stream)) → client.answer ≡ None
+  pub ends_lost : {A : Type 0} (result : Result A CloseReason) (why : CloseReason) (client : Client L) → result ≡ Err why → IsLostOnly result
+      → (result ≡ Err Broken → HasFailed (stream.failed client.stream)) → client.answer ≡ None
       → EndsFor stream why client
   ends_lost result Done client is lost broken none = absurd (lost.0 is)
   ends_lost result Broken client is lost broken none = broken is
@@ -158,20 +167,24 @@ module _ {L : Type 0} (stream : Stream L) where
   ends_lost result Closing client is lost broken none = absurd (lost.3 is)
 
   -- the visits of one, by what became of it
-  pub has_some : {S : Type 0} (settings : ServerSettingsEntry) (state_of : Held S → State) (now : ℕ) (old new : Client L) (before later : ServedOffice S) → MayHaveResponded settings stream state_of now old new before later
+  pub has_some : {S : Type 0} (settings : ServerSettingsEntry) (state_of : Held S → State) (now : ℕ) (old new : Client L) (before later : ServedOffice S)
+      → MayHaveResponded settings stream state_of now old new before later
       → (exchanges : List Exchange) × HasExchanges settings stream state_of now exchanges old new before later
   has_some settings state_of now old new before later (inl turn) = (turn.exchange ∷ [], (turn, refl))
   has_some settings state_of now old new before later (inr still) = ([], still)
 
   -- ---- the clock at the gate
 
-  abbrev Comes : {S : Type 0} → ServerSettingsEntry → (Held S → State) → ℕ → Result (Option CloseReason) Failure → NetworkEntry L → NetworkEntry L → Client L → Client L → ServedOffice S → ServedOffice S → Type 0
+  abbrev Comes : {S : Type 0} → ServerSettingsEntry → (Held S → State) → ℕ → Result (Option CloseReason) Failure → NetworkEntry L → NetworkEntry L
+      → Client L → Client L → ServedOffice S → ServedOffice S → Type 0
   Comes settings state_of now result before later old new at behind =
       (exchanges : List Exchange) × HasExchanges settings stream state_of now exchanges old new at behind × IsServiceOutcome stream (map response_at exchanges) old new result before later
 
   -- it had its turn, and its half minute begins anew
-  pub went_served : {S : Type 0} (settings : ServerSettingsEntry) (state_of : Held S → State) (now : ℕ) (serviced : Serviced) (old mid new : Client L) (at behind : ServedOffice S) (before later : NetworkEntry L)
-      → Services settings stream state_of now serviced old mid at behind → serviced ≡ Served → answer_of new ≡ answer_of mid → later ≡ with_moment before new.since → Comes settings state_of now (Ok None) before later old new at behind
+  pub went_served : {S : Type 0} (settings : ServerSettingsEntry) (state_of : Held S → State) (now : ℕ) (serviced : Serviced) (old mid new : Client L)
+      (at behind : ServedOffice S) (before later : NetworkEntry L)
+      → Services settings stream state_of now serviced old mid at behind → serviced ≡ Served → answer_of new ≡ answer_of mid → later ≡ with_moment before new.since
+      → Comes settings state_of now (Ok None) before later old new at behind
   went_served settings state_of now serviced old mid new at behind before later attends is same shown =
       let turn : HasResponded settings stream state_of now old mid at behind = subst (λ (a : Serviced). Services settings stream state_of now a old mid at behind) is attends in
       let his : HasResponded settings stream state_of now old new at behind = record {
@@ -189,8 +202,10 @@ module _ {L : Type 0} (stream : Stream L) where
       (turn.exchange ∷ [], (his, refl), inr ((response_at turn.exchange, refl), shown))
 
   -- so it did, and the clock failed
-  pub went_stopped : {S : Type 0} (settings : ServerSettingsEntry) (state_of : Held S → State) (now : ℕ) (serviced : Serviced) (broken : Failure) (old new : Client L) (at behind : ServedOffice S) (before later : NetworkEntry L)
-      → Services settings stream state_of now serviced old new at behind → serviced ≡ Served → new.since ≡ old.since → later ≡ with_failure before → Comes settings state_of now (Err broken) before later old new at behind
+  pub went_stopped : {S : Type 0} (settings : ServerSettingsEntry) (state_of : Held S → State) (now : ℕ) (serviced : Serviced) (broken : Failure)
+      (old new : Client L) (at behind : ServedOffice S) (before later : NetworkEntry L)
+      → Services settings stream state_of now serviced old new at behind → serviced ≡ Served → new.since ≡ old.since → later ≡ with_failure before
+      → Comes settings state_of now (Err broken) before later old new at behind
   went_stopped settings state_of now serviced broken old new at behind before later attends is since failed =
       let turn : HasResponded settings stream state_of now old new at behind = subst (λ (a : Serviced). Services settings stream state_of now a old new at behind) is attends in
       (turn.exchange ∷ [], (turn, refl), (since, failed))
@@ -202,20 +217,24 @@ module _ {L : Type 0} (stream : Stream L) where
       ([], subst (λ (a : Serviced). Services settings stream state_of now a old new at behind) is attends, inl (refl, since, refl))
 
   -- it leaves, with its turn or without
-  pub went_away : {S : Type 0} (settings : ServerSettingsEntry) (state_of : Held S → State) (now : ℕ) (serviced : Serviced) (why : CloseReason) (old new : Client L) (at behind : ServedOffice S) (before : NetworkEntry L)
-      → Services settings stream state_of now serviced old new at behind → serviced ≡ Leaves why → new.since ≡ old.since → EndsFor stream why new → Comes settings state_of now (Ok (Some why)) before before old new at behind
+  pub went_away : {S : Type 0} (settings : ServerSettingsEntry) (state_of : Held S → State) (now : ℕ) (serviced : Serviced) (why : CloseReason)
+      (old new : Client L) (at behind : ServedOffice S) (before : NetworkEntry L)
+      → Services settings stream state_of now serviced old new at behind → serviced ≡ Leaves why → new.since ≡ old.since → EndsFor stream why new
+      → Comes settings state_of now (Ok (Some why)) before before old new at behind
   went_away settings state_of now serviced why old new at behind before attends is since ends =
       let (exchanges, had) = has_some settings state_of now old new at behind (subst (λ (a : Serviced). Services settings stream state_of now a old new at behind) is attends) in
       (exchanges, had, (since, ends, refl))
 
   -- the moment of the turns that one had
-  at_moment : {S : Type 0} (settings : ServerSettingsEntry) (state_of : Held S → State) (gated : Bool) (gate : Option ℕ) (exchanges : List Exchange) (old new : Client L) (at behind : ServedOffice S) → ((moment : ℕ) → moment ≡ moment_of gate → IsMomentOf gated gate moment)
+  at_moment : {S : Type 0} (settings : ServerSettingsEntry) (state_of : Held S → State) (gated : Bool) (gate : Option ℕ) (exchanges : List Exchange)
+      (old new : Client L) (at behind : ServedOffice S) → ((moment : ℕ) → moment ≡ moment_of gate → IsMomentOf gated gate moment)
       → HasExchanges settings stream state_of (moment_of gate) exchanges old new at behind → IsAtGate gated gate exchanges
   at_moment settings state_of gated gate [] old new at behind is had = tt
   at_moment settings state_of gated gate (exchange ∷ []) old new at behind is (turn, one) = is exchange.moment (sym (ap (λ (v : Exchange). v.moment) one) ∙ turn.moment)
   at_moment settings state_of gated gate (exchange ∷ other ∷ more) old new at behind is never = absurd never
 
-  pub went_at : {S : Type 0} (gated : Bool) (settings : ServerSettingsEntry) (state_of : Held S → State) (now : ℕ) (result : Result (Option CloseReason) Failure) (before ready later : NetworkEntry L) (old new : Client L) (at behind : ServedOffice S)
+  pub went_at : {S : Type 0} (gated : Bool) (settings : ServerSettingsEntry) (state_of : Held S → State) (now : ℕ) (result : Result (Option CloseReason) Failure)
+      (before ready later : NetworkEntry L) (old new : Client L) (at behind : ServedOffice S)
       → LooksAtGate gated (Ok now) before ready → Comes settings state_of now result ready later old new at behind → WasServiced gated settings stream state_of result before later old new at behind
   went_at true settings state_of now result before ready later old new at behind looked (exchanges, had, comes) = record {
     gate = Some now;
@@ -235,7 +254,8 @@ module _ {L : Type 0} (stream : Stream L) where
       }
 
   -- the clock failed there, so it didn't go on
-  pub went_nowhere : {S : Type 0} (gated : Bool) (settings : ServerSettingsEntry) (state_of : Held S → State) (broken : Failure) (before later : NetworkEntry L) (client : Client L) (at : ServedOffice S)
+  pub went_nowhere : {S : Type 0} (gated : Bool) (settings : ServerSettingsEntry) (state_of : Held S → State) (broken : Failure) (before later : NetworkEntry L)
+      (client : Client L) (at : ServedOffice S)
       → LooksAtGate gated (Err broken) before later → WasServiced gated settings stream state_of (Err broken) before later client client at at
   went_nowhere true settings state_of broken before later client at looked = record { gate = None; exchanges = []; had = (refl, refl); at_gate = tt; comes = (refl, looked) }
   went_nowhere false settings state_of broken before later client at (none, still) = absurd (cc none)

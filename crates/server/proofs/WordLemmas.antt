@@ -16,4 +16,5 @@ word_bad words place d within bad all = by (is_utf8 (get_or words place d).name.
     by false e =
         let at : is_utf8 (get_or (map (λ (p : MessagePart). p.name.now) words) place d.name.now) ≡ false =
         ap is_utf8 (get_or-map (λ (p : MessagePart). p.name.now) words place d d.name.now within) ∙ e in
-        let none = list_all_at is_utf8 (map (λ (p : MessagePart). p.name.now) words) place d.name.now (omega (arith, within, length-map words (λ (p : MessagePart). p.name.now))) at in absurd (cc (none, all))
+        let none = list_all_at is_utf8 (map (λ (p : MessagePart). p.name.now) words) place d.name.now (omega (arith, within, length-map words (λ (p : MessagePart). p.name.now)))
+        at in absurd (cc (none, all))

@@ -285,7 +285,8 @@ no_keying clerk batch what (Some entry) is = cc is
 no_keying clerk batch what None is = cc is
 
 -- what is read is what the target names
-read_of : (gate : Option GateEntry) (t : Result Target RequestError) (size : Result ℕ RequestError) (behind : List ℕ) (what : Resource) → reading what ≡ asked_of gate t size behind → read_in t ≡ Some what
+read_of : (gate : Option GateEntry) (t : Result Target RequestError) (size : Result ℕ RequestError) (behind : List ℕ) (what : Resource)
+    → reading what ≡ asked_of gate t size behind → read_in t ≡ Some what
 read_of gate (Ok (target.Keying clerk batch)) (Ok n) behind what is = absurd (no_keying clerk batch what (option_and_then keying_of (body_in n behind)) is)
 read_of gate (Ok (target.Keying clerk batch)) (Err why) behind what is = absurd (cc is)
 read_of None (Ok (target.Page clerk)) size behind what is = absurd (cc is)

@@ -16,7 +16,8 @@ pub returns-clause-kept : goal.returns-clause-kept
 returns-clause-kept g c settings earlier exchanges closed held kept clerk its =
     let blind = c.clerks_are_blind.ensures in
     let states = c.lists_make_states.ensures in
-    all_seen blind.itself blind.alike blind.seen clerk its (state g.S.Store) settings states.from_state (after empty_office earlier) exchanges kept.answered kept.last (states.from_empty earlier) kept.in_turn
+    all_seen blind.itself blind.alike blind.seen clerk its (state g.S.Store) settings states.from_state (after empty_office earlier) exchanges kept.answered kept.last
+    (states.from_empty earlier) kept.in_turn
 
 pub returns-clause-alike : goal.returns-clause-alike
 returns-clause-alike g c settings clerk s t exchanges others own same answered last told next its is is_too alike in_turn in_turn_too clients clients_too are are_too bytes =

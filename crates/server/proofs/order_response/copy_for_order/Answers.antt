@@ -7,7 +7,8 @@ use Rattle.server.proofs.order_response.copy_for_order.Goals as goal
 
 pub returns-in-Err-clause-told : goal.returns-in-Err-clause-told
 returns-in-Err-clause-told g c =
-    let shows = error_shown g.O.Sink.taken g.O.Sink.failed g.E.Sink.taken g.E.Sink.failed c.args.out.now c.args.err.now c.tell_failure.new.err (failed CopyFailed) c.tell_failure.result refl c.tell_failure.ensures in
+    let shows = error_shown g.O.Sink.taken g.O.Sink.failed g.E.Sink.taken g.E.Sink.failed c.args.out.now c.args.err.now c.tell_failure.new.err
+    (failed CopyFailed) c.tell_failure.result refl c.tell_failure.ensures in
     record {
       page = failed CopyFailed;
       cut = shows.0;

@@ -6,7 +6,8 @@ use Rattle.server.proofs.order_response.do_open.Goals as goal
 
 pub returns-in-Refused-clause-did : goal.returns-in-Refused-clause-did
 returns-in-Refused-clause-did g c =
-    let shows = error_shown g.O.Sink.taken g.O.Sink.failed g.E.Sink.taken g.E.Sink.failed c.args.out.now c.args.err.now c.tell_failure.new.err (failed c.in-Refused.failure) c.tell_failure.result refl c.tell_failure.ensures in
+    let shows = error_shown g.O.Sink.taken g.O.Sink.failed g.E.Sink.taken g.E.Sink.failed c.args.out.now c.args.err.now c.tell_failure.new.err
+    (failed c.in-Refused.failure) c.tell_failure.result refl c.tell_failure.ensures in
     record { page = failed c.in-Refused.failure; cut = shows.0; shown = shows.1; is = λ clean is_open s at. rw c.in-Refused.is (refl, record { is_open = is_open; at = at }) }
 
 pub returns-in-Journal-clause-did : goal.returns-in-Journal-clause-did

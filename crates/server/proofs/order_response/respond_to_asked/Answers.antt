@@ -13,8 +13,16 @@ returns-clause-followed g c =
     let stream = stream_of g.L.Stream.held g.L.Stream.taken g.L.Stream.failed in
     let before : Outputs =
     record { out = said_through stream c.new-out.result; out_failed = c.new-out.result.failed; err = Some c.new-err.result.bytes.items; err_failed = c.new-err.result.failed } in
-    let after : Outputs = record { out = said_through stream c.do_asked-status.new.out; out_failed = c.do_asked-status.new.out.failed; err = Some c.do_asked-status.new.err.bytes.items; err_failed = c.do_asked-status.new.err.failed } in
-    let it = tells_asked stream (state g.S.Store) c.args.office.now c.do_asked-status.new.office (message_part_entries c.args.order.now.attached.files.now) c.args.order.now.asked.now before after c.do_asked-status.result c.as_slice.result.now
+    let after : Outputs = record {
+      out = said_through stream c.do_asked-status.new.out;
+      out_failed = c.do_asked-status.new.out.failed;
+      err
+          = Some c.do_asked-status.new.err.bytes.items;
+      err_failed = c.do_asked-status.new.err.failed;
+    } in
+    let it = tells_asked stream (state g.S.Store) c.args.office.now c.do_asked-status.new.office (message_part_entries c.args.order.now.attached.files.now)
+    c.args.order.now.asked.now before after c.do_asked-status.result c.as_slice.result.now
     c.end.result.0 c.end.result.1 (none_told before c.new-out.ensures.taken c.new-out.ensures.failed (ap Some c.new-err.ensures.bytes) c.new-err.ensures.failed)
-    (ap Some (sym (c.as_slice.ensures.value ∙ c.into_bytes.ensures))) (λ said took. c.end.ensures said took) c.do_asked-status.ensures.did c.do_asked-status.ensures.closed c.do_asked-status.ensures.clean in
+    (ap Some (sym (c.as_slice.ensures.value ∙ c.into_bytes.ensures))) (λ said took. c.end.ensures said took) c.do_asked-status.ensures.did
+    c.do_asked-status.ensures.closed c.do_asked-status.ensures.clean in
     it.0

@@ -12,7 +12,8 @@ use Rattle.server.proofs.servicing.answer_request.Goals as goal
 
 pub returns-in_default-clause-served : goal.returns-in_default-clause-served
 returns-in_default-clause-served g c = λ number moment.
-    served_none (settings_entry c.args.settings) (state g.S.Store) c.args.office.now (memory_entry c.args.kept.now) (record { reads = reads_in c.empty.new.self; limit = limit_entry c.args.kept.now.limit }) number moment c.args.got.now c.to_no_memory.result.bytes.items
+    served_none (settings_entry c.args.settings) (state g.S.Store) c.args.office.now (memory_entry c.args.kept.now)
+    (record { reads = reads_in c.empty.new.self; limit = limit_entry c.args.kept.now.limit }) number moment c.args.got.now c.to_no_memory.result.bytes.items
     c.empty.ensures c.to_no_memory.ensures.told
 
 pub returns-in-Resource-clause-served : goal.returns-in-Resource-clause-served
@@ -25,9 +26,11 @@ returns-in-Keying-clause-served g c = λ number moment.
     let its = settings_entry c.args.settings in
     let did = c.answer_keying-response in
     let asked = http_request_entry (variant.Keying c.in-Keying.keying) in
-    served_anew its (state g.S.Store) c.args.office.now did.new.office (memory_entry c.args.kept.now) (record { reads = reads_in c.empty-in-Keying.new.self; limit = limit_entry c.args.kept.now.limit })
+    served_anew its (state g.S.Store) c.args.office.now did.new.office (memory_entry c.args.kept.now)
+    (record { reads = reads_in c.empty-in-Keying.new.self; limit = limit_entry c.args.kept.now.limit })
     number moment c.args.got.now asked c.written.result.bytes.items (subst (λ (a : HttpRequest). Asks its c.args.got.now (http_request_entry a)) c.in-Keying.is (c.in-Ok.ensures c.requires))
-    (put_answers (state g.S.Store) c.args.office.now did.new.office asked c.written.result.bytes.items did.result c.written.ensures.put did.ensures.answers did.ensures.closed_told did.ensures.closed did.ensures.clean)
+    (put_answers (state g.S.Store) c.args.office.now did.new.office asked c.written.result.bytes.items did.result c.written.ensures.put did.ensures.answers
+    did.ensures.closed_told did.ensures.closed did.ensures.clean)
     (inl c.empty-in-Keying.ensures)
 
 pub returns-in-Denied-clause-served : goal.returns-in-Denied-clause-served

@@ -52,4 +52,5 @@ returns-in-Ok-true-clause-turn g c =
 pub returns-in-Err-clause-leaves : goal.returns-in-Err-clause-leaves
 returns-in-Err-clause-leaves g c = λ why is.
     let received = c.receive_message.ensures in
-    ends_lost (stream_of g.L.Stream.held g.L.Stream.taken g.L.Stream.failed) c.receive_message.result why c.receive_message.new.client (c.in-Err.is ∙ ap Err (left_as c.in-Err.why why is)) received.lost received.broken received.same.1
+    ends_lost (stream_of g.L.Stream.held g.L.Stream.taken g.L.Stream.failed) c.receive_message.result why c.receive_message.new.client
+    (c.in-Err.is ∙ ap Err (left_as c.in-Err.why why is)) received.lost received.broken received.same.1

@@ -28,4 +28,5 @@ returns-then-branch-clause-come g c =
     let its = settings_entry c.args.settings in
     let parsed = c.parse-parsed in
     c.in_ok-receive_body-in-Enough.ensures.come its
-    (lasts_for its c.as_slice-got.result.now client.got.items parsed.result c.as_slice-got.ensures.value parsed.ensures.lasts (c.in_ok-received.ensures.enough (ap Ok c.in-Enough.is))) (ap Ok c.if-branch.true)
+    (lasts_for its c.as_slice-got.result.now client.got.items parsed.result c.as_slice-got.ensures.value parsed.ensures.lasts (c.in_ok-received.ensures.enough (ap Ok c.in-Enough.is)))
+    (ap Ok c.if-branch.true)

@@ -17,7 +17,8 @@ use Rattle.server.proofs.servicing.service.Goals as goal
 -- it has its response already, and gets more of it
 pub returns-then-is_some-clause-turn : goal.returns-then-is_some-clause-turn
 returns-then-is_some-clause-turn g c =
-    attends_none (stream_of g.L.Stream.held g.L.Stream.taken g.L.Stream.failed) (settings_in g.A.SideJobs.whole c.args.server_settings) (state g.S.Store) c.args.now c.send_more-told.result c.args.client c.send_more-told.new.client
+    attends_none (stream_of g.L.Stream.held g.L.Stream.taken g.L.Stream.failed) (settings_in g.A.SideJobs.whole c.args.server_settings)
+    (state g.S.Store) c.args.now c.send_more-told.result c.args.client c.send_more-told.new.client
     (served_office c.args.office.now (memory_entry c.args.kept.now)) (served_office c.args.office.now (memory_entry c.args.kept.now)) c.send_more-told.ensures.apart refl c.send_more-told.ensures.his
 
 pub attend_order-requires-clause-unanswered : goal.attend_order-requires-clause-unanswered
@@ -36,7 +37,8 @@ answer_client-answer-requires g c =
 
 pub begin_answer-requires : goal.begin_answer-requires
 begin_answer-requires g c =
-    told_zero (stream_of g.L.Stream.held g.L.Stream.taken g.L.Stream.failed) c.hear_request.new.client.stream c.answer_client-answer.result.bytes.items c.answer_client-answer.result.sent c.answer_client-answer.ensures.untold
+    told_zero (stream_of g.L.Stream.held g.L.Stream.taken g.L.Stream.failed) c.hear_request.new.client.stream c.answer_client-answer.result.bytes.items
+    c.answer_client-answer.result.sent c.answer_client-answer.ensures.untold
     (subst (λ (t : Option (List ℕ)). HasTaken t []) (sym c.in-Ok-Some.ensures.receives.untold) (c.requires.untold (none_from c.args.client.answer (sym c.is_some.ensures ∙ c.if-is_some.false))))
 
 pub returns-in-Ok-Some-clause-is : goal.returns-in-Ok-Some-clause-is
@@ -62,11 +64,13 @@ returns-in-Ok-Some-clause-turn g c =
       refl,
       refl,
       subst (λ (xs : List ℕ). RespondsToClient settings (state g.S.Store) at
-          (record { listener = Clients; number = mid.number; moment = c.args.now; got = xs; answer = answered.result.bytes.items }) behind) c.as_slice-got.ensures.value (answered.ensures.meets mid.number),
+          (record { listener = Clients; number = mid.number; moment = c.args.now; got = xs; answer = answered.result.bytes.items }) behind) c.as_slice-got.ensures.value
+          (answered.ensures.meets mid.number),
       c.begin_answer.ensures.his,
     ))
 
 pub returns-in-Err-clause-leaves : goal.returns-in-Err-clause-leaves
 returns-in-Err-clause-leaves g c = λ why is.
     let received = c.hear_request.ensures in
-    ends_lost (stream_of g.L.Stream.held g.L.Stream.taken g.L.Stream.failed) c.hear_request.result why c.hear_request.new.client (c.in-Err.is ∙ ap Err (left_as c.in-Err.why why is)) received.lost received.broken received.same.1
+    ends_lost (stream_of g.L.Stream.held g.L.Stream.taken g.L.Stream.failed) c.hear_request.result why c.hear_request.new.client
+    (c.in-Err.is ∙ ap Err (left_as c.in-Err.why why is)) received.lost received.broken received.same.1

@@ -6,4 +6,5 @@ use Rattle.server.proofs.servicing.wait_response.Goals as goal
 
 pub returns-clause-told : goal.returns-clause-told
 returns-clause-told c = λ exchange is.
-    told_waiting exchange (written_in c.new-writer.result) (written_in c.write_wait_response.new.writer) c.write_wait_response.result c.new-writer.ensures.bytes (is ∙ c.into_bytes.ensures) c.write_wait_response.ensures.told
+    told_waiting exchange (written_in c.new-writer.result) (written_in c.write_wait_response.new.writer) c.write_wait_response.result c.new-writer.ensures.bytes
+    (is ∙ c.into_bytes.ensures) c.write_wait_response.ensures.told

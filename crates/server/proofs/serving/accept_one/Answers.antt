@@ -12,16 +12,19 @@ use Rattle.server.proofs.serving.accept_one.Goals as goal
 
 pub returns-then-table-clause-goes_on : goal.returns-then-table-clause-goes_on
 returns-then-table-clause-goes_on g c = λ settings.
-    goes_none settings (stream_of g.D.Stream.Stream.held g.D.Stream.Stream.taken g.D.Stream.Stream.failed) (g.D.Network.known c.args.network.now) (g.D.Network.known c.args.network.now) c.args.table.now (refl, refl)
+    goes_none settings (stream_of g.D.Stream.Stream.held g.D.Stream.Stream.taken g.D.Stream.Stream.failed) (g.D.Network.known c.args.network.now)
+    (g.D.Network.known c.args.network.now) c.args.table.now (refl, refl)
 
 pub returns-then-not-evict_if_full-clause-goes_on : goal.returns-then-not-evict_if_full-clause-goes_on
 returns-then-not-evict_if_full-clause-goes_on g c = λ settings.
-    goes_without settings (stream_of g.D.Stream.Stream.held g.D.Stream.Stream.taken g.D.Stream.Stream.failed) (IsClosedForRoom c.args.now) (crowd_outs c.args.now) (g.D.Network.known c.args.network.now) (g.D.Network.known c.evict_if_full.new.network)
+    goes_without settings (stream_of g.D.Stream.Stream.held g.D.Stream.Stream.taken g.D.Stream.Stream.failed) (IsClosedForRoom c.args.now)
+    (crowd_outs c.args.now) (g.D.Network.known c.args.network.now) (g.D.Network.known c.evict_if_full.new.network)
     c.args.table.now c.evict_if_full.new.table c.evict_if_full.ensures.go
 
 pub returns-then-not-evict_if_full-clause-within : goal.returns-then-not-evict_if_full-clause-within
 returns-then-not-evict_if_full-clause-within g c =
-    within_still (IsClosedForRoom c.args.now) (crowd_outs c.args.now) (g.D.Network.known c.args.network.now) (g.D.Network.known c.evict_if_full.new.network) c.args.table.now c.evict_if_full.new.table c.evict_if_full.ensures.go c.requires
+    within_still (IsClosedForRoom c.args.now) (crowd_outs c.args.now) (g.D.Network.known c.args.network.now)
+    (g.D.Network.known c.evict_if_full.new.network) c.args.table.now c.evict_if_full.new.table c.evict_if_full.ensures.go c.requires
 
 pub returns-in-One-clause-goes_on : goal.returns-in-One-clause-goes_on
 returns-in-One-clause-goes_on g c = λ settings.
@@ -37,8 +40,10 @@ returns-in-One-clause-goes_on g c = λ settings.
 pub returns-in-One-clause-within : goal.returns-in-One-clause-within
 returns-in-One-clause-within g c =
     let table = c.evict_if_full.new.table in
-    let still = within_still (IsClosedForRoom c.args.now) (crowd_outs c.args.now) (g.D.Network.known c.args.network.now) (g.D.Network.known c.evict_if_full.new.network) c.args.table.now table c.evict_if_full.ensures.go c.requires in
-    within_more table c.add.new.self c.in-One.accepted c.args.now (IsOf (stream_of g.D.Stream.Stream.held g.D.Stream.Stream.taken g.D.Stream.Stream.failed) c.in-One.accepted.stream) (c.evict_if_full.ensures.table c.if-not-evict_if_full.false) still.1
+    let still = within_still (IsClosedForRoom c.args.now) (crowd_outs c.args.now) (g.D.Network.known c.args.network.now)
+    (g.D.Network.known c.evict_if_full.new.network) c.args.table.now table c.evict_if_full.ensures.go c.requires in
+    within_more table c.add.new.self c.in-One.accepted c.args.now (IsOf (stream_of g.D.Stream.Stream.held g.D.Stream.Stream.taken g.D.Stream.Stream.failed) c.in-One.accepted.stream)
+    (c.evict_if_full.ensures.table c.if-not-evict_if_full.false) still.1
     c.add.ensures.entered
 
 pub returns-in-Nobody-clause-goes_on : goal.returns-in-Nobody-clause-goes_on
@@ -49,11 +54,13 @@ returns-in-Nobody-clause-goes_on g c = λ settings.
     let later = g.D.Network.known c.accept.new.self in
     let table = c.evict_if_full.new.table in
     goes_then settings stream [] [] before mid later c.args.table.now table table
-    (goes_without settings stream (IsClosedForRoom c.args.now) (crowd_outs c.args.now) before mid c.args.table.now table c.evict_if_full.ensures.go) (goes_none settings stream mid later table (still_known mid later c.in-Nobody.ensures.known))
+    (goes_without settings stream (IsClosedForRoom c.args.now) (crowd_outs c.args.now) before mid c.args.table.now table c.evict_if_full.ensures.go)
+    (goes_none settings stream mid later table (still_known mid later c.in-Nobody.ensures.known))
 
 pub returns-in-Nobody-clause-within : goal.returns-in-Nobody-clause-within
 returns-in-Nobody-clause-within g c =
-    within_still (IsClosedForRoom c.args.now) (crowd_outs c.args.now) (g.D.Network.known c.args.network.now) (g.D.Network.known c.evict_if_full.new.network) c.args.table.now c.evict_if_full.new.table c.evict_if_full.ensures.go c.requires
+    within_still (IsClosedForRoom c.args.now) (crowd_outs c.args.now) (g.D.Network.known c.args.network.now)
+    (g.D.Network.known c.evict_if_full.new.network) c.args.table.now c.evict_if_full.new.table c.evict_if_full.ensures.go c.requires
 
 pub returns-in-NotNow-clause-goes_on : goal.returns-in-NotNow-clause-goes_on
 returns-in-NotNow-clause-goes_on g c = λ settings.
@@ -63,11 +70,13 @@ returns-in-NotNow-clause-goes_on g c = λ settings.
     let later = g.D.Network.known c.accept.new.self in
     let table = c.evict_if_full.new.table in
     goes_then settings stream [] [] before mid later c.args.table.now table table
-    (goes_without settings stream (IsClosedForRoom c.args.now) (crowd_outs c.args.now) before mid c.args.table.now table c.evict_if_full.ensures.go) (goes_none settings stream mid later table (still_known mid later c.in-NotNow.ensures.known))
+    (goes_without settings stream (IsClosedForRoom c.args.now) (crowd_outs c.args.now) before mid c.args.table.now table c.evict_if_full.ensures.go)
+    (goes_none settings stream mid later table (still_known mid later c.in-NotNow.ensures.known))
 
 pub returns-in-NotNow-clause-within : goal.returns-in-NotNow-clause-within
 returns-in-NotNow-clause-within g c =
-    within_still (IsClosedForRoom c.args.now) (crowd_outs c.args.now) (g.D.Network.known c.args.network.now) (g.D.Network.known c.evict_if_full.new.network) c.args.table.now c.evict_if_full.new.table c.evict_if_full.ensures.go c.requires
+    within_still (IsClosedForRoom c.args.now) (crowd_outs c.args.now) (g.D.Network.known c.args.network.now)
+    (g.D.Network.known c.evict_if_full.new.network) c.args.table.now c.evict_if_full.new.table c.evict_if_full.ensures.go c.requires
 
 pub returns-then-evict_one-clause-goes_on : goal.returns-then-evict_one-clause-goes_on
 returns-then-evict_one-clause-goes_on g c = λ settings.
@@ -79,8 +88,10 @@ returns-then-evict_one-clause-goes_on g c = λ settings.
     let table = c.evict_if_full.new.table in
     goes_then settings stream [] [] before at later c.args.table.now table c.evict_one.new.table
     (goes_then settings stream [] [] before mid at c.args.table.now table table
-    (goes_without settings stream (IsClosedForRoom c.args.now) (crowd_outs c.args.now) before mid c.args.table.now table c.evict_if_full.ensures.go) (goes_none settings stream mid at table (still_full mid at c.in-Full.ensures.known)))
-    (goes_without settings stream (IsClosedByRule (eviction_rule c.args.now)) (room_outs c.args.now) at later table c.evict_one.new.table (let_go_maybe (IsClosedByRule (eviction_rule c.args.now)) c.evict_one.result at later table c.evict_one.new.table c.evict_one.ensures.go))
+    (goes_without settings stream (IsClosedForRoom c.args.now) (crowd_outs c.args.now) before mid c.args.table.now table c.evict_if_full.ensures.go)
+    (goes_none settings stream mid at table (still_full mid at c.in-Full.ensures.known)))
+    (goes_without settings stream (IsClosedByRule (eviction_rule c.args.now)) (room_outs c.args.now) at later table c.evict_one.new.table
+    (let_go_maybe (IsClosedByRule (eviction_rule c.args.now)) c.evict_one.result at later table c.evict_one.new.table c.evict_one.ensures.go))
 
 pub returns-then-evict_one-clause-within : goal.returns-then-evict_one-clause-within
 returns-then-evict_one-clause-within g c =
@@ -90,7 +101,8 @@ returns-then-evict_one-clause-within g c =
     let at = g.D.Network.known c.accept.new.self in
     let later = g.D.Network.known c.evict_one.new.network in
     within_still goes outs at later table c.evict_one.new.table (let_go_maybe goes c.evict_one.result at later table c.evict_one.new.table c.evict_one.ensures.go)
-    (within_still (IsClosedForRoom c.args.now) (crowd_outs c.args.now) (g.D.Network.known c.args.network.now) (g.D.Network.known c.evict_if_full.new.network) c.args.table.now table c.evict_if_full.ensures.go c.requires)
+    (within_still (IsClosedForRoom c.args.now) (crowd_outs c.args.now) (g.D.Network.known c.args.network.now)
+    (g.D.Network.known c.evict_if_full.new.network) c.args.table.now table c.evict_if_full.ensures.go c.requires)
 
 pub returns-else-evict_one-clause-goes_on : goal.returns-else-evict_one-clause-goes_on
 returns-else-evict_one-clause-goes_on g c = λ settings.
@@ -102,8 +114,10 @@ returns-else-evict_one-clause-goes_on g c = λ settings.
     let table = c.evict_if_full.new.table in
     goes_then settings stream [] [] before at later c.args.table.now table c.evict_one.new.table
     (goes_then settings stream [] [] before mid at c.args.table.now table table
-    (goes_without settings stream (IsClosedForRoom c.args.now) (crowd_outs c.args.now) before mid c.args.table.now table c.evict_if_full.ensures.go) (goes_none settings stream mid at table (still_full mid at c.in-Full.ensures.known)))
-    (goes_without settings stream (IsClosedByRule (eviction_rule c.args.now)) (room_outs c.args.now) at later table c.evict_one.new.table (let_go_maybe (IsClosedByRule (eviction_rule c.args.now)) c.evict_one.result at later table c.evict_one.new.table c.evict_one.ensures.go))
+    (goes_without settings stream (IsClosedForRoom c.args.now) (crowd_outs c.args.now) before mid c.args.table.now table c.evict_if_full.ensures.go)
+    (goes_none settings stream mid at table (still_full mid at c.in-Full.ensures.known)))
+    (goes_without settings stream (IsClosedByRule (eviction_rule c.args.now)) (room_outs c.args.now) at later table c.evict_one.new.table
+    (let_go_maybe (IsClosedByRule (eviction_rule c.args.now)) c.evict_one.result at later table c.evict_one.new.table c.evict_one.ensures.go))
 
 pub returns-else-evict_one-clause-within : goal.returns-else-evict_one-clause-within
 returns-else-evict_one-clause-within g c =
@@ -113,11 +127,13 @@ returns-else-evict_one-clause-within g c =
     let at = g.D.Network.known c.accept.new.self in
     let later = g.D.Network.known c.evict_one.new.network in
     within_still goes outs at later table c.evict_one.new.table (let_go_maybe goes c.evict_one.result at later table c.evict_one.new.table c.evict_one.ensures.go)
-    (within_still (IsClosedForRoom c.args.now) (crowd_outs c.args.now) (g.D.Network.known c.args.network.now) (g.D.Network.known c.evict_if_full.new.network) c.args.table.now table c.evict_if_full.ensures.go c.requires)
+    (within_still (IsClosedForRoom c.args.now) (crowd_outs c.args.now) (g.D.Network.known c.args.network.now)
+    (g.D.Network.known c.evict_if_full.new.network) c.args.table.now table c.evict_if_full.ensures.go c.requires)
 
 pub returns-then-table-clause-trace : goal.returns-then-table-clause-trace
 returns-then-table-clause-trace g c = λ gated.
-    trace_none gated (stream_of g.D.Stream.Stream.held g.D.Stream.Stream.taken g.D.Stream.Stream.failed) (Some c.args.now) (g.D.Network.known c.args.network.now) (g.D.Network.known c.args.network.now) c.args.table.now.clients.items refl
+    trace_none gated (stream_of g.D.Stream.Stream.held g.D.Stream.Stream.taken g.D.Stream.Stream.failed) (Some c.args.now) (g.D.Network.known c.args.network.now)
+    (g.D.Network.known c.args.network.now) c.args.table.now.clients.items refl
 
 pub returns-then-not-evict_if_full-clause-trace : goal.returns-then-not-evict_if_full-clause-trace
 returns-then-not-evict_if_full-clause-trace g c = λ gated.

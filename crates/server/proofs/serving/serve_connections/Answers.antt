@@ -9,11 +9,13 @@ use Rattle.server.proofs.serving.serve_connections.Goals as goal
 -- there was no memory for a room
 pub returns-in_default-clause-served : goal.returns-in_default-clause-served
 returns-in_default-clause-served g c =
-    nobody_served (settings_in g.A.SideJobs.whole c.args.server_settings) (stream_of g.D.Stream.Stream.held g.D.Stream.Stream.taken g.D.Stream.Stream.failed) (state g.S.Store) (g.D.Network.known c.args.network.now) c.args.connections c.args.office.now
+    nobody_served (settings_in g.A.SideJobs.whole c.args.server_settings) (stream_of g.D.Stream.Stream.held g.D.Stream.Stream.taken g.D.Stream.Stream.failed)
+    (state g.S.Store) (g.D.Network.known c.args.network.now) c.args.connections c.args.office.now
 
 pub serve_rounds-ended-requires-clause-sound : goal.serve_rounds-ended-requires-clause-sound
 serve_rounds-ended-requires-clause-sound g c =
-    sound_empty (settings_in g.A.SideJobs.whole c.args.server_settings) (stream_of g.D.Stream.Stream.held g.D.Stream.Stream.taken g.D.Stream.Stream.failed) c.in-Ok.table c.in-Ok.ensures.0 c.in-Ok.ensures.1
+    sound_empty (settings_in g.A.SideJobs.whole c.args.server_settings) (stream_of g.D.Stream.Stream.held g.D.Stream.Stream.taken g.D.Stream.Stream.failed)
+    c.in-Ok.table c.in-Ok.ensures.0 c.in-Ok.ensures.1
 
 pub returns-clause-served : goal.returns-clause-served
 returns-clause-served g c =
@@ -21,27 +23,33 @@ returns-clause-served g c =
     let stream = stream_of g.D.Stream.Stream.held g.D.Stream.Stream.taken g.D.Stream.Stream.failed in
     let known = g.D.Network.known in
     let went = c.serve_rounds-ended in
-    hall_serves settings stream (state g.S.Store) (known c.args.network.now) (known went.new.network) (known c.close_all.new.network) c.args.connections c.in-Ok.table went.new.table c.close_all.new.table c.args.office.now
+    hall_serves settings stream (state g.S.Store) (known c.args.network.now) (known went.new.network) (known c.close_all.new.network) c.args.connections
+    c.in-Ok.table went.new.table c.close_all.new.table c.args.office.now
     (memory_entry c.in-Ok-new.kept) (served_office went.new.office (memory_entry went.new.kept)) went.result c.in-Ok-new.ensures went.ensures.goes_on c.close_all.ensures.go
     c.in-Ok.ensures.0 c.in-Ok.ensures.1 c.in-Ok.ensures.2 c.close_all.ensures.none went.ensures.none
-    (few_closed c.args.connections c.unwrap_or-most.result c.in-Ok.table.counted went.new.table.counted c.close_all.new.table.counted c.unwrap_or-most.ensures c.in-Ok.ensures.2 went.ensures.few c.close_all.ensures.go.counted)
-    (all_closed went.result c.args.connections c.unwrap_or-most.result c.in-Ok.table.counted went.new.table.counted c.close_all.new.table.counted c.unwrap_or-most.ensures c.in-Ok.ensures.2 went.ensures.few c.close_all.ensures.go.counted went.ensures.all)
+    (few_closed c.args.connections c.unwrap_or-most.result c.in-Ok.table.counted went.new.table.counted c.close_all.new.table.counted c.unwrap_or-most.ensures
+    c.in-Ok.ensures.2 went.ensures.few c.close_all.ensures.go.counted)
+    (all_closed went.result c.args.connections c.unwrap_or-most.result c.in-Ok.table.counted went.new.table.counted c.close_all.new.table.counted
+    c.unwrap_or-most.ensures c.in-Ok.ensures.2 went.ensures.few c.close_all.ensures.go.counted went.ensures.all)
 
 pub returns-clause-closed : goal.returns-clause-closed
 returns-clause-closed g c =
     let known = g.D.Network.known in
     let went = c.serve_rounds-ended in
-    serving_closed (settings_in g.A.SideJobs.whole c.args.server_settings) (stream_of g.D.Stream.Stream.held g.D.Stream.Stream.taken g.D.Stream.Stream.failed) (state g.S.Store) (known c.args.network.now) (known went.new.network) c.in-Ok.table went.new.table c.args.office.now
+    serving_closed (settings_in g.A.SideJobs.whole c.args.server_settings) (stream_of g.D.Stream.Stream.held g.D.Stream.Stream.taken g.D.Stream.Stream.failed)
+    (state g.S.Store) (known c.args.network.now) (known went.new.network) c.in-Ok.table went.new.table c.args.office.now
     (memory_entry c.in-Ok-new.kept) (served_office went.new.office (memory_entry went.new.kept)) went.ensures.goes_on
 
 pub returns-clause-clean : goal.returns-clause-clean
 returns-clause-clean g c =
     let known = g.D.Network.known in
     let went = c.serve_rounds-ended in
-    serving_clean (settings_in g.A.SideJobs.whole c.args.server_settings) (stream_of g.D.Stream.Stream.held g.D.Stream.Stream.taken g.D.Stream.Stream.failed) (state g.S.Store) (known c.args.network.now) (known went.new.network) c.in-Ok.table went.new.table c.args.office.now
+    serving_clean (settings_in g.A.SideJobs.whole c.args.server_settings) (stream_of g.D.Stream.Stream.held g.D.Stream.Stream.taken g.D.Stream.Stream.failed)
+    (state g.S.Store) (known c.args.network.now) (known went.new.network) c.in-Ok.table went.new.table c.args.office.now
     (memory_entry c.in-Ok-new.kept) (served_office went.new.office (memory_entry went.new.kept)) went.ensures.goes_on
 
 -- or for the routes
 pub returns-in_default-new-clause-served : goal.returns-in_default-new-clause-served
 returns-in_default-new-clause-served g c =
-    nobody_served (settings_in g.A.SideJobs.whole c.args.server_settings) (stream_of g.D.Stream.Stream.held g.D.Stream.Stream.taken g.D.Stream.Stream.failed) (state g.S.Store) (g.D.Network.known c.args.network.now) c.args.connections c.args.office.now
+    nobody_served (settings_in g.A.SideJobs.whole c.args.server_settings) (stream_of g.D.Stream.Stream.held g.D.Stream.Stream.taken g.D.Stream.Stream.failed)
+    (state g.S.Store) (g.D.Network.known c.args.network.now) c.args.connections c.args.office.now

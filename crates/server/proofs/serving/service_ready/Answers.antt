@@ -12,7 +12,8 @@ use Rattle.server.specs.Reads.{served_office, memory_entry}
 use Rattle.server.specs.Servers.{IsNumbered}
 use Rattle.server.specs.Servicing.{WasServiced, response_at}
 use Rattle.server.specs.Settings.{settings_in}
-use Rattle.server.proofs.ServerLemmas.{called_in_vain, called_well, known_still, serves_nobody, serves_settled, serves_still, serves_stops, serves_then, settled_still, sound_later, unfailed_ready, unfailed_then, untold_at}
+use Rattle.server.proofs.ServerLemmas.{called_in_vain, called_well, known_still, serves_nobody, serves_settled, serves_still, serves_stops}
+use Rattle.server.proofs.ServerLemmas.{serves_then, settled_still, sound_later, unfailed_ready, unfailed_then, untold_at}
 use Rattle.server.proofs.serving.service_ready.Goals as goal
 
 pub loop-init : goal.loop-init
@@ -92,14 +93,17 @@ loop-preserved g c =
     let named = c.next_ready.ensures ∙ ap (λ (o : Option ℕ). after_ready o (known c.loop.network)) c.in-Some.is in
     let within = subst (λ (clients : List (Client _)). place < length clients) c.as_slice.ensures.value c.in-Some-place_of_number.ensures.within in
     let numbered = subst (λ (clients : List (Client _)). IsNumbered clients place c.in-Some.number) c.as_slice.ensures.value c.in-Some-place_of_number.ensures.his in
-    let serviced = subst (λ (r : Result (Option CloseReason) Broken). WasServiced (is_some settings.clients.gate) settings stream (state g.S.Store) r (known c.next_ready.new.self) (known went.new.network) out.result went.result.0 between behind)
+    let serviced = subst (λ (r : Result (Option CloseReason) Broken). WasServiced (is_some settings.clients.gate) settings stream (state g.S.Store) r
+    (known c.next_ready.new.self) (known went.new.network) out.result went.result.0 between behind)
     c.in-Ok.is went.ensures.went in
     let well = called_well stream (map response_at serviced.exchanges) out.result went.result.0 c.in-Ok.reason serviced.gate (known c.next_ready.new.self) (known went.new.network) serviced.comes in
     let still = settled_still c.in-Ok.reason place went.result.0 (known went.new.network) (known settled.new.network) out.new.self settled.new.table settled.ensures.settles in
     let ready = unfailed_ready c.next_ready.result (known c.args.network.now) (known c.loop.network) (known c.next_ready.new.self) so_far.called c.next_ready.ensures in
     record {
-      goes_on = serves_then settings stream (state g.S.Store) (known c.args.network.now) (known c.loop.network) (known settled.new.network) c.args.table.now c.loop.table settled.new.table at between behind so_far.goes_on
-          (serves_settled settings stream (state g.S.Store) (known c.loop.network) (known c.next_ready.new.self) c.loop.table place c.in-Some.number out.result went.result.0 between behind named within out.ensures.client numbered
+      goes_on = serves_then settings stream (state g.S.Store) (known c.args.network.now) (known c.loop.network)
+          (known settled.new.network) c.args.table.now c.loop.table settled.new.table at between behind so_far.goes_on
+          (serves_settled settings stream (state g.S.Store) (known c.loop.network) (known c.next_ready.new.self) c.loop.table place c.in-Some.number
+          out.result went.result.0 between behind named within out.ensures.client numbered
           went.ensures.same.0 went.ensures.same.1 went.ensures.is
           c.in-Ok.reason (known went.new.network) (known settled.new.network) out.new.self settled.new.table serviced out.ensures.clients out.ensures.came out.ensures.counted settled.ensures.settles);
       came = still.1 ∙ out.ensures.came ∙ so_far.came;
@@ -124,12 +128,16 @@ returns-in_default-next-clause-goes_on g c =
     let named = c.next_ready.ensures ∙ ap (λ (o : Option ℕ). after_ready o (known c.loop.network)) c.in-Some.is in
     let within = subst (λ (clients : List (Client _)). place < length clients) c.as_slice.ensures.value c.in-Some-place_of_number.ensures.within in
     let numbered = subst (λ (clients : List (Client _)). IsNumbered clients place c.in-Some.number) c.as_slice.ensures.value c.in-Some-place_of_number.ensures.his in
-    let serviced = subst (λ (r : Result (Option CloseReason) Broken). WasServiced (is_some settings.clients.gate) settings stream (state g.S.Store) r (known c.next_ready.new.self) (known went.new.network) out.result went.result.0 between behind)
+    let serviced = subst (λ (r : Result (Option CloseReason) Broken). WasServiced (is_some settings.clients.gate) settings stream (state g.S.Store) r
+    (known c.next_ready.new.self) (known went.new.network) out.result went.result.0 between behind)
     c.in_default-next.is went.ensures.went in
-    serves_then settings stream (state g.S.Store) (known c.args.network.now) (known c.loop.network) (known went.new.network) c.args.table.now c.loop.table back.new.self at between behind c.loop.invariant.goes_on
-    (serves_stops settings stream (state g.S.Store) (known c.loop.network) (known c.next_ready.new.self) c.loop.table place c.in-Some.number out.result went.result.0 between behind named within out.ensures.client numbered
+    serves_then settings stream (state g.S.Store) (known c.args.network.now) (known c.loop.network) (known went.new.network) c.args.table.now c.loop.table back.new.self
+    at between behind c.loop.invariant.goes_on
+    (serves_stops settings stream (state g.S.Store) (known c.loop.network) (known c.next_ready.new.self) c.loop.table place c.in-Some.number out.result
+    went.result.0 between behind named within out.ensures.client numbered
     went.ensures.same.0 went.ensures.same.1 went.ensures.is
-    c.in_default-next.field-0 (known went.new.network) out.new.self back.new.self serviced out.ensures.clients back.ensures.clients (back.ensures.came ∙ out.ensures.came) (back.ensures.counted ∙ out.ensures.counted))
+    c.in_default-next.field-0 (known went.new.network) out.new.self back.new.self serviced out.ensures.clients back.ensures.clients
+    (back.ensures.came ∙ out.ensures.came) (back.ensures.counted ∙ out.ensures.counted))
 
 pub returns-in_default-next-clause-called : goal.returns-in_default-next-clause-called
 returns-in_default-next-clause-called g c =
@@ -140,7 +148,8 @@ returns-in_default-next-clause-called g c =
     let out = c.remove_at-client in
     let went = c.service_one-client in
     let behind = served_office went.new.office (memory_entry went.new.kept) in
-    let serviced = subst (λ (r : Result (Option CloseReason) Broken). WasServiced (is_some settings.clients.gate) settings stream (state g.S.Store) r (known c.next_ready.new.self) (known went.new.network) out.result went.result.0 between behind)
+    let serviced = subst (λ (r : Result (Option CloseReason) Broken). WasServiced (is_some settings.clients.gate) settings stream (state g.S.Store) r
+    (known c.next_ready.new.self) (known went.new.network) out.result went.result.0 between behind)
     c.in_default-next.is went.ensures.went in
     let broken : Result (Unit {0}) Broken = Err c.in_default-next.field-0 in
     unfailed_then broken (known c.args.network.now) (known c.next_ready.new.self) (known went.new.network)
@@ -154,6 +163,8 @@ returns-in_default-clause-goes_on g c =
     let stream = stream_of g.D.Stream.Stream.held g.D.Stream.Stream.taken g.D.Stream.Stream.failed in
     let known = g.D.Network.known in
     let between = served_office c.loop.office (memory_entry c.loop.kept) in
-    serves_then settings stream (state g.S.Store) (known c.args.network.now) (known c.loop.network) (known c.next_ready.new.self) c.args.table.now c.loop.table c.loop.table (served_office c.args.office.now (memory_entry c.args.kept.now)) between between
+    serves_then settings stream (state g.S.Store) (known c.args.network.now) (known c.loop.network) (known c.next_ready.new.self) c.args.table.now c.loop.table c.loop.table
+    (served_office c.args.office.now (memory_entry c.args.kept.now)) between between
     c.loop.invariant.goes_on
-    (serves_still settings stream (state g.S.Store) (known c.loop.network) (known c.next_ready.new.self) c.loop.table between (known_still c.next_ready.result (known c.loop.network) (known c.next_ready.new.self) c.next_ready.ensures c.in_default.not-Some))
+    (serves_still settings stream (state g.S.Store) (known c.loop.network) (known c.next_ready.new.self) c.loop.table between
+    (known_still c.next_ready.result (known c.loop.network) (known c.next_ready.new.self) c.next_ready.ensures c.in_default.not-Some))

@@ -29,4 +29,5 @@ returns-in-None-clause-within g c =
     let known = g.D.Network.known in
     let back = c.put_back_at in
     let few = few_again c.args.table.now.clients.items back.new.self.clients.items c.args.place c.args.client c.requires.place.0 c.requires.place.1 back.ensures.clients in
-    within_again IsClosedForBytes bytes_outs (known c.args.network.now) (known c.keep_within.new.network) back.new.self c.keep_within.new.table few c.keep_within.ensures.go (c.keep_within.ensures.within few)
+    within_again IsClosedForBytes bytes_outs (known c.args.network.now) (known c.keep_within.new.network) back.new.self c.keep_within.new.table few c.keep_within.ensures.go
+    (c.keep_within.ensures.within few)
