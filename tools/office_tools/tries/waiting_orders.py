@@ -9,6 +9,7 @@ import itertools
 import os
 import pty
 import re
+import resource
 import socket
 import sqlite3
 import struct
@@ -23,6 +24,7 @@ from office_tools.tables import Table
 SERVING = 12
 # Each kind of order has wards of its own.
 AT_ONCE, COMING, PIPED, LONG, KILLED, STEERS = 1, range(10, 40), 40, 50, 60, 70
+CROWD, LINES = 2000, 2000
 HELD_BYTE = (1 << 30) + 512
 OFD_SETLK = 37
 SCRIPT_LIMIT = 32 << 20
@@ -62,6 +64,39 @@ def script_of(first, count):
     """Returns the lines of a script that adds wards, and what it prints."""
     wards = range(first, first + count)
     return [f"ward {n} 1 Ward --id p{n}\n" for n in wards], (0, "".join(added(n)[1] for n in wards), "")
+
+
+def is_open(connection):
+    try:
+        return bool(connection.recv(1))
+    except BlockingIOError:
+        return True
+    except OSError:
+        return False
+
+
+@contextlib.contextmanager
+def crowd(port):
+    """Keeps silent connections open, as many as there may be: one that is closed is opened again."""
+    ends, hard = threading.Event(), resource.getrlimit(resource.RLIMIT_NOFILE)[1]
+    resource.setrlimit(resource.RLIMIT_NOFILE, (hard, hard))
+
+    def connect():
+        connection = socket.socket()
+        connection.setblocking(False)
+        connection.connect_ex(("127.0.0.1", port))
+        return connection
+
+    def keep():
+        connections = [connect() for _ in range(CROWD)]
+        while not ends.wait(0.5):
+            connections = [one if is_open(one) else connect() for one in connections]
+    keeper = threading.Thread(target=keep, daemon=True)
+    keeper.start()
+    time.sleep(3)
+    yield
+    ends.set()
+    keeper.join()
 
 
 class Waits:
@@ -155,11 +190,17 @@ class Waits:
         return seconds
 
     def slow_and_long(self):
-        """Sends scripts that are slow, or long, while the office is served."""
+        """Sends scripts that are slow, or long, while the office is served, the first two of them in a crowd."""
         os.mkfifo(self.office.folder / "pipe")
         with self.serve() as serving:
-            self.done("a script that comes through a pipe for 40 seconds, while served: it is done", self.piped(PIPED, 8, 5))
-            lines, wanted = script_of(LONG, 4)
+            with crowd(serving.port):
+                self.done(f"a script that comes through a pipe for two minutes, while {CROWD} silent connections are open: it is done",
+                          self.piped(PIPED, 8, 15))
+                lines, wanted = script_of(LONG, 4)
+                self.office.write(SCRIPT, [line.rstrip() for line in lines] * LINES)
+                found, seconds = timed(self.run, "replay", SCRIPT)
+                expect("a script of many lines", found, (0, wanted[1] * LINES, ""))
+                self.done(f"a script of {4 * LINES} lines, while {CROWD} silent connections are open: it is done", seconds)
             text = "".join(lines)
             for size, what, wanted in ((SCRIPT_LIMIT - 4096, "less 4 KiB, while served: it is done", wanted),
                                        (SCRIPT_LIMIT + 4096, "and 4 KiB, while served: fault 102", (3, "", STORE))):
