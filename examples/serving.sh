@@ -146,6 +146,17 @@ CSV
     play town.db status 7
     ask /clerks/4/work
     stop
+    # its log is removed while it serves: reads are answered, nothing more is accepted, and a copy has everything that was
+    rm "$folder/town.db-serve"
+    serve
+    rm "$folder/town.db-wal"
+    ask /wards/7/result
+    ask /clerks/4/batches/12/keying -d '{"id":"k9","round":1,"papers":["1,2,","D"]}'
+    play town.db ward 9 1 Hill --id w9
+    play town.db copy rescued.db
+    play rescued.db status 7
+    sed 's/^/serve: /' "$folder/said"
+    stop
 } >"$folder/played"
 
 compare serving
