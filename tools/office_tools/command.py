@@ -26,6 +26,8 @@ def add_word(parser, word):
     shown = {"help": f"default {default}"} if default else {}
     if kind is bool:
         parser.add_argument(f"--{word.name}", action="store_true")
+    elif kind is list:
+        parser.add_argument(f"--{word.name}", action="append", default=[])
     elif word.kind is word.KEYWORD_ONLY:
         parser.add_argument(f"--{word.name}", type=kind, default=default, **shown)
     else:

@@ -55,7 +55,7 @@ class Order:
         env = {**os.environ, **dict(env)}
         if not self.sends:
             return ended(self.started(office, env=env, **how))
-        serving = office.serve(1, env=env, **how)
+        serving = office.serve(connections=1, env=env, **how)
         text = serving.ask(self.sends)
         printed = serving.ended()
         return printed._replace(out=printed.out + text.decode())

@@ -18,6 +18,8 @@ from office_tools.web import HERE, answer
 ROOT = Path(__file__).resolve().parents[2]
 TOWN, LOG, SCRIPT = "town.db", "town.db-wal", "orders.txt"
 SECONDS = 60
+# As many connections as `serve` may be told. Without this word there is no limit; programs up to 1.6.0 want it.
+CONNECTIONS = 1000000
 STORE, NO_OFFICE = "fault 102: store\n", "fault 105: wrong database\n"
 PORTS = itertools.count()
 
@@ -159,9 +161,9 @@ class Office:
         self.write("codes.txt", [f"{clerk} {code}" for clerk, code in codes.items()])
         (self.folder / "codes.txt").chmod(0o600)
 
-    def serve(self, connections=0, *words, **how):
-        """Starts `serve`, for so many connections; 0 for no limit."""
-        return Serving(self, connections, *words, **how)
+    def serve(self, *words, **how):
+        """Starts `serve`."""
+        return Serving(self, *words, **how)
 
     def copied(self, folder, town=TOWN):
         """Copies the file, or the copy of it that has another name, with its log into an empty folder."""
@@ -205,9 +207,9 @@ def rows_of(base):
 class Serving:
     """The program while it serves an office. At the end of a `with` it is killed."""
 
-    def __init__(self, office, connections=0, *words, port=None, **how):
+    def __init__(self, office, *words, connections=CONNECTIONS, port=None, **how):
         self.port = port or free_port()
-        self.process = office.start("serve", self.port, *([connections] if connections else []), *words, **how)
+        self.process = office.start("serve", self.port, connections, *words, **how)
 
     def __enter__(self):
         return self

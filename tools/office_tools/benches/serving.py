@@ -6,10 +6,15 @@ is there. A sheet of a tenth of the papers is read anew, and answered from memor
 and handed over, each on a copy of the file, as the shortest of several runs. Memory is that of `serve` at its start, and with 512
 connections that have each sent half of a body of 1 MiB. PAPERS is a multiple of 500; with fewer than 10,000 all numbers are small, to see
 that it works. With --write the tables go into docs/COST.md.
+
+With --program A --program B, or more of them, it compares these programs alone: each serves in turn, a few times, and the table has how
+many reads and how many keyings each answers a second, the middle of its turns. Reads are what `ab` counts, if it is there.
 """
 import json
+import os
 import random
 import shutil
+import statistics
 import subprocess
 import time
 from concurrent.futures import ThreadPoolExecutor
@@ -21,6 +26,8 @@ from office_tools.wards_timed import (
 from office_tools.web import HERE
 
 CLERKS, SILENT, CROWD, HALF = range(1, 21), 300, 512, 524288
+# How often programs that are compared serve, and the papers of their batches.
+TURNS, COMPARED = 5, (5, BATCH)
 WORK = "/clerks/1/work"
 
 
@@ -35,13 +42,13 @@ class Sizes:
         self.runs = 1 if is_trial else 2 * RUNS
 
 
-def office_to_key(folder, rounds):
+def office_to_key(folder, rounds, size=BATCH):
     """Returns an office with batches for each of the clerks, and the bodies of their keyings: a list for each clerk."""
     chance, bodies = random.Random(7), {clerk: [] for clerk in CLERKS}
     clerks = {number: number % len(CLERKS) + 1 for number in range(1, 3 * len(CLERKS) * rounds + 1)}
     for number, clerk in clerks.items():
-        bodies[clerk].append((number, json.dumps({"id": f"k{number}", "round": 1, "papers": list(papers(chance, BATCH))})))
-    return nominated(folder, *((number, BATCH, clerk, 999) for number, clerk in clerks.items())), bodies
+        bodies[clerk].append((number, json.dumps({"id": f"k{number}", "round": 1, "papers": list(papers(chance, size))})))
+    return nominated(folder, *((number, size, clerk, 999) for number, clerk in clerks.items())), bodies
 
 
 def keyed(serving, works, pause):
@@ -205,8 +212,40 @@ def print_memory(folder, sizes):
     return table
 
 
-def main(papers=100000, *, write=False):
+def in_turn(folder, sizes):
+    """Returns what the program that is set answers a second: reads, and keyings of batches of each size."""
+    found = []
+    for size in COMPARED:
+        office, bodies = office_to_key(folder / f"batches-of-{size}", sizes.rounds, size)
+        with office.serve().wait() as serving:
+            if not found:
+                clients = len(CLERKS)
+                found.append(counted_by_ab(serving.port, clients, sizes.seconds) or requests_a_second(serving, clients, sizes.seconds))
+            times, seconds = keyed(serving, bodies, 0)
+        found.append(len(times) / seconds)
+    return found
+
+
+def compare(programs, sizes):
+    """Has programs serve in turns, and prints what each answers a second, and that as a part of the first one's."""
+    found = {path: [] for path in programs}
+    for _ in range(TURNS):
+        for path, results in found.items():
+            os.environ["COUNT_OFFICE"] = path
+            program.cache_clear()
+            with temporary_folder() as folder:
+                results.append(in_turn(folder, sizes))
+    middle = {path: [statistics.median(column) for column in zip(*results)] for path, results in found.items()}
+    heads = ("reads", *(f"keyings of {size} papers" for size in COMPARED))
+    table = Table(f"Answers a second, {len(CLERKS)} clients, the middle of {TURNS} turns", *heads)
+    for path, counts in middle.items():
+        table.row(path, *(f"{count:,.0f} ({count / first:.2f})" for count, first in zip(counts, middle[programs[0]])))
+
+
+def main(papers=100000, *, write=False, program: list = ()):
     sizes, lines = Sizes(papers), []
+    if program:
+        return compare(program, sizes)
     for part in (print_keyings, print_requests, print_sheets, print_orders, print_memory):
         with temporary_folder() as folder:
             lines += [*part(folder / "office", sizes).lines, ""]

@@ -70,7 +70,7 @@ def wrong_script(page):
 
 def wrong_served(page, policy):
     """Returns what of the page that a program serves to a clerk, and of its policy, is otherwise than in the sources."""
-    with temporary_folder() as folder, evening_office(folder).serve(0, "--codes", "codes.txt") as serving:
+    with temporary_folder() as folder, evening_office(folder).serve("--codes", "codes.txt") as serving:
         answer = serving.ask(request(f"/clerks/{CLERK}/", f"Authorization: {basic(CLERK, CODES[CLERK])}")).decode()
     head, _, served = answer.partition("\r\n\r\n")
     told = re.search(r"(?i)^content-security-policy: (.*?)\r?$", head, re.M)[1]

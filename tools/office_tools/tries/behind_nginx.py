@@ -75,7 +75,7 @@ def main(seed=7, *, seconds=180):
         # nginx starts its workers as another user, who has to read the folder
         folder.chmod(0o755)
         office = evening_office(folder / "office", codes)
-        with office.serve(0, "--codes", "codes.txt", "--origin", f"https://{NAME}").wait() as serving, Nginx(folder, serving.port) as nginx:
+        with office.serve("--codes", "codes.txt", "--origin", f"https://{NAME}").wait() as serving, Nginx(folder, serving.port) as nginx:
             def send(sends, clerk):
                 return nginx.ask(sends, f"127.0.1.{clerk or OUTSIDER}")
             check_beside_guesses(f"{seconds} seconds, through nginx", send, codes, chance, seconds)

@@ -24,7 +24,7 @@ class Tried:
         self.table = Table("A page of", "tries", "kept", "read")
 
     def serve(self, *words):
-        return self.office.serve(100000, *words, port=self.port).wait()
+        return self.office.serve(*words, port=self.port).wait()
 
     def address(self, host=HERE):
         return f"http://{host}:{self.port}"

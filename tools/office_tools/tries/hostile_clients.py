@@ -14,7 +14,7 @@ from concurrent.futures import ThreadPoolExecutor
 
 from office_tools.damage import damaged, noise
 from office_tools.election import ward_orders
-from office_tools.office import Office, Wrong, open_many_files, temporary_folder, timed
+from office_tools.office import CONNECTIONS, Office, Wrong, open_many_files, temporary_folder, timed
 from office_tools.tables import Table
 from office_tools.web import BROKEN, HERE, answer, basic, received, request, status
 
@@ -39,7 +39,7 @@ class Served:
         harm = 9 if codes else 4
         self.good_request, self.work = self.of(4, "" if codes else "work"), self.of(harm, "work")
         self.refused, self.readers = self.of(harm, "batches/99/keying", KEYING), self.of(READER, "work")
-        self.serving = office.serve(connections, *(["--codes", "codes.txt"] if codes else []))
+        self.serving = office.serve(connections=connections, *(["--codes", "codes.txt"] if codes else []))
         self.good = self.ask_well()
         if status(self.good) != 200:
             raise Wrong(f"the good client gets {self.good}, and serve prints {self.serving.kill()}")
@@ -237,7 +237,7 @@ def main(seed=7, *, codes=False):
     with temporary_folder() as folder:
         office = Office(folder).begin(ward_orders((12, 2, 4, 9), *((1000 + number, 2, READER, 9) for number in range(BATCHES))))
         office.write_codes(CODES)
-        for connections, show, wanted in ((MOST, lambda: print_kinds(served, seed), 0), (0, lambda: print_crowds(served), -9)):
+        for connections, show, wanted in ((MOST, lambda: print_kinds(served, seed), 0), (CONNECTIONS, lambda: print_crowds(served), -9)):
             served = Served(office, codes, connections)
             with served.serving:
                 show()

@@ -215,7 +215,7 @@ def check_limit(port, codes, chance):
 def main(seed=7, *, short=False, seconds=0):
     chance, seconds = random.Random(seed), seconds or (20 if short else 180)
     codes = {**{clerk: drawn(chance) for clerk in [*TELLERS, *TIMED, *CHANGED]}, **CODES}
-    with temporary_folder() as folder, evening_office(folder, codes).serve(0, "--codes", "codes.txt").wait() as serving:
+    with temporary_folder() as folder, evening_office(folder, codes).serve("--codes", "codes.txt").wait() as serving:
         port = serving.port
         print_denied(port)
         check_changed(port, codes, chance)

@@ -138,7 +138,7 @@ def killed_log(folder):
     """Returns the log of an office that was killed while it served, which holds what it answered."""
     office = small_office(folder / "killed", MADE)
     body = '{"id":"k","round":1,"papers":[%s]}' % ",".join(f'"{marks}"' for marks in PAPERS)
-    with office.serve(9) as serving:
+    with office.serve(connections=9) as serving:
         answer = serving.ask(request("/clerks/4/batches/12/keying", body=body))
     log = (office.folder / LOG).read_bytes()
     if status(answer) != 200 or len(log) < 32 + FRAME:
@@ -220,7 +220,7 @@ def check_log_of(folder, town, case):
 
 def served_once(office, *words):
     """Returns what `serve` prints on standard error, which is asked once and killed."""
-    with office.serve(0, *words) as serving:
+    with office.serve(*words) as serving:
         serving.ask(request("/nothing"))
         return serving.kill().err
 

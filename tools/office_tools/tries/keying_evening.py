@@ -129,7 +129,7 @@ class Evening:
         self.start()
 
     def start(self):
-        self.serving = self.office.serve(100000, "--codes", "codes.txt", port=self.port).wait()
+        self.serving = self.office.serve("--codes", "codes.txt", port=self.port).wait()
 
     def kill(self):
         self.serving.kill()

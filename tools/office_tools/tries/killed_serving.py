@@ -53,7 +53,7 @@ class OneClient:
     def served(self, parts, wait=None):
         """Returns (seconds, the office, what the client had) of a `serve` that is killed after so many seconds, or after the answer."""
         here = self.trial.office.copied(self.trial.folder / "run")
-        with here.serve(2) as serving, serving.connect() as line:
+        with here.serve(connections=2) as serving, serving.connect() as line:
             began = time.perf_counter()
             killer = serving.killed_after(wait)
             text = exchanged(line, parts, [self.seconds / PIECES] * (len(parts) - 1))

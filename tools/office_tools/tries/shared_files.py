@@ -192,7 +192,7 @@ class Meddling:
         """Takes files away while `serve` has them open. If none is, the order that is handed over and a client's keying are done."""
         here = self.keyed.copied(self.folder / "run")
         files = held(here)
-        with here.serve(2) as serving:
+        with here.serve(connections=2) as serving:
             serving.ask(REQUESTS[0][1].sends)
             for name in names:
                 (here.folder / name).unlink()
@@ -351,7 +351,7 @@ def rights(folder, made, office, first, name):
 def rights_served(folder, office):
     """Looks at the rights of what is there while `serve` runs, and after a copy that it made."""
     here = private(office, folder / "rights")
-    with here.serve(2) as serving:
+    with here.serve(connections=2) as serving:
         serving.ask(REQUESTS[0][1].sends)
         printed = COPYING.done(here)
         if open_to_others(here) or printed.status or not (here.folder / (TOWN + "-serve")).exists():
