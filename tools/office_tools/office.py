@@ -22,6 +22,8 @@ SECONDS = 60
 CONNECTIONS = 1000000
 STORE, NO_OFFICE = "fault 102: store\n", "fault 105: wrong database\n"
 PORTS = itertools.count()
+# Debian's packages of commands that have another name.
+PACKAGES = {"node": "nodejs", "ab": "apache2-utils", "chromedriver": "chromium-driver"}
 
 
 class Wrong(Exception):
@@ -49,7 +51,7 @@ def needs(*commands):
     """Raises an error if one of these commands isn't installed."""
     for command in commands:
         if not shutil.which(command):
-            raise Wrong(f"the command {command} is missing; on Debian: apt-get install {command}")
+            raise Wrong(f"the command {command} is missing; on Debian: apt-get install {PACKAGES.get(command, command)}")
 
 
 def is_free(port, host=HERE):

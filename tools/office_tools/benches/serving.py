@@ -1,31 +1,31 @@
 """Times clients that are served side by side, and orders that are handed over to `serve`, and prints the tables of docs/COST.md.
 
 Twenty clerks key batches of 500 papers next to 300 silent connections, as fast as they are answered, or with a pause of a second on
-average; before it one at a time. 1, 20 and 200 clients ask again and again for a clerk's work; next to it stands what `ab` counts, if it
-is there. A sheet of a tenth of the papers is read anew, and answered from memory. Each order on a ward of so many papers is given alone,
-and handed over, each on a copy of the file, as the shortest of several runs. Memory is that of `serve` at its start, and with 512
-connections that have each sent half of a body of 1 MiB. PAPERS is a multiple of 500; with fewer than 10,000 all numbers are small, to see
-that it works. With --write the tables go into docs/COST.md.
+average; before it one at a time. 1, 20 and 200 clients ask again and again for a clerk's work, as `ab` of apache2-utils counts. A sheet of
+a tenth of the papers is read anew, and answered from memory. Each order on a ward of so many papers is given alone, and handed over, each
+on a copy of the file, as the shortest of several runs. Memory is that of `serve` at its start, and with 512 connections that have each
+sent half of a body of 1 MiB. PAPERS is a multiple of 500; with fewer than 10,000 all numbers are small, to see that it works. With --write
+the tables go into docs/COST.md.
 
 With --program A --program B, or more of them, it compares these programs alone: each serves in turn, a few times, and the table has how
-many reads and how many keyings each answers a second, the middle of its turns. Reads are what `ab` counts, if it is there.
+many reads and how many keyings each answers a second, the middle of its turns, and that as a part of the first program's.
 """
+import contextlib
 import json
 import os
 import random
-import shutil
 import statistics
 import subprocess
 import time
 from concurrent.futures import ThreadPoolExecutor
 
-from office_tools.office import ROOT, TOWN, Office, Wrong, program, temporary_folder
+from office_tools.office import ROOT, TOWN, Wrong, needs, program, temporary_folder
 from office_tools.tables import Table, put_into
 from office_tools.wards_timed import (
-    BATCH, RUNS, agreed_ward, asked, best, keyed_ward, nominated, orders_in_count, orders_in_keying, papers, run, sheet_seconds, shortest)
-from office_tools.web import HERE
+    BATCH, RUNS, advance, agree, asked, best, keyed_ward, nominated, orders, papers, run, shortest)
+from office_tools.web import HERE, request
 
-CLERKS, SILENT, CROWD, HALF = range(1, 21), 300, 512, 524288
+CLERKS, SILENT, CROWD, HALF, SHEETS = range(1, 21), 300, 512, 524288, 20
 # How often programs that are compared serve, and the papers of their batches.
 TURNS, COMPARED = 5, (5, BATCH)
 WORK = "/clerks/1/work"
@@ -78,14 +78,12 @@ def closed(lines):
     """Returns how many connections the other side has closed, and closes all."""
     count = 0
     for line in lines:
-        line.setblocking(False)
-        try:
-            count += line.recv(1) == b""
-        except BlockingIOError:
-            pass
-        except OSError:
-            count += 1
-        line.close()
+        with line, contextlib.suppress(BlockingIOError):
+            line.setblocking(False)
+            try:
+                count += line.recv(1) == b""
+            except ConnectionError:
+                count += 1
     return count
 
 
@@ -106,24 +104,8 @@ def print_keyings(folder, sizes):
     return table
 
 
-def requests_a_second(serving, clients, seconds):
-    """Returns how many requests for a clerk's work are answered a second."""
-    ends = time.perf_counter() + seconds
-
-    def count(_):
-        number = 0
-        while time.perf_counter() < ends:
-            asked(serving, WORK)
-            number += 1
-        return number
-    with ThreadPoolExecutor(clients) as pool:
-        return sum(pool.map(count, range(clients))) / seconds
-
-
-def counted_by_ab(port, clients, seconds):
-    """Returns what `ab` of apache2-utils counts a second, if it is there; none of its requests may fail."""
-    if not shutil.which("ab"):
-        return None
+def reads_a_second(port, clients, seconds):
+    """Returns how many requests for a clerk's work are answered a second, as `ab` counts them; none may fail."""
     words = ["ab", "-q", "-t", str(seconds), "-n", "1000000", "-c", str(clients), f"http://{HERE}:{port}{WORK}"]
     told = subprocess.run(words, capture_output=True, text=True, check=False).stdout
     found = dict(line.split(":", 1) for line in told.splitlines() if ":" in line)
@@ -134,67 +116,61 @@ def counted_by_ab(port, clients, seconds):
 
 def print_requests(folder, sizes):
     office, _ = office_to_key(folder, sizes.rounds)
-    table = Table("Clients who ask for a clerk's work", "answers a second", "as `ab` counts")
+    table = Table("Clients who ask for a clerk's work", "answers a second")
     with office.serve().wait() as serving:
         for clients in sizes.clients:
-            by_ab = counted_by_ab(serving.port, clients, sizes.seconds)
-            table.row(clients, f"{requests_a_second(serving, clients, sizes.seconds):,.0f}", "–" if by_ab is None else f"{by_ab:,.0f}")
+            table.row(clients, f"{reads_a_second(serving.port, clients, sizes.seconds):,.0f}")
     return table
 
 
 def print_sheets(folder, sizes):
-    anew, again = sheet_seconds(folder, sizes.sheet)
+    office, new = keyed_ward(folder, sizes.sheet)
+    agree(office, new)
+    office.do("seal", 7, "--id", "seal")
+    advance(office, 3)
+    with office.serve().wait() as serving:
+        # What is no read ends the answers from memory.
+        anew = [asked(serving, "/wards/7/sheet") for _ in range(SHEETS) if serving.ask(request("/nothing"))]
+        again = [asked(serving, "/wards/7/sheet") for _ in range(SHEETS)]
     table = Table(f"A sheet of {sizes.sheet:,} papers over HTTP, 3 stages done", "a second", "ms")
-    table.row("read anew each time", f"{1 / anew:.0f}", f"{1000 * anew:.1f}")
-    table.row("answered from memory, since nothing has changed", f"{1 / again:,.0f}", f"{1000 * again:.1f}")
+    for what, times in (("read anew each time", anew), ("answered from memory, since nothing has changed", again)):
+        table.row(what, f"{SHEETS / sum(times):,.0f}", f"{1000 * sum(times) / SHEETS:.1f}")
     return table
 
 
-def both(folder, words, wanted, runs):
-    """Returns how long an order takes alone, and handed over to an office that is served, each time a copy of the file."""
-    office = Office(folder)
-
-    def handed_over():
+def handed_over(office, words, wanted, runs):
+    """Returns how long an order takes that is handed over to an office that is served, each time a new copy of the file."""
+    def acted():
         copy = office.copied(office.folder / "served")
         with copy.serve().wait():
-            return run([program(), copy.folder / TOWN, *words], wanted)
-    return best(office, words, wanted, max(RUNS, runs))[0], shortest(lambda: None, handed_over, runs)[0]
-
-
-def row(table, name, alone, served):
-    table.row(name, f"{1000 * alone:.0f} ms", f"{1000 * served:.0f} ms", f"{served / alone:.3f}")
+            return run(program(), copy.folder / TOWN, *words, wanted=wanted)
+    return shortest(lambda: None, acted, runs)[0]
 
 
 def print_orders(folder, sizes):
-    """Prints the table of orders; of the stages the first, the fourth, and all together."""
+    """Prints how long orders take alone, and while the office is served; of the stages the first, the fourth, and all together."""
     table, stages = Table(f"Order, {sizes.orders:,} papers", "alone", "while it is served", "as a part of alone"), []
-    for name, words, wanted in orders_in_keying(*keyed_ward(folder / "keying", sizes.orders)):
-        row(table, name, *both(folder / "keying", words, wanted, sizes.runs))
-    shutil.rmtree(folder / "keying")
-    for name, words, wanted in orders_in_count(agreed_ward(folder / "count", sizes.orders)):
-        times = both(folder / "count", words, wanted, sizes.runs)
-        is_stage = name.startswith("`advance`, stage")
-        if is_stage:
-            stages.append(times)
-        if not is_stage or len(stages) in (1, 4):
-            row(table, name, *times)
-    row(table, f"`advance`, {len(stages)} stages, one after the other", *map(sum, zip(*stages)))
+
+    def row(name, alone, served):
+        table.row(name, f"{1000 * alone:.0f} ms", f"{1000 * served:.0f} ms", f"{served / alone:.3f}")
+    for office, name, words, wanted in orders(folder, sizes.orders):
+        times = best(office, words, wanted, sizes.runs)[0], handed_over(office, words, wanted, sizes.runs)
+        stage = name.startswith("`advance`, stage")
+        stages += [times] if stage else []
+        if not stage or len(stages) in (1, 4):
+            row(name, *times)
+    row(f"`advance`, {len(stages)} stages, one after the other", *map(sum, zip(*stages)))
     return table
 
 
 def half_sent(serving):
     """Returns the memory of `serve` with connections that have each sent half of a body of 1 MiB, and how many were disconnected."""
-    lines = []
-    for _ in range(CROWD):
-        line = serving.connect(1)
-        try:
+    lines, peak = [serving.connect(1) for _ in range(CROWD)], -1.0
+    for line in lines:
+        # Where more bytes are held than may be, a connection is closed.
+        with contextlib.suppress(OSError):
             line.sendall(b"POST /clerks/1/batches/1/keying HTTP/1.1\r\nContent-Length: 1048576\r\n\r\n" + b" " * HALF)
-        except OSError:
-            # It was disconnected: more bytes are held than may be.
-            pass
-        lines.append(line)
     # What was sent may still be in the sockets.
-    peak = -1.0
     while serving.memory() > peak:
         peak = serving.memory()
         time.sleep(2)
@@ -219,8 +195,7 @@ def in_turn(folder, sizes):
         office, bodies = office_to_key(folder / f"batches-of-{size}", sizes.rounds, size)
         with office.serve().wait() as serving:
             if not found:
-                clients = len(CLERKS)
-                found.append(counted_by_ab(serving.port, clients, sizes.seconds) or requests_a_second(serving, clients, sizes.seconds))
+                found.append(reads_a_second(serving.port, len(CLERKS), sizes.seconds))
             times, seconds = keyed(serving, bodies, 0)
         found.append(len(times) / seconds)
     return found
@@ -243,6 +218,7 @@ def compare(programs, sizes):
 
 
 def main(papers=100000, *, write=False, program: list = ()):
+    needs("ab")
     sizes, lines = Sizes(papers), []
     if program:
         return compare(program, sizes)
