@@ -126,8 +126,9 @@ class Office:
         self.folder = Path(folder)
         self.folder.mkdir(parents=True, exist_ok=True)
 
-    def start(self, *words, town=TOWN, **how):
-        words = [program(), town, *map(str, words)]
+    def start(self, *words, town=TOWN, under=(), **how):
+        """Starts an order, at wish under another program, such as `strace`."""
+        words = [*under, program(), town, *map(str, words)]
         return subprocess.Popen(words, cwd=self.folder, stdout=subprocess.PIPE, stderr=subprocess.PIPE, **how)
 
     def run(self, *words, seconds=SECONDS, **how):

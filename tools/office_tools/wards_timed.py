@@ -123,10 +123,9 @@ def orders_in_keying(office, new):
         yield name, line.split(), 0
 
 
-def agree(office, new):
-    """Has all papers agreed and judged, so that the ward can be sealed."""
-    keyed_again = (f"import-keying {clerk} {new} 2 {office.folder}/keying.csv --id r2" for clerk in (4, 9))
-    office.replay([f"again {new} --id g", *keyed_again])
+def agree(office, new, turn=1):
+    """Has all papers agreed in this round of the last batch, and judged, so that the ward can be sealed."""
+    office.replay([f"import-keying {clerk} {new} {turn} {office.folder}/keying.csv --id r{turn}" for clerk in (4, 9)])
     office.replay([f"judge {batch} {paper} reject:3 --id v{batch}-{paper}" for batch, paper in doubtful(office)])
 
 
@@ -157,7 +156,8 @@ def orders(folder, count):
     """Yields (the office, what it is called, the words, the status) of each order on a ward of so many papers."""
     office, new = keyed_ward(folder, count)
     yield from ((office, *order) for order in orders_in_keying(office, new))
-    agree(office, new)
+    office.do("again", new, "--id", "g")
+    agree(office, new, turn=2)
     yield from ((office, *order) for order in orders_in_count(office))
 
 
