@@ -1,7 +1,7 @@
 """Opens pages from elsewhere in Chromium, which try to key and to read at an office on this machine.
 
 None of them may. Then `curl` keys and reads, the work is opened as if typed, and a page of the origin that `serve` was given by
-`--origin` keys and reads through a proxy: these must be answered. It needs the programs `chromium` and `curl`.
+`--origin` keys and reads through a proxy: these must be answered. It needs `chromium`, `chromium-driver`, `python3-selenium` and `curl`.
 """
 import subprocess
 
@@ -96,8 +96,8 @@ def curled(*words):
 
 
 def main():
-    needs("chromium", "curl")
-    with temporary_folder() as folder, Browser(folder, words=LOOSE) as browser:
+    needs("curl")
+    with temporary_folder() as folder, Browser(LOOSE) as browser:
         tried = Tried(folder, browser)
         tried.pages()
         tried.others()
