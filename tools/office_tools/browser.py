@@ -19,7 +19,7 @@ SIGNS = {" ": ("Space", 32), ".": ("Period", 190), ",": ("Comma", 188), "/": ("S
 
 
 class Window:
-    """A window of a browser. What is done to it is done to the one that the driver has been switched to."""
+    """A window of a browser. Before something is done to it, it comes to the front, where alone keys are taken."""
 
     def __init__(self, driver, handle, width=1024, height=768):
         self.driver, self.handle = driver, handle
@@ -28,8 +28,10 @@ class Window:
 
     def shown(self):
         """Returns the driver, switched to this window."""
-        if self.driver.current_window_handle != self.handle:
+        if self.driver.front != self.handle:
             self.driver.switch_to.window(self.handle)
+            self.driver.execute_cdp_cmd("Page.bringToFront", {})
+            self.driver.front = self.handle
         return self.driver
 
     def call(self, method, **parameters):
@@ -79,7 +81,7 @@ class Window:
 
     def close(self):
         self.shown().close()
-        self.driver.switch_to.window(self.driver.window_handles[0])
+        self.driver.front = None
 
 
 class Browser(Window):
@@ -98,6 +100,7 @@ class Browser(Window):
         options.set_capability("goog:loggingPrefs", {"browser": "ALL"})
         driver = webdriver.Chrome(options=options)
         driver.set_script_timeout(10 * SECONDS)
+        driver.front = driver.current_window_handle
         super().__init__(driver, driver.current_window_handle)
 
     def __enter__(self):

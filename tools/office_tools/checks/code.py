@@ -1,20 +1,61 @@
-"""Has pyflakes read all Python of this repository, and shellcheck all shell; they find nothing."""
+"""Reads all code of this repository for what a linter sees, and for the house rules of CONTRIBUTING.md on sizes.
+
+pyflakes reads all Python, and shellcheck all shell; they find nothing. In src/ and specs/ a function has at most five parameters besides
+itself and the allocator, and 40 lines; a line has at most 200 characters, but for imports and fixed texts. What is longer is named here,
+and each exception that is no longer needed is reported too.
+"""
+import collections
 import re
 import subprocess
 
+from office_tools import sources
 from office_tools.office import ROOT, needs
 
 # What shellcheck doesn't report: words in single quotes that look like the shell's own, since they are another program's.
 QUOTED = "SC2016,SC1003"
+PARAMETERS, LINES, CHARACTERS = 5, 40, 200
+LARGE = {
+    "count": "figured lost_from", "sheet": "style write_page write_row", "tables": "select_text",
+    "desk": "replay run send_all send_lines send_turns tell_numbered", "server": "service_at service_numbered",
+    "count_office": "fill fill_open finish perform_held perform_on", "store_tests": "are_refused give",
+}
+# How many clauses of a crate are longer, each in one line.
+LONG = {"office": 1, "store": 8}
+FIXED = re.compile(r'\s*(pub )?(ghost )?use |.*"[^"]{60,}')
+
+
+def parameters(head):
+    """Returns the names of a function's parameters but itself and the allocator, from its head."""
+    text = re.sub("[-=]>", "", head)
+    while (plain := re.sub(r"<[^<>]*>", "", text)) != text:
+        text = plain
+    text = text[text.index("(") + 1:]
+    while (plain := re.sub(r"[(\[][^()\[\]]*[)\]]", "", text)) != text:
+        text = plain
+    names = [re.search(r"[a-z0-9]*$", part.split(":")[0].rstrip())[0] for part in text.split(")")[0].split(",") if part.strip()]
+    return [name for name in names if name not in ("self", "alloc")]
+
+
+def sizes():
+    """Yields what is larger than the house rules have it, and not named above, or named above and no longer larger."""
+    for crate in sources.crates():
+        large = {f.name for f in crate.functions if len(parameters(f.head)) > PARAMETERS or f.body.count("\n") - 1 > LINES}
+        for name in sorted(large ^ set(LARGE.get(crate.name, "").split())):
+            yield f"{crate.name}: {name} has more than {PARAMETERS} parameters or {LINES} lines, and isn't among LARGE; or needn't be"
+        paths = [] if crate.name.endswith("_tests") else [*crate.folder.glob("src/**/*.rt"), *crate.folder.glob("specs/**/*.antt")]
+        lines = [f"{path.name}:{number}" for path in paths for number, line in enumerate(path.read_text().split("\n"), 1)
+                 if len(line) > CHARACTERS and not FIXED.match(line)]
+        if len(lines) != LONG.get(crate.name, 0):
+            yield f"{crate.name}: {len(lines)} lines have more than {CHARACTERS} characters, and LONG has another number: {', '.join(lines)}"
 
 
 def main():
     needs("pyflakes3", "shellcheck")
     listed = subprocess.run(["git", "ls-files", "-co", "--exclude-standard"], cwd=ROOT, capture_output=True, text=True, check=True).stdout
-    found = {"python": [], "sh": []}
+    found = collections.defaultdict(list)
     for path in filter(lambda path: path.is_file(), map(ROOT.joinpath, listed.split("\n"))):
         # A file is known by its ending, or by its first line.
         first = re.match(rb"#!.*?(python|sh)[0-9]*$", path.read_bytes().split(b"\n")[0].rstrip())
-        found.get({".py": "python", ".sh": "sh", ".bash": "sh"}.get(path.suffix) or first and first[1].decode(), []).append(path)
+        found[{".py": "python", ".sh": "sh", ".bash": "sh"}.get(path.suffix) or first and first[1].decode()].append(path)
     checked = [subprocess.run(["pyflakes3", *found["python"]]), subprocess.run(["shellcheck", "-x", "-e", QUOTED, *found["sh"]], cwd=ROOT)]
-    return max(run.returncode for run in checked)
+    return list(sizes()) or max(run.returncode for run in checked)

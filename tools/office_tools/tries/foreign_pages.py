@@ -1,12 +1,12 @@
 """Opens pages from elsewhere in Chromium, which try to key and to read at an office on this machine.
 
-None of them may. Then `curl` keys and reads, the work is opened as if typed, and a page of the origin that `serve` was given by
+None of them may. With --codes the office asks for codes, and the browser is logged in as the clerk whose batches they are. Then `curl` keys and reads, the work is opened as if typed, and a page of the origin that `serve` was given by
 `--origin` keys and reads through a proxy: these must be answered. It needs `chromium`, `chromium-driver`, `python3-selenium` and `curl`.
 """
 import subprocess
 
 from office_tools.browser import LOOSE, NAME, PLACES, Browser, is_of_office, tries
-from office_tools.election import ward_orders
+from office_tools.election import CODES, ward_orders
 from office_tools.office import SECONDS, Office, Wrong, free_port, needs, temporary_folder
 from office_tools.tables import Table
 from office_tools.web import HERE, Proxy
@@ -18,16 +18,24 @@ PAGES = ("another port", "a name that leads here", "a name that leads here, at t
 class Tried:
     """An office with a batch for each try, and the table of what came of them."""
 
-    def __init__(self, folder, browser):
+    def __init__(self, folder, browser, codes):
         self.browser, self.office, self.port, self.kept, self.wrong = browser, Office(folder / "office"), free_port(), set(), 0
+        self.login, self.words = (f"{CLERK}:{CODES[CLERK]}", ["--codes", "codes.txt"]) if codes else ("", [])
+        self.office.write_codes(CODES)
         self.office.begin(ward_orders(*((batch, 1, CLERK, 9) for batch in range(FIRST, FIRST + BATCHES))))
         self.table = Table("A page of", "tries", "kept", "read")
 
     def serve(self, *words):
-        return self.office.serve(*words, port=self.port).wait()
+        return self.office.serve(*words, *self.words, port=self.port).wait()
 
     def address(self, host=HERE):
         return f"http://{host}:{self.port}"
+
+    def log_in(self, *offices):
+        """Opens the clerk's work at each address of the office, as if the login were typed there."""
+        for office in offices:
+            self.browser.open(f"{office.replace('//', f'//{self.login}@') if self.login else office}/clerks/{CLERK}/work")
+            self.wrong += not is_of_office(self.browser.text())
 
     def note_kept(self):
         self.kept |= {receipt[1] for receipt in self.office.rows()["receipt"] if receipt[0] == CLERK}
@@ -55,6 +63,7 @@ class Tried:
     def pages(self):
         """Opens the pages that may neither key nor read."""
         with self.serve(), Proxy() as pages:
+            self.log_in(self.address())
             found = [self.opened(f"http://{page}:{pages.port}/page", self.address(office), FIRST + 20 * number)
                      for number, (page, office) in enumerate(PLACES)]
         servings, front = [], Proxy(port=self.port)
@@ -73,8 +82,9 @@ class Tried:
         """Asks without a page, and through a proxy: these are answered."""
         work, batch = f"{self.address()}/clerks/{CLERK}/work", FIRST + 80
         with self.serve():
-            read = curled(work)
-            reply = curled("-d", '{"id":"curl","round":1,"papers":["1,2,"]}', f"{self.address()}/clerks/{CLERK}/batches/{batch}/keying")
+            login = ["--user", self.login] if self.login else []
+            read = curled(work, *login)
+            reply = curled(*login, "-d", '{"id":"curl","round":1,"papers":["1,2,"]}', f"{self.address()}/clerks/{CLERK}/batches/{batch}/keying")
             for name in (HERE, "localhost"):
                 self.browser.open(work.replace(HERE, name))
                 text = self.browser.text()
@@ -95,10 +105,10 @@ def curled(*words):
     return subprocess.run(["curl", "--silent", "--max-time", str(SECONDS), *words], capture_output=True, text=True, check=False).stdout
 
 
-def main():
+def main(*, codes=False):
     needs("curl")
     with temporary_folder() as folder, Browser(LOOSE) as browser:
-        tried = Tried(folder, browser)
+        tried = Tried(folder, browser, codes)
         tried.pages()
         tried.others()
     if tried.wrong:

@@ -3,7 +3,7 @@
 Two browsers log in as clerks 4 and 9, and each keys the same batch of 50 papers. One leaves a paper out and puts it in, and mends another.
 A page is loaded again in mid-batch, the server is killed and started again, and a line breaks after a keying was kept. At the end the rows
 are those that were typed, each keyed once. Then a clerk keys in the browser of another, a new round comes, wrong codes come under a clerk's
-number, names that would be markup are shown, and pages from elsewhere try what they can in the browser of a clerk who is logged in.
+number, and names that would be markup are shown.
 Pictures at 1024 and 400 pixels go into the folder PICTURES. It needs `chromium`, `chromium-driver` and `python3-selenium`.
 """
 import json
@@ -14,7 +14,7 @@ import statistics
 import time
 from pathlib import Path
 
-from office_tools.browser import LOOSE, PLACES, Browser, is_of_office, tries
+from office_tools.browser import Browser
 from office_tools.election import CODES, SMALL, evening_office
 from office_tools.office import Wrong, free_port, remove, temporary_folder
 from office_tools.tables import Table
@@ -58,7 +58,7 @@ class Teller:
 
     def __init__(self, evening, clerk):
         self.evening, self.clerk = evening, clerk
-        self.browser = Browser(LOOSE)
+        self.browser = Browser()
         self.keys, self.seconds = 0, []
 
     def open(self):
@@ -151,7 +151,7 @@ class Evening:
 
     def log_in(self, browser, clerk):
         """Opens a clerk's page. The browser has its login from then on, as if it had been typed when the browser asked for it."""
-        browser.open(self.address(clerk, f"{clerk}:{CODES[clerk]}@") + "work")
+        browser.open(self.address(clerk, f"{clerk}:{CODES[clerk]}@"))
         browser.open(self.address(clerk))
 
     def picture(self, teller, name):
@@ -171,7 +171,6 @@ class Evening:
                 self.in_one_browser(four)
                 self.wrong_codes(nine)
                 self.quiet(four, nine)
-                self.elsewhere(four)
                 self.left(four)
             finally:
                 self.kill()
@@ -333,24 +332,6 @@ class Evening:
         said = [line for teller in (four, nine) for line in teller.browser.said() if "ERR_" not in line]
         if strange or said or "differ" in seen.lower():
             raise Wrong(f"the page asked {strange}, its console has {said}, clerk 9 sees {seen!r}")
-
-    def elsewhere(self, four):
-        """Pages from elsewhere try what they can in the browser of clerk 4, who is logged in: nothing is read, and nothing kept."""
-        table = Table("A page of", "tries", "reads")
-        places = ("another port", "another name, at this machine", "another name, at that name")
-        with Proxy() as pages:
-            for where, (page, office) in zip(places, PLACES):
-                window = four.browser.another()
-                window.open(f"http://{page}:{pages.port}/page")
-                for what, _, text in tries(window, f"http://{office}:{self.line.port}", 15, step=0, turns=1):
-                    table.row(where, what, "read" if is_of_office(text) else "-")
-                    if is_of_office(text):
-                        raise Wrong(f"{what}, a page of {page} at {office}: it reads {text!r}")
-                window.close()
-        four.browser.reload()
-        four.browser.until("document.activeElement.tagName === 'BUTTON'")
-        if self.rows(15, 4):
-            raise Wrong("a page from elsewhere keyed")
 
     def left(self, four):
         """Whoever leaves his place is asked for his code again."""
