@@ -111,7 +111,7 @@ class Browser(Window):
 
     def another(self):
         """Returns one more window of the same browser."""
-        self.driver.switch_to.new_window("window")
+        self.shown().switch_to.new_window("window")
         return Window(self.driver, self.driver.current_window_handle)
 
     def said(self):

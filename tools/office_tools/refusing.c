@@ -8,11 +8,13 @@
  * REFUSING_WAY      how such a call is refused, as below
  * REFUSING_CALL     which call, from 1, of those that the way counts
  * REFUSING_ROOM     the bytes that each of these files has room for, where the way is `room`
+ * REFUSING_AWAITED  the path of the file that is awaited, where the way is `waits`
  *
  * once, gone   of all calls, this one fails with EIO; and all after it
  * torn         of writes, this one moves one byte, and all writes after it fail with EIO
  * less, one    of reads of two bytes or more, this one gives a byte less, or one byte
  * written      of writes of two bytes or more, this one takes one byte
+ * waits        of all calls, this one waits until a file is there, and then goes on
  * room         no write or ftruncate leads past the room: ENOSPC, or as many bytes as fit
  *
  * The count begins as this library is made ready, behind the loader's own growths. The length that was asked for stands in the
@@ -35,7 +37,7 @@ void *__libc_realloc(void *block, size_t length);
 void *__libc_memalign(size_t alignment, size_t length);
 
 static const size_t NOTE = sizeof(size_t);
-static const char *told, *names, *way;
+static const char *told, *names, *way, *awaited;
 static long refused_growth, growths, refused_call, calls, room;
 static int is_ready, is_gone, is_torn;
 static char is_meant[1024];
@@ -43,7 +45,7 @@ static char is_meant[1024];
 static const char *text(const char *name) { return getenv(name) ? getenv(name) : ""; }
 
 __attribute__((constructor)) static void make_ready(void) {
-    told = text("REFUSING_TOLD"), names = text("REFUSING_NAMES"), way = text("REFUSING_WAY");
+    told = text("REFUSING_TOLD"), names = text("REFUSING_NAMES"), way = text("REFUSING_WAY"), awaited = text("REFUSING_AWAITED");
     refused_growth = atol(text("REFUSING_GROWTH")), refused_call = atol(text("REFUSING_CALL")), room = atol(text("REFUSING_ROOM"));
     is_ready = 1;
 }
@@ -122,6 +124,10 @@ static int is_way(const char *name) { return !strcmp(way, name); }
 
 /* Whether a call of the files that are meant fails now. */
 static int fails(int is_meant_now) {
+    if (is_meant_now && is_way("waits") && ++calls == refused_call) {
+        refused(0);
+        while (syscall(SYS_faccessat, AT_FDCWD, awaited, F_OK)) usleep(200);
+    }
     if (!is_meant_now || !(is_way("once") || is_way("gone")) || (!is_gone && ++calls != refused_call)) return 0;
     is_gone = is_way("gone");
     return refused(EIO);

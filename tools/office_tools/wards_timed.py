@@ -88,7 +88,8 @@ def keyed_ward(folder, count):
 def doubtful(office):
     """Returns the doubtful papers of the rounds that are open, with their batches, in order."""
     base = sqlite3.connect(office.folder / TOWN)
-    found = base.execute("SELECT DISTINCT batch, paper FROM keying JOIN batch USING (batch, round) WHERE marks = 'D' ORDER BY 1, 2").fetchall()
+    papers_so = "SELECT DISTINCT batch, paper FROM keying JOIN batch USING (batch, round) WHERE marks = 'D' ORDER BY 1, 2"
+    found = base.execute(papers_so).fetchall()
     base.close()
     return found
 

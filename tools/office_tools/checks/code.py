@@ -46,7 +46,7 @@ def sizes():
         lines = [f"{path.name}:{number}" for path in paths for number, line in enumerate(path.read_text().split("\n"), 1)
                  if len(line) > CHARACTERS and not FIXED.match(line)]
         if len(lines) != LONG.get(crate.name, 0):
-            yield f"{crate.name}: {len(lines)} lines have more than {CHARACTERS} characters, and LONG has another number: {', '.join(lines)}"
+            yield f"{crate.name}: LONG has another number than {len(lines)} of lines past {CHARACTERS} characters: {', '.join(lines)}"
 
 
 def main():

@@ -1,8 +1,8 @@
 """Runs the script of the page on which clerks key, without a browser, and checks what it shows, sends and stores.
 
 A clerk is denied, lists batches, keys papers and sends them, and the office accepts the keying, refuses it, fails or doesn't answer. Then
-faults are planted in the page, one at a time: the test has to notice each. It needs `node` and Debian's `node-jsdom`. FILE is a page as a program serves it; without
-one it is the page of crates/keying_page.
+faults are planted in the page, one at a time: the test has to notice each. It needs `node` and Debian's `node-jsdom`. FILE is a page as a
+program serves it; without one it is the page of crates/keying_page.
 """
 import os
 import subprocess

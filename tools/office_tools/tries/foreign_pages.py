@@ -1,7 +1,8 @@
 """Opens pages from elsewhere in Chromium, which try to key and to read at an office on this machine.
 
-None of them may. With --codes the office asks for codes, and the browser is logged in as the clerk whose batches they are. Then `curl` keys and reads, the work is opened as if typed, and a page of the origin that `serve` was given by
-`--origin` keys and reads through a proxy: these must be answered. It needs `chromium`, `chromium-driver`, `python3-selenium` and `curl`.
+None of them may. With --codes the office asks for codes, and the browser is logged in as the clerk whose batches they are. Then `curl`
+keys and reads, the work is opened as if typed, and a page of the origin that `serve` was given by `--origin` keys and reads through a
+proxy: these must be answered. It needs `chromium`, `chromium-driver`, `python3-selenium` and `curl`.
 """
 import subprocess
 
@@ -31,11 +32,12 @@ class Tried:
     def address(self, host=HERE):
         return f"http://{host}:{self.port}"
 
-    def log_in(self, *offices):
-        """Opens the clerk's work at each address of the office, as if the login were typed there."""
-        for office in offices:
-            self.browser.open(f"{office.replace('//', f'//{self.login}@') if self.login else office}/clerks/{CLERK}/work")
-            self.wrong += not is_of_office(self.browser.text())
+    def log_in(self, office):
+        """Types the address of the clerk's work, and the login if the office asks for it. Returns whether the browser shows the work."""
+        self.browser.open(f"{office.replace('//', f'//{self.login}@') if self.login else office}/clerks/{CLERK}/work")
+        is_shown = is_of_office(self.browser.text())
+        self.wrong += not is_shown
+        return is_shown
 
     def note_kept(self):
         self.kept |= {receipt[1] for receipt in self.office.rows()["receipt"] if receipt[0] == CLERK}
@@ -84,18 +86,17 @@ class Tried:
         with self.serve():
             login = ["--user", self.login] if self.login else []
             read = curled(work, *login)
-            reply = curled(*login, "-d", '{"id":"curl","round":1,"papers":["1,2,"]}', f"{self.address()}/clerks/{CLERK}/batches/{batch}/keying")
+            keying = f"{self.address()}/clerks/{CLERK}/batches/{batch}/keying"
+            reply = curled(*login, "-d", '{"id":"curl","round":1,"papers":["1,2,"]}', keying)
             for name in (HERE, "localhost"):
-                self.browser.open(work.replace(HERE, name))
-                text = self.browser.text()
-                self.wrong += not is_of_office(text)
-                self.row(f"no page: typed, at {name}", "the work", None, is_of_office(text))
+                self.row(f"no page: typed, at {name}", "the work", None, self.log_in(self.address(name)))
         self.note_kept()
         self.row("no page: `curl`", "a POST and the work", "curl" in self.kept, is_of_office(read))
         self.wrong += not is_of_office(read) or reply != f'{{"reply":"batch {batch} round 1 keyed"}}' or "curl" not in self.kept
         with Proxy(self.port) as front:
             origin = f"http://{NAME}:{front.port}"
             with self.serve("--origin", origin):
+                self.log_in(origin)
                 found = self.opened(f"{origin}/page", origin, FIRST + 100)
         self.note_kept()
         self.show("the origin that was given, through a proxy", found, True)

@@ -6,6 +6,7 @@ guessed for 20 seconds, not for three minutes; --seconds N guesses for so many s
 import random
 import re
 import socket
+import statistics
 import time
 from collections import Counter
 from concurrent.futures import ThreadPoolExecutor
@@ -22,7 +23,7 @@ LETTERS = "abcdefghjkmnprstuwy2347"
 # The tellers, and a number that no line of the file has. How many wrong codes are guessed a second, and how long a teller waits before the
 # next request: a page that is keyed on asks far less.
 TELLERS, NOBODY, RATE, PAUSE = range(1, 41), 999, 10, 0.5
-CHANGED, SENDERS = range(400, 999), 4
+TIMED, CHANGED, SENDERS = range(100, 350), range(400, 999), 4
 # How many requests without a code have a body that is longer than what a socket holds, and how long it is.
 DENIED, BODY = 1000, 200_000
 SIGNS = [b"%c" % sign for sign in b"0123456789/ =\r\n"]
@@ -121,6 +122,38 @@ def sent_whole(port, sends):
     return received(line)
 
 
+def seconds_of(port, sends):
+    """Returns the answer, and how many seconds it took from the moment when the request was sent."""
+    line = socket.create_connection((HERE, port), timeout=SECONDS)
+    line.setsockopt(socket.IPPROTO_TCP, socket.TCP_NODELAY, 1)
+    began = time.perf_counter()
+    line.sendall(sends)
+    line.shutdown(socket.SHUT_WR)
+    text = line.recv(65536)
+    took = time.perf_counter() - began
+    return text + received(line), took
+
+
+def print_times(port, codes, chance):
+    """Times a thousand wrong codes, by how much of them is right."""
+    kinds = {
+        "nothing of it": lambda code: "x" * len(code), "its first third": lambda code: code[:4] + "-xxxx-xxxx",
+        "all but its last letter": lambda code: code[:-1] + "x",
+        "all, of another clerk": lambda code: chance.choice([other for other in codes.values() if other != code]),
+    }
+    took = {what: [] for what in kinds}
+    for clerk in TIMED:
+        for what in chance.sample(list(kinds), len(kinds)):
+            text, seconds = seconds_of(port, with_code(clerk, kinds[what](codes[clerk])))
+            if status(text) != 401:
+                raise Wrong(f"{what}: {text[:200]}")
+            took[what].append(seconds)
+    table = Table("A wrong code in which is right", "tries", "median, in microseconds", "the middle half")
+    for what, times in took.items():
+        low, middle, high = (1e6 * quarter for quarter in statistics.quantiles(times, n=4))
+        table.row(what, len(times), f"{middle:.0f}", f"{low:.0f} to {high:.0f}")
+
+
 def check_beside_guesses(title, send, codes, chance, seconds):
     """Checks what tellers get while somebody guesses codes. `send` sends a request from the place of a teller, or from another (0)."""
     ends = time.monotonic() + seconds
@@ -181,11 +214,12 @@ def check_limit(port, codes, chance):
 
 def main(seed=7, *, short=False, seconds=0):
     chance, seconds = random.Random(seed), seconds or (20 if short else 180)
-    codes = {**{clerk: drawn(chance) for clerk in [*TELLERS, *CHANGED]}, **CODES}
+    codes = {**{clerk: drawn(chance) for clerk in [*TELLERS, *TIMED, *CHANGED]}, **CODES}
     with temporary_folder() as folder, evening_office(folder, codes).serve("--codes", "codes.txt").wait() as serving:
         port = serving.port
         print_denied(port)
         check_changed(port, codes, chance)
         check_bodies(lambda sends, _: sent_whole(port, sends))
+        print_times(port, codes, chance)
         check_beside_guesses(f"{seconds} seconds", lambda sends, _: told(port, sends), codes, chance, seconds)
         check_limit(port, codes, chance)

@@ -114,7 +114,8 @@ def main(runs=200, seed=7):
     with temporary_folder() as folder:
         crowd = Crowd(folder)
         found = list(zip(*(crowd.killed(chance) for _ in range(runs))))
-    table = Table(f"Twenty clerks at once, and ten orders (seed {seed})", "runs", "answered", "found", "runs with some of them, and not all")
+    heads = ("runs", "answered", "found", "runs with some of them, and not all")
+    table = Table(f"Twenty clerks at once, and ten orders (seed {seed})", *heads)
     kinds = (("each clerk keys a batch", found[:2], len(CLERKS)), ("the office adds ten wards", found[2:], len(WARDS)))
     for what, (answered, kept), most in kinds:
         table.row(what, runs, sum(answered), sum(kept), sum(0 < count < most for count in kept))

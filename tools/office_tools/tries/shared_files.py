@@ -1,21 +1,26 @@
 """Gives two orders at one file at once, takes files away, and looks at the rights of what is made.
 
-docs/HOSTILE.md says what the orders may print, and what the files hold afterwards. By `strace` the last table looks at the rights with
-which files are made; all must be their owner's alone.
+docs/HOSTILE.md says what the orders may print, and what the files hold afterwards. One table is of orders that wait before each
+call on the file that they make. By `strace` the last one looks at the rights with which files are made; all must be their owner's alone.
 """
 import contextlib
 import ctypes
 import functools
+import itertools
 import os
 import random
 import re
+import resource
 import shutil
+import signal
+import tempfile
 import time
+from pathlib import Path
 
 from office_tools.election import COPY, COPYING, ELECTION, FILE, REPLAY, REQUESTS, SCRIPTED, Order, offices
-from office_tools.office import LOG, NO_OFFICE, STORE, TOWN, Office, Wrong, ended, needs, remove, temporary_folder, timed, waited
+from office_tools.office import LOG, NO_OFFICE, SECONDS, STORE, TOWN, Office, Wrong, ended, needs, remove, temporary_folder, timed, waited
 from office_tools.tables import Table
-from office_tools.trials import NOT_WRITTEN, left
+from office_tools.trials import NOT_WRITTEN, left, library
 
 KEYINGS = 7
 GONE = "fault 113: file gone or replaced\n"
@@ -240,6 +245,84 @@ class Meddling:
             table.row(what, times, *map(found.count, ("answered", *kinds)))
 
 
+# Orders that make a file, the office before them, the file's name, and those that are given at that file meanwhile.
+MAKING = [("`init`", 0, INIT, TOWN), ("a copy", KEYINGS, COPYING, COPY)]
+COMING = [("`init`", INIT.words), ("a ward", QUAY.words)]
+ROOM = 40960
+# An order that doesn't come so far within so many seconds waits for another. It tries again, so no more of its calls are taken than an
+# order makes that doesn't have to.
+STUCK, FIRST_CALLS = 0.4, 24
+
+
+def without_room():
+    """Lets the child to come write no file past a length: such a write fails."""
+    signal.signal(signal.SIGXFSZ, signal.SIG_IGN)
+    resource.setrlimit(resource.RLIMIT_FSIZE, (ROOM, ROOM))
+
+
+class Waiting:
+    """An order that waits before one of its calls on a file."""
+
+    def __init__(self, made, here, order, name, call, has_room=True, limit=SECONDS):
+        place = Path(tempfile.mkdtemp(dir=here.folder.parent))
+        note, self.awaited = place / "waits", place / "goes"
+        env = {**os.environ, "LD_PRELOAD": made, "REFUSING_WAY": "waits", "REFUSING_NAMES": name, "REFUSING_CALL": str(call),
+               "REFUSING_TOLD": str(note), "REFUSING_AWAITED": str(self.awaited)}
+        self.process = order.started(here, env=env, restore_signals=False, preexec_fn=None if has_room else without_room)
+        waited(lambda: note.exists() or self.process.poll() is not None, limit)
+        self.waits = note.exists()
+
+    def ended(self, seconds=None):
+        """Lets it go on, and returns what it prints; None if it doesn't end within these seconds."""
+        self.awaited.touch()
+        if seconds and not waited(lambda: self.process.poll() is not None, seconds):
+            return None
+        return ended(self.process)
+
+
+def check_made(here, name, printed, before):
+    """Checks that what was answered is there under its name; or that nothing is left of the file, and an office can be made."""
+    at = here.rows(name)
+    there = [file for file in (name, name + "-wal") if (here.folder / file).exists()]
+    if printed.status == 0:
+        is_right = bool(at) and here.run("wards", town=name).status == 0
+    else:
+        is_right = not at and not there and here.run("init", town=name) == (0, "office ready\n", "")
+    if not is_right or before.rows() != (here.rows() if name != TOWN else None):
+        raise Wrong(f"an order that finds no room at {name}, and another, which prints {printed}: {there} is left")
+
+
+def gaps(folder, made, office, first, name, words):
+    """Yields what each second order prints, for all pairs of calls before which the two wait."""
+    for one in itertools.count(1):
+        for other in range(1, FIRST_CALLS + 1):
+            here = office.copied(folder / "gap")
+            making = Waiting(made, here, first, name, one, False)
+            if not making.waits:
+                making.ended()
+                return
+            coming = Waiting(made, here, Order(words, town=name), name, other, limit=STUCK)
+            making_printed = making.ended(STUCK)
+            printed = coming.ended()
+            making_printed = making_printed or making.ended()
+            if making_printed.status != 3:
+                raise Wrong(f"{first.words} without room: {making_printed}")
+            check_made(here, name, printed, office)
+            yield printed
+            if not coming.waits:
+                break
+
+
+def print_gaps(folder, made, before):
+    heads = ("another at that file", "pairs of calls", "answered", "fault 102", "fault 105")
+    table = Table("An order that finds no room for its file", *heads)
+    for (what, number, first, name), (coming, words) in itertools.product(MAKING, COMING):
+        found = [kind(printed) for printed in gaps(folder, made, before[number], first, name, words)]
+        if not found:
+            raise Wrong("no order waits before its calls: the program has to be linked dynamically")
+        table.row(what, coming, len(found), *map(found.count, ("answered", "102", "105")))
+
+
 # A file that is made, and the rights that it is made with.
 CREATED = re.compile(r'openat\(AT_FDCWD, "([^"]*)", [A-Z_|]*O_CREAT[A-Z_|]*, (0\d*)\) = \d')
 
@@ -278,4 +361,5 @@ def main(runs=100, seed=7):
         before = offices(folder)
         print_pairs(folder, before, runs, chance)
         Meddling(folder, before, chance).show(runs, seed)
+        print_gaps(folder, library(folder), before)
         print_rights(folder, before)
