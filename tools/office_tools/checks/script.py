@@ -22,4 +22,5 @@ def main(file: Path = None):
     with tempfile.NamedTemporaryFile("w", suffix=".html") as page:
         page.write(file.read_text(encoding="utf-8") if file else page_of_sources()[0])
         page.flush()
-        return subprocess.run(["node", ROOT / "tools/office_tools/page_script.js", page.name], env=os.environ | {"NODE_PATH": str(MODULES)}).returncode
+        words = ["node", ROOT / "tools/office_tools/page_script.js", page.name]
+        return subprocess.run(words, env=os.environ | {"NODE_PATH": str(MODULES)}, check=False).returncode
