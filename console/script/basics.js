@@ -1,0 +1,83 @@
+'use strict';
+
+// ---- what every part uses
+
+const HERE = `${location.origin}/office/`;
+const FRONT = 'console ';
+
+const at = (id) => document.getElementById(id);
+
+const made = (name, properties, ...inner) => {
+  const {data, ...others} = properties;
+  const element = Object.assign(document.createElement(name), others);
+  Object.assign(element.dataset, data);
+  element.append(...inner.flat().filter((it) => it !== null && it !== undefined && it !== false));
+  return element;
+};
+
+const button = (text, act, {key, main = false, ...others} = {}) => {
+  const element = made('button', {type: 'button', className: main ? 'main' : '', data: key ? {key} : {}, ...others}, ...[text].flat());
+  element.addEventListener('click', act);
+  return element;
+};
+
+const row = (...cells) => made('tr', {}, ...cells.map((it) => (it instanceof Element && /^T[DH]$/.test(it.tagName) ? it : made('td', {}, it))));
+const headRow = (...cells) => made('thead', {}, made('tr', {}, ...cells.map((it) => made('th', {scope: 'col'}, it))));
+const numeric = (value) => made('td', {className: 'figure'}, String(value));
+const table = (properties, heads, rows) => made('div', {className: 'wide'}, made('table', properties, headRow(...heads), made('tbody', {}, ...rows)));
+
+// Replaces what an element holds. The element that had the focus, and what was typed into it, stay as they are.
+const fill = (element, ...inner) => {
+  const old = element.contains(document.activeElement) ? document.activeElement : null;
+  const {key} = old?.dataset ?? {};
+  const {value, selectionStart, selectionEnd} = old ?? {};
+  element.replaceChildren(...inner.flat().filter((it) => it !== null && it !== undefined && it !== false));
+  const found = key && [...element.querySelectorAll('[data-key]')].find((it) => it.dataset.key === key);
+  if (!found) return;
+  if (old.tagName === 'INPUT' && /^(text|search)$/.test(old.type)) {
+    found.value = value;
+    found.setSelectionRange(selectionStart, selectionEnd);
+  }
+  found.focus({preventScroll: true});
+};
+
+// ---- what the browser stores
+
+let stores = true;
+
+const stored = (name, otherwise = null) => {
+  try { return JSON.parse(localStorage.getItem(FRONT + name)) ?? otherwise; } catch { return otherwise; }
+};
+
+const store = (name, value) => {
+  try { localStorage.setItem(FRONT + name, JSON.stringify(value)); stores = true; } catch { stores = false; }
+};
+
+const unstore = (name) => {
+  try { localStorage.removeItem(FRONT + name); } catch { stores = false; }
+};
+
+const storedNames = (front) => {
+  try { return Object.keys(localStorage).filter((it) => it.startsWith(FRONT + front)).map((it) => it.slice(FRONT.length)); } catch { return []; }
+};
+
+// ---- ids
+
+const LETTERS = 'abcdefghijkmnpqrstuvwxyz';
+const WINDOW = Array.from(crypto.getRandomValues(new Uint8Array(2)), (byte) => LETTERS[byte % LETTERS.length]).join('');
+let lastTime = 0;
+
+// An id that no other order has: the time, and two letters of this window. Two orders of one millisecond get two times.
+const newId = () => {
+  lastTime = Math.max(Date.now(), lastTime + 1);
+  return `c-${lastTime.toString(36)}-${WINDOW}`;
+};
+
+// ---- numbers that are typed
+
+const numberIn = (text, most) => {
+  const trimmed = text.trim();
+  return /^[1-9][0-9]{0,5}$/.test(trimmed) && Number(trimmed) <= most ? Number(trimmed) : 0;
+};
+
+const numbersIn = (text) => text.trim().split(/[\s,;+]+/).filter(Boolean).map((it) => numberIn(it, 999));

@@ -1,0 +1,77 @@
+// ---- the second step: what an order will do is read back before it is sent
+
+let answerAsked = () => {};
+
+const closeAsked = (isYes) => {
+  const answer = answerAsked;
+  answerAsked = () => {};
+  if (at('ask').open) at('ask').close();
+  answer(isYes);
+};
+
+// Asks before something is done. The focus is on the question, so that Enter alone does nothing; Y says yes.
+const askFirst = (title, yes, ...text) => new Promise((resolve) => {
+  closeAsked(false);
+  answerAsked = resolve;
+  at('ask-title').replaceChildren(...[title].flat());
+  at('ask-text').replaceChildren(...text.filter(Boolean).map((it) => (it instanceof Element && /^(P|UL|OL|DIV|TABLE)$/.test(it.tagName) ? it : made('p', {}, it))));
+  at('ask-yes').textContent = `${yes} (Y)`;
+  at('ask').showModal();
+  at('ask-title').focus();
+});
+
+const onAskKey = (event) => {
+  if (event.ctrlKey || event.altKey || event.metaKey || event.repeat || event.target.tagName === 'INPUT') return;
+  if (/^y$/i.test(event.key)) {
+    event.preventDefault();
+    closeAsked(true);
+  }
+};
+
+const warningText = (...text) => made('p', {className: 'warning'}, ...text);
+
+// What was typed into a form is there again after a reload, until it was sent.
+const keepDrafts = () => {
+  for (const input of document.querySelectorAll('[data-draft]')) {
+    input.value = stored(`draft ${input.id}`, '');
+    input.addEventListener('input', () => store(`draft ${input.id}`, input.value));
+  }
+};
+
+const clearInputs = (...ids) => {
+  for (const id of ids) {
+    at(id).value = '';
+    unstore(`draft ${id}`);
+  }
+};
+
+const setInput = (id, value) => {
+  at(id).value = value;
+  store(`draft ${id}`, String(value));
+};
+
+// Files that are dropped on an element, or chosen in it.
+const takeFiles = (place, input, act) => {
+  at(place).addEventListener('dragover', (event) => { event.preventDefault(); at(place).classList.add('over'); });
+  at(place).addEventListener('dragleave', () => at(place).classList.remove('over'));
+  at(place).addEventListener('drop', (event) => {
+    event.preventDefault();
+    at(place).classList.remove('over');
+    act([...event.dataTransfer.files]);
+  });
+  at(input).addEventListener('change', () => {
+    act([...at(input).files]);
+    at(input).value = '';
+  });
+};
+
+// A text alone on paper: the sheet, the declaration, a list. The page is as before once it was printed.
+const printText = (title, ...inner) => {
+  at('paper').replaceChildren(made('h1', {}, ...[title].flat()), ...inner);
+  document.body.classList.add('printing');
+  setTimeout(() => {
+    window.print();
+    document.body.classList.remove('printing');
+    at('paper').replaceChildren();
+  }, 50);
+};

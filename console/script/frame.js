@@ -1,0 +1,122 @@
+// ---- the parts of the console, and how it keeps itself up to date
+
+const TABS = [
+  ['overview', 'Overview'], ['nominations', 'Nominations'], ['batches', 'Batches'], ['doubtful', 'Doubtful papers'], ['count', 'Count'],
+  ['journal', 'Journal, copies'],
+];
+const SECONDS = 3;
+// Each part declares here how it is drawn: overview, nominations, and so on.
+const DRAW = {};
+
+let view = 'overview';
+let chosen = 0;
+let turn = 0;
+
+const wardOf = () => wardAt(chosen);
+
+// The address names the part and the ward, so that a reload, or the button Back, leads there.
+const go = (part, ward = chosen) => {
+  const address = ward && part !== 'overview' && part !== 'journal' ? `${part}/${ward}` : part;
+  if (location.hash.slice(1) === address) route(); else location.hash = address;
+};
+
+const drawTabs = () => {
+  const open = {doubtful: office.wards.reduce((sum, it) => sum + it.doubtful_open, 0), batches: office.wards.reduce((sum, it) => sum + it.differing, 0)};
+  fill(at('tabs'), TABS.map(([part, text], place) => button(
+    [made('kbd', {}, String(place + 1)), ` ${text}`, open[part] ? made('span', {className: 'badge', title: part === 'batches' ? 'batches that differ' : 'open'}, String(open[part])) : ''],
+    () => go(part), {key: `tab ${part}`, className: part === view ? 'here' : '', ariaCurrent: part === view ? 'page' : null})));
+};
+
+// The choice of a ward: a list of all, and the neighbours.
+const drawPicks = () => {
+  for (const place of document.querySelectorAll('[data-pick]')) {
+    const part = place.dataset.pick;
+    const options = office.wards.map((it) => made('option', {value: String(it.ward), selected: it.ward === chosen}, `${it.ward} ${spokenName(it.name)}`));
+    const select = made('select', {ariaLabel: 'Ward', data: {key: `ward ${part}`}}, ...options);
+    select.addEventListener('change', () => go(part, Number(select.value)));
+    fill(place, office.wards.length ? made('label', {}, 'Ward ', select) : '');
+  }
+};
+
+const drawHealth = () => {
+  const {down, at: when} = office;
+  at('health').className = down ? 'down' : '';
+  at('health').textContent = down ? `${down}${when ? ` What you see is as of ${clock(when)}.` : ''}` : `As of ${clock(Date.now())}`;
+  const copy = stored('copy');
+  at('copied').replaceChildren(copy ? `Last copy ${ago(copy.at)}` : 'No copy made here yet');
+};
+
+const draw = async () => {
+  turn += 1;
+  const now = turn;
+  drawTabs();
+  drawPicks();
+  await DRAW[view](() => now === turn);
+};
+
+const route = () => {
+  const [part, ward] = location.hash.slice(1).split('/');
+  const isOther = part !== view;
+  view = DRAW[part] ? part : 'overview';
+  if (wardAt(Number(ward))) chosen = Number(ward);
+  else if (!wardOf()) chosen = office.wards[0]?.ward ?? 0;
+  for (const [name, text] of TABS) {
+    at(name).hidden = name !== view;
+    if (name === view) document.title = `${text} - Count office`;
+  }
+  if (isOther) {
+    scrollTo(0, 0);
+    at(`${view}-title`).focus({preventScroll: true});
+  }
+  draw();
+};
+
+// A browser that knew more of the office than there is now sees another file, or an earlier copy.
+const compareOffice = () => {
+  const most = stored('most', 0);
+  if (office.receipts >= most) return store('most', office.receipts);
+  at('other').hidden = false;
+  return at('other').replaceChildren(
+    made('p', {className: 'said'}, 'This is not the office that this browser saw last.'),
+    made('p', {}, `It has ${many(office.receipts, 'accepted order')}; the one before had ${most.toLocaleString('en')}. Either another file is served, or an earlier copy. See that it is the right one.`),
+    made('p', {className: 'acts'}, button('It is the right one', () => {
+      for (const name of [...storedNames('expected'), ...storedNames('draft'), 'copy', 'log']) unstore(name);
+      store('most', office.receipts);
+      at('other').hidden = true;
+      refresh(true);
+    })));
+};
+
+let refreshing = null;
+
+const refreshOnce = async (isForced) => {
+  const answer = await ask('wards');
+  const isFirst = office.receipts < 0;
+  office.down = answer?.status === 200 ? '' : explainedAnswer(answer);
+  if (!office.down) {
+    const {receipts, wards} = answer.says;
+    office.at = Date.now();
+    if (receipts !== office.receipts || isForced) {
+      if (receipts !== office.receipts) office.reads.clear();
+      Object.assign(office, {receipts, wards});
+      compareOffice();
+      if (isFirst) route(); else await draw();
+    }
+  }
+  drawHealth();
+};
+
+// Asks how all stands, and draws what changed.
+const refresh = (isForced = false) => {
+  refreshing = (refreshing ?? Promise.resolve()).then(() => refreshOnce(isForced));
+  return refreshing;
+};
+
+const keepFresh = async () => {
+  for (;;) {
+    await new Promise((resolve) => setTimeout(resolve, 1000 * SECONDS));
+    if (!document.hidden) await refresh();
+  }
+};
+
+const noWards = () => made('p', {}, 'There is no ward yet. ', button('Add a ward', () => go('nominations'), {main: true}));

@@ -1,0 +1,66 @@
+// ---- copies, files to save, and what was accepted
+
+const MOST_SHOWN = 100;
+
+const receiptFilter = {search: '', actor: '', most: MOST_SHOWN};
+
+const two = (number) => String(number).padStart(2, '0');
+
+const copyName = () => {
+  const now = new Date();
+  return `copy-${now.getFullYear()}-${two(now.getMonth() + 1)}-${two(now.getDate())}-${two(now.getHours())}${two(now.getMinutes())}${two(now.getSeconds())}.db`;
+};
+
+const makeCopy = async () => {
+  const name = copyName();
+  await order(`copy ${name}`, ['copy', name]);
+};
+
+const drawCopies = () => {
+  const copy = stored('copy');
+  const made_ = stored('log', []).filter((it) => it.words.startsWith('copy ') && it.status === 0).slice(0, 5);
+  fill(at('copies'),
+    made('p', {className: 'said'}, copy ? `Last copy ${ago(copy.at)}` : 'No copy was made from this browser yet'),
+    made('p', {}, 'A copy is made in the folder of the office\u2019s file. Take it to another disk or a stick: only there does it help if the machine is lost.'),
+    made('p', {className: 'acts'}, button('Make a copy now', makeCopy, {main: true, key: 'copy'})),
+    made('ul', {}, ...made_.map((it) => made('li', {}, made('code', {}, it.words.slice(5)), ` at ${clock(it.at)}: ${it.reply.trim()}`))));
+};
+
+const drawFiles = () => {
+  const sealed = office.wards.filter((it) => it.phase === 'sealed' || it.phase === 'declared');
+  const counted = sealed.filter((it) => !isUncontested(it));
+  const select = made('select', {ariaLabel: 'Ward', data: {key: 'file-ward'}}, ...counted.map((it) => made('option', {value: String(it.ward)}, `${it.ward} ${spokenName(it.name)}`)));
+  fill(at('files'),
+    made('p', {}, 'The journal has every order that was accepted. The text alone makes the office again. Keep it from the tellers: it shows what each of them keyed.'),
+    made('p', {className: 'acts'}, button('Save the journal', () => saveOutput('journal.txt', 'text/plain', 'journal'), {key: 'save-journal'}),
+      button('Open the index of all wards', () => openPage('index'), {key: 'index'})),
+    counted.length ? made('p', {className: 'acts'}, made('label', {}, 'Ward ', select), button('Save its ballots', () => saveOutput(`ballots-${select.value}.txt`, 'text/plain', 'ballots', select.value), {key: 'file-ballots'}),
+      button('Save its stages, for a spreadsheet', () => saveOutput(`stages-${select.value}.csv`, 'text/csv', 'table', select.value), {key: 'file-table'})) : '');
+};
+
+const matches = (it, words) => words.every((word) => `${it.actor} ${it.id} ${it.subject} ${it.reply}`.toLowerCase().includes(word));
+
+const drawReceipts = async (isNow) => {
+  const {says, why} = await read(`receipts${receiptFilter.actor ? `?actor=${receiptFilter.actor}` : ''}`);
+  if (!isNow()) return;
+  if (!says) { fill(at('receipts'), made('p', {}, why)); return; }
+  const words = receiptFilter.search.toLowerCase().split(/\s+/).filter(Boolean);
+  const found = says.receipts.filter((it) => matches(it, words));
+  const rows = found.slice(0, receiptFilter.most).map((it) => row(it.actor ? `teller ${it.actor}` : 'office', made('code', {}, it.id), it.subject, it.reply));
+  fill(at('receipts'), made('p', {}, `${many(found.length, 'order')}${found.length > rows.length ? `, the first ${rows.length} of them here` : ''}`),
+    rows.length ? table({className: 'plain small'}, ['Whose', 'Id', 'Order', 'Reply'], rows) : '',
+    found.length > rows.length ? button('Show more', () => { receiptFilter.most += MOST_SHOWN; draw(); }, {key: 'more-receipts'}) : '');
+};
+
+const drawLog = () => {
+  const log = stored('log', []);
+  const rows = log.slice(0, 30).map((it) => row(clock(it.at), made('span', {}, it.title), made('code', {}, it.reply.trim().split('\n').at(-1) ?? '')));
+  fill(at('log'), rows.length ? table({className: 'plain small'}, ['At', 'Order', 'The program\u2019s reply'], rows) : made('p', {}, 'Nothing yet.'));
+};
+
+DRAW.journal = async (isNow) => {
+  drawCopies();
+  drawFiles();
+  drawLog();
+  await drawReceipts(isNow);
+};

@@ -1,0 +1,40 @@
+// ---- tellers' files: each says in its first line whose keying it is
+
+// The files that were dropped, each with what became of it.
+let brought = [];
+
+// Of which batch, and by which teller, a file is: its first field is such as `paper 12/4`.
+const headingOf = (text) => {
+  const [, batch, clerk] = /^\ufeff?"?paper ([1-9]\d{0,3})\/([1-9]\d{0,2})"?[,\r\n]/.exec(text) ?? [];
+  return batch ? {batch: Number(batch), clerk: Number(clerk)} : null;
+};
+
+const roundOf = async (batch) => {
+  for (const {ward} of office.wards.filter((it) => it.phase === 'keying')) {
+    const found = (await readBatches(ward)).says?.batches.find((it) => it.batch === batch);
+    if (found) return found.round;
+  }
+  return 0;
+};
+
+const bringFile = async (file) => {
+  const text = await textOf(file);
+  const heading = text === null ? null : headingOf(text);
+  if (text === null) return {name: file.name, text: 'isn\u2019t UTF-8. Save it again as CSV, UTF-8.', isWrong: true};
+  if (!heading) return {name: file.name, text: 'doesn\u2019t say whose it is: its first line has to begin such as paper 12/4.', isWrong: true};
+  const round = await roundOf(heading.batch);
+  if (!round) return {name: file.name, text: `is of batch ${heading.batch}, which no ward in keying has.`, isWrong: true};
+  const name = `k${heading.clerk}-${heading.batch}.csv`;
+  const printed = await order(`the keying of batch ${heading.batch}, round ${round}, by teller ${heading.clerk}`, ['import-keying', heading.clerk, heading.batch, round, name, '--id', newId()], {[name]: text});
+  const what = `batch ${heading.batch}, teller ${heading.clerk}, round ${round}`;
+  if (isAccepted(printed)) return {name: file.name, text: `${what}: accepted`};
+  return {name: file.name, text: `${what}: ${printed ? `${explainedError(printed.errors).line}. ${explainedError(printed.errors).todo}` : 'not sent'}`, isWrong: true};
+};
+
+const bringKeyings = async (files) => {
+  brought = [];
+  for (const file of files) {
+    brought.push(await bringFile(file));
+    fill(at('brought'), made('ul', {}, ...brought.map((it) => made('li', {className: it.isWrong ? 'urgent' : ''}, made('b', {}, isolated(it.name)), ' ', it.text))));
+  }
+};

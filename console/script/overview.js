@@ -1,0 +1,131 @@
+// ---- the overview: what to do next, how each ward stands, and who is still to key
+
+const COPY_AFTER = 45 * 60000;
+const MOST_STEPS = 8;
+
+const expectedOf = (ward) => stored(`expected ${ward}`, 0);
+
+// What a ward needs next: how urgent it is, what it is in words, and where it is done.
+const stepOf = (ward, next) => {
+  const {phase} = ward;
+  if (phase === 'nominations') return {rank: 5, text: ward.candidates ? `${many(ward.candidates, 'candidate')} so far; close nominations when all are in` : 'Add its candidates', to: 'nominations', button: 'Nominations'};
+  if (phase === 'declared') return {rank: 9, text: 'Declared', to: 'count', button: 'Result', isDone: true};
+  if (phase === 'sealed' && isUncontested(ward)) return {rank: 4, text: 'Uncontested: declare the result', to: 'count', button: 'Declare'};
+  if (phase === 'sealed' && next?.step === 'lot') return {rank: 2, text: `Stage ${next.stage} waits for a lot`, to: 'count', button: 'Draw the lot', isUrgent: true};
+  if (phase === 'sealed' && next?.step === 'declaration') return {rank: 4, text: 'The count is finished: declare the result', to: 'count', button: 'Declare'};
+  if (phase === 'sealed') return {rank: 4, text: next?.stage ? `Count stage ${next.stage}` : 'Count the next stage', to: 'count', button: 'Count'};
+  if (ward.differing) return {rank: 1, text: `${batchesOf(ward.differing)} ${ward.differing === 1 ? 'differs' : 'differ'}: key again, or a third teller`, to: 'batches', button: 'Settle', isUrgent: true};
+  if (ward.doubtful_open) return {rank: 2, text: `${many(ward.doubtful_open, 'doubtful paper')} to be judged`, to: 'doubtful', button: 'Judge', isUrgent: true};
+  if (!ward.batches) return {rank: 5, text: 'Give out its batches', to: 'batches', button: 'Give out'};
+  const waiting = ward.batches - ward.taken;
+  if (waiting) return {rank: 8, text: `${batchesOf(waiting)} being keyed`, to: 'batches', button: 'Batches', isWaiting: true};
+  const expected = expectedOf(ward.ward);
+  if (expected > ward.papers_given_out) return {rank: 5, text: `Give out the rest: ${papersOf(expected - ward.papers_given_out)}`, to: 'batches', button: 'Give out'};
+  return {rank: 3, text: 'All agreed and judged: seal it', to: 'count', button: 'Seal'};
+};
+
+const copyStep = () => {
+  const copy = stored('copy');
+  if (copy && Date.now() - copy.at < COPY_AFTER) return null;
+  const text = copy ? `The last copy was made ${ago(copy.at)}` : 'No copy was made from this browser yet';
+  return made('li', {}, made('span', {className: 'what'}, text), button('Make a copy', () => go('journal'), {key: 'step copy'}));
+};
+
+const stepEntry = ({ward, step}) => made('li', {className: step.isUrgent ? 'urgent' : ''},
+  made('span', {className: 'what'}, made('b', {}, wardName(ward)), ': ', step.text),
+  button(step.button, () => go(step.to, ward.ward), {main: true, key: `step ${ward.ward}`, ariaLabel: `${step.button}: ward ${ward.ward}`}));
+
+const drawSteps = (steps) => {
+  const due = steps.filter(({step}) => !step.isDone && !step.isWaiting).sort((one, other) => one.step.rank - other.step.rank || one.ward.ward - other.ward.ward);
+  const waiting = steps.filter(({step}) => step.isWaiting);
+  const shown = due.slice(0, MOST_STEPS).map(stepEntry);
+  if (due.length > MOST_STEPS) shown.push(made('li', {className: 'quiet'}, `and ${many(due.length - MOST_STEPS, 'more step')} below, ward by ward`));
+  if (!due.length && waiting.length) shown.push(made('li', {className: 'quiet'}, `Wait: ${batchesOf(waiting.reduce((sum, {ward}) => sum + ward.batches - ward.taken, 0))} being keyed. Nothing is for you to do.`));
+  if (!steps.length) shown.push(made('li', {}, made('span', {className: 'what'}, 'Add the wards of this election.'), button('Add a ward', () => go('nominations'), {main: true, key: 'step none'})));
+  if (steps.length && steps.every(({step}) => step.isDone)) shown.push(made('li', {className: 'quiet'}, 'All wards are declared. Make a last copy, and save the journal.'));
+  fill(at('steps'), shown, steps.length ? copyStep() : '');
+};
+
+// The papers that are expected are typed in once, and the browser keeps them.
+const expectedField = (ward) => {
+  const field = made('input', {
+    type: 'text', inputMode: 'numeric', size: 6, autocomplete: 'off', value: String(expectedOf(ward.ward) || ''), ariaLabel: `Papers expected in ward ${ward.ward}`,
+    data: {key: `expected ${ward.ward}`},
+  });
+  field.addEventListener('input', () => {
+    if (numberIn(field.value, 999999)) store(`expected ${ward.ward}`, numberIn(field.value, 999999)); else unstore(`expected ${ward.ward}`);
+    compareExpected(field, ward);
+  });
+  compareExpected(field, ward);
+  return field;
+};
+
+const compareExpected = (field, ward) => {
+  const expected = expectedOf(ward.ward);
+  field.classList.toggle('over', expected > 0 && expected < ward.papers_given_out);
+};
+
+const figure = (text, value, className = '') => made('td', {className: `figure ${className}`.trim(), data: {label: text}}, value.toLocaleString('en'));
+
+const wardRow = ({ward, step}) => {
+  const isKeyed = ward.phase === 'keying';
+  const isPolled = ward.phase !== 'nominations' && !isUncontested(ward);
+  const dash = (text) => made('td', {className: 'figure none', data: {label: text}}, '\u2013');
+  const papers = (text, value) => (isPolled ? figure(text, value) : dash(text));
+  return made('tr', {className: step.isUrgent ? 'urgent' : ''},
+    made('th', {scope: 'row'}, wardName(ward)),
+    made('td', {className: 'phase', data: {label: ''}}, isUncontested(ward) && ward.phase === 'sealed' ? 'Uncontested' : PHASES[ward.phase]),
+    made('td', {className: 'figure', data: {label: 'expected'}}, ward.phase === 'nominations' || isKeyed ? expectedField(ward) : expectedOf(ward.ward) && isPolled ? expectedOf(ward.ward).toLocaleString('en') : '\u2013'),
+    papers('given out', ward.papers_given_out), papers('keyed', ward.papers_keyed), papers('agreed', ward.papers_agreed),
+    isKeyed ? figure('batches differ', ward.differing, ward.differing ? 'bad' : '') : dash('batches differ'),
+    isKeyed ? figure('doubtful open', ward.doubtful_open, ward.doubtful_open ? 'bad' : '') : dash('doubtful open'),
+    made('td', {className: 'next', data: {label: ''}}, button(step.button, () => go(step.to, ward.ward), {key: `row ${ward.ward}`, ariaLabel: `${step.button}: ward ${ward.ward}`}), made('span', {}, step.text)));
+};
+
+const WARD_HEADS = ['Ward', 'Phase', 'Papers expected', 'Given out', 'Keyed', 'Agreed', 'Batches differ', 'Doubtful open', 'Next step'];
+
+const sumRow = () => {
+  const sum = (member) => office.wards.reduce((total, it) => total + it[member], 0);
+  const expected = office.wards.reduce((total, it) => total + expectedOf(it.ward), 0);
+  return made('tr', {className: 'sum'}, made('th', {scope: 'row'}, 'All wards'), made('td', {}, ''), figure('expected', expected),
+    figure('given out', sum('papers_given_out')), figure('keyed', sum('papers_keyed')), figure('agreed', sum('papers_agreed')),
+    figure('batches differ', sum('differing')), figure('doubtful open', sum('doubtful_open')), made('td', {}, ''));
+};
+
+// Who is still to key: the tellers with the batches that wait for them.
+const waitingBy = (lists) => {
+  const found = new Map();
+  for (const {batch, standing, clerks} of lists.flat()) {
+    if (standing !== 'waiting') continue;
+    for (const {clerk, keyed} of clerks) if (!keyed) found.set(clerk, [...(found.get(clerk) ?? []), batch]);
+  }
+  return [...found].sort(([, one], [, other]) => other.length - one.length);
+};
+
+const MOST_TELLERS = 40;
+
+const drawWaiting = async (isNow) => {
+  const wards = office.wards.filter((it) => it.phase === 'keying' && it.batches > it.taken + it.differing);
+  const lists = [];
+  for (const {ward} of wards) lists.push((await readBatches(ward)).says?.batches ?? []);
+  if (!isNow()) return;
+  const tellers = waitingBy(lists);
+  const rows = tellers.slice(0, MOST_TELLERS).map(([clerk, batches]) => row(made('th', {scope: 'row'}, `Teller ${clerk}`), numeric(batches.length), firstOf(batches)));
+  const more = tellers.length > MOST_TELLERS ? made('p', {}, `and ${many(tellers.length - MOST_TELLERS, 'more teller')}`) : '';
+  fill(at('waiting'), tellers.length ? table({className: 'plain'}, ['Teller', 'Batches', 'Numbers'], rows) : made('p', {}, 'No batch waits for a teller.'), more);
+};
+
+// What comes next in a sealed ward is read of it alone: the others show it by their figures.
+const stepsOf = async () => {
+  const sealed = office.wards.filter((it) => it.phase === 'sealed' && !isUncontested(it)).slice(0, 20);
+  const nexts = new Map(await Promise.all(sealed.map(async ({ward}) => [ward, (await readWard(ward)).says?.next])));
+  return office.wards.map((ward) => ({ward, step: stepOf(ward, nexts.get(ward.ward))}));
+};
+
+DRAW.overview = async (isNow) => {
+  const steps = await stepsOf();
+  if (!isNow()) return;
+  drawSteps(steps);
+  fill(at('wards'), steps.length ? table({className: 'wards'}, WARD_HEADS, [...steps.map(wardRow), ...(steps.length > 1 ? [sumRow()] : [])]) : noWards());
+  await drawWaiting(isNow);
+};

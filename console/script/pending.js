@@ -1,0 +1,116 @@
+// ---- orders: each is stored before it is sent, and repeated under its id until the office has replied
+
+const WAITS = [2, 5, 10, 20, 30];
+const PENDING = 'order ';
+const MOST_LOGGED = 200;
+
+// The order that is under way in this window; no other is sent meanwhile.
+let current = null;
+let wakeUp = () => {};
+
+const isUnknown = (answer) => !answer || answer.status >= 500;
+const isDone = (answer) => answer?.status === 200 && Number.isInteger(answer.says?.status);
+
+const pendingOrders = () => storedNames(PENDING).map((it) => stored(it)).filter((it) => it?.words).sort((one, other) => one.at - other.at);
+
+const logged = (order, {status, output, errors}) => {
+  const entry = {at: Date.now(), words: order.words.join(' ').slice(0, 400), title: order.title, status, reply: (status ? errors : output).slice(0, 400)};
+  store('log', [entry, ...stored('log', [])].slice(0, MOST_LOGGED));
+};
+
+const tell = (kind, title, ...more) => {
+  const close = button('Close', () => { at('result').hidden = true; }, {className: 'quiet'});
+  at('result').className = kind;
+  at('result').hidden = false;
+  at('result').replaceChildren(made('div', {}, made('p', {className: 'said'}, title), ...more.filter(Boolean).map((it) => made('p', {}, it))), close);
+};
+
+const waitFor = (seconds) => new Promise((resolve) => {
+  const timer = setTimeout(resolve, 1000 * seconds);
+  wakeUp = () => { clearTimeout(timer); resolve(); };
+});
+
+const showUnsent = (order, text, isPaused) => {
+  at('unsent').hidden = false;
+  const forgetIt = button('Give it up', () => { order.given = true; wakeUp(); });
+  at('unsent').replaceChildren(
+    made('p', {className: 'said'}, `Not confirmed yet: ${order.title}.`), made('p', {}, text),
+    made('p', {className: 'acts'}, button('Send it again now', () => wakeUp(), {main: true}), isPaused ? forgetIt : ''));
+};
+
+// Sends an order as often as it has to be, and returns what the program printed. Null: it was given up.
+const sendAsLong = async (order) => {
+  const body = JSON.stringify({files: order.files ?? {}, words: order.words});
+  for (let turn = 0; ; turn += 1) {
+    const answer = await ask('orders', body);
+    at('unsent').hidden = true;
+    if (isDone(answer)) {
+      const wasMade = order.words[0] === 'copy' && order.open && /^fault 109/.test(answer.says.errors);
+      return wasMade ? {status: 0, output: 'the copy is there\n', errors: ''} : answer.says;
+    }
+    const seconds = WAITS[Math.min(turn, WAITS.length - 1)];
+    if (isUnknown(answer)) {
+      order.open = true;
+      store(PENDING + order.key, order);
+      showUnsent(order, `${explainedAnswer(answer)} Nothing is lost, and you need not type it again. It is sent again every ${seconds} seconds, and done once.`, false);
+      await waitFor(seconds);
+    } else {
+      const doubt = order.open ? ' An earlier sending may have been done: look at the overview before you give it up.' : ' Nothing was done.';
+      showUnsent(order, explainedAnswer(answer) + doubt, true);
+      await waitFor(86400);
+    }
+    if (order.given) {
+      at('unsent').hidden = true;
+      return null;
+    }
+  }
+};
+
+const showResult = (order, {status, output, errors}) => {
+  const lines = output.trimEnd().split('\n').filter(Boolean);
+  const note = errors.split('\n').find((it) => /note: /.test(it));
+  const replies = lines.length > 3 ? `${lines.length} replies; the last one: ${lines.at(-1)}` : lines.join('; ');
+  if (status === 0 && !note) return tell('done', `Done: ${order.title}.`, replies && made('code', {}, replies));
+  if (status === 0) return tell('refused', `Nothing was changed: ${order.title}.`, made('code', {}, note), 'This id was used before. Try once more.');
+  const {line, todo} = explainedError(errors);
+  const before = lines.length ? `Before that ${many(lines.length, 'part')} of it ${lines.length === 1 ? 'was' : 'were'} done.` : '';
+  return tell('refused', `Not done: ${order.title}.`, made('code', {}, line), made('b', {}, 'What to do: '), todo, before);
+};
+
+const finish = async (order) => {
+  current = order;
+  document.body.classList.add('busy');
+  const printed = await sendAsLong(order);
+  unstore(PENDING + order.key);
+  current = null;
+  document.body.classList.remove('busy');
+  if (printed) {
+    logged(order, printed);
+    if (order.words[0] === 'copy' && printed.status === 0) store('copy', {at: Date.now(), name: order.words[1]});
+    showResult(order, printed);
+  }
+  await refresh(true);
+  return printed;
+};
+
+// Has an order done. Returns what the program printed, or null if it wasn't sent.
+const order = async (title, words, files = {}) => {
+  if (current) {
+    tell('refused', 'One order at a time.', `The office has not confirmed this one yet: ${current.title}.`);
+    return null;
+  }
+  const key = newId();
+  const sent = {key, at: Date.now(), title, words: words.map(String), files, open: false};
+  store(PENDING + key, sent);
+  return finish(sent);
+};
+
+// The same with an id of its own, after the words.
+const orderWithId = (title, words, files) => order(title, [words[0], '--id', newId(), '--', ...words.slice(1)], files);
+
+// What was under way when the page was closed or loaded again is sent again, under its id.
+const resume = async () => {
+  for (const each of pendingOrders()) await finish({...each, open: true});
+};
+
+const isAccepted = (printed) => printed?.status === 0;

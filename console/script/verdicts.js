@@ -1,0 +1,49 @@
+// ---- the verdicts as they were decided, to be shown to agents
+
+const MOST_VERDICTS = 200;
+
+const verdictText = (candidates, it) => {
+  if (it.verdict === 'open') return made('b', {className: 'waiting'}, 'to be judged');
+  if (it.verdict === 'rejected') return [made('b', {}, 'Rejected: '), REJECTIONS[it.code]];
+  return [made('b', {}, 'Accepted: '), preferencesOf(candidates, it.preferences)];
+};
+
+const verdictTable = (candidates, papers) => table({className: 'plain'}, ['Batch', 'Paper', 'Verdict'],
+  papers.map((it) => row(numeric(it.batch), numeric(it.paper), made('td', {}, ...[verdictText(candidates, it)].flat()))));
+
+const verdictList = (ward, {candidates, papers}) => {
+  const judged = papers.filter((it) => it.verdict !== 'open');
+  if (!judged.length) return [];
+  const accepted = judged.filter((it) => it.verdict === 'accepted').length;
+  const shown = judged.slice(0, MOST_VERDICTS);
+  return [
+    made('h3', {}, 'As they were decided'),
+    made('p', {className: 'acts'}, `${accepted} accepted, ${judged.length - accepted} rejected. Hold each beside its paper once more.`,
+      button('Print this list', () => printText(['Doubtful papers: ', wardName(ward)], verdictTable(candidates, judged)), {key: 'print-verdicts'})),
+    verdictTable(candidates, shown), judged.length > shown.length ? made('p', {}, `and ${judged.length - shown.length} more, on the printed list`) : '',
+  ];
+};
+
+const noDoubtful = (ward, papers) => {
+  const elsewhere = office.wards.filter((it) => it.doubtful_open && it.ward !== ward.ward);
+  const waiting = ward.phase === 'keying' && ward.batches > ward.taken ? ' More may come as batches are agreed.' : '';
+  const text = papers.length ? `All ${papers.length} doubtful papers of this ward are judged.` : 'No doubtful paper is in the agreed batches of this ward.';
+  return [made('p', {className: 'said'}, text + waiting),
+    ...elsewhere.slice(0, 5).map((it) => made('p', {}, button([`${many(it.doubtful_open, 'doubtful paper')} in `, wardName(it)], () => go('doubtful', it.ward), {main: true, key: `elsewhere ${it.ward}`})))];
+};
+
+DRAW.doubtful = async (isNow) => {
+  const ward = wardOf();
+  const {says, why} = ward ? await readDoubtful(ward.ward) : {};
+  if (!isNow()) return;
+  if (!says) {
+    fill(at('judging'), made('p', {}, why ?? 'There is no ward yet.'));
+    return fill(at('judged'));
+  }
+  const open = says.papers.filter((it) => it.verdict === 'open');
+  judging.candidates = says.candidates;
+  const isOpen = open.some((it) => it.batch === judging.batch && it.paper === judging.paper) && judging.ward === ward.ward;
+  if (!isOpen && open.length) choosePaper(ward.ward, open[0]);
+  fill(at('judging'), open.length ? drawPaper(ward, open) : noDoubtful(ward, says.papers));
+  return fill(at('judged'), verdictList(ward, says));
+};

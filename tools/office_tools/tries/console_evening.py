@@ -1,0 +1,393 @@
+"""Plays the guide's evening through the officer's console in Chromium alone, a part of it by keyboard, and compares it with typed orders.
+
+The server's side of the console is the stand-in of console_mock.py, which runs the program's own orders. Tellers' keyings come as files
+that are dropped on the console, and one as an order that is typed next to it. Lines break after an order was done, the server is gone for
+a while, the page is loaded again with an order under way, two consoles are open, and a page from elsewhere and a wrong code are denied.
+At the end the office has the rows that the typed orders make, but for the ids. Then names that would be markup, marks that turn the
+direction of writing and names of 120 bytes are shown, and an office of 99 wards and 9,999 batches. Pictures at 1280, 800 and 400 pixels
+go into the folder PICTURES. It needs the programs `chromium` and `node`.
+"""
+import json
+import time
+from pathlib import Path
+
+from office_tools.browser import Browser
+from office_tools.checks.page import wrong_script
+from office_tools.console_mock import ConsoleMock
+from office_tools.console_page import page_and_policy
+from office_tools.office import TOWN, Office, Wrong, free_port, needs, temporary_folder
+from office_tools.web import ask, basic, request, status
+
+CODE, TITLE = "kf7m2wxth4dnw3hd4psn", "Election of 6 May 2027, Harbour Council"
+WIDTHS = ((1280, 900), (800, 900), (400, 900))
+NAMES = ["ward,candidate,name", "7,2,Bob", "7,3,Cy", "7,4,Dee", "7,5,Gil", '8,1,"Eve, jr"', "8,2,Fay"]
+HEAD = {batch: {clerk: f"paper {batch}/{clerk},1,2,3,4" for clerk in (4, 5, 9)} for batch in (12, 13)}
+TWELVE = ["1,1,2,,", "2,1,2,,", "3,1,2,,", "4,1,,2,", "5,1,,,2", "6,D,,,", "7,1,,,", "8,,,,"]
+THIRTEEN = ["1,,1,,", "2,,1,,", "3,,1,,", "4,,,1,", "5,,,2,1", "6,D,,,"]
+OTHER = [*THIRTEEN[:4], "5,,,1,2", THIRTEEN[5]]
+# The guide's orders, as they are typed: what the console has to come to.
+TYPED = """ward 7 2 Harbour
+ward 8 2 Quay
+candidate 7 1 Ann
+candidate 7 2 Bob
+candidate 7 3 Cy
+candidate 7 4 Dee
+candidate 7 5 Gil
+candidate 8 1 'Eve, jr'
+candidate 8 2 Fay
+withdraw 7 5
+close 7
+close 8
+batch 12 7 8 4 9
+batch 13 7 6 4 9
+key 4 12 1 1,2,, 1,2,, 1,2,, 1,,2, 1,,,2 D 1,,, ,,,
+key 4 13 1 ,1,, ,1,, ,1,, ,,1, ,,2,1 D
+key 9 13 1 ,1,, ,1,, ,1,, ,,1, ,,1,2 D
+key 9 12 1 1,2,, 1,2,, 1,2,, 1,,2, 1,,,2 D 1,,, ,,,
+again 13
+key 4 13 2 ,1,, ,1,, ,1,, ,,1, ,,2,1 D
+key 9 13 2 ,1,, ,1,, ,1,, ,,1, ,,1,2 D
+third 13 5
+key 5 13 2 ,1,, ,1,, ,1,, ,,1, ,,2,1 D
+judge 12 6 accept:1,,,
+judge 13 6 reject:4
+seal 7
+advance 7
+advance 7
+lot 7 3 4
+advance 7
+advance 7
+declare 7
+declare 8""".split("\n")
+
+
+class Officer:
+    """A returning officer at a browser."""
+
+    def __init__(self, browser, evening):
+        self.browser, self.evening = browser, evening
+
+    def open(self, part=""):
+        self.browser.open(self.evening.address(part))
+        self.shows("As of", "health")
+
+    def shows(self, words, part="result"):
+        """Waits until a part of the page has these words."""
+        self.browser.until(f"document.getElementById('{part}')?.innerText.includes({json.dumps(words)})", 20)
+
+    def go(self, part, ward=0):
+        """Goes to a part by its button, and to a ward by the list of wards."""
+        self.click(f"tab {part}")
+        if ward:
+            self.has(f"ward {part}")
+            self.browser.value(f"(() => {{ const it = {self.found(f'ward {part}')}; it.value = '{ward}'; it.dispatchEvent(new Event('change')); }})()")
+            self.browser.until(f"location.hash === '#{part}/{ward}'")
+
+    def found(self, key):
+        return f"[...document.querySelectorAll('[data-key]')].find((it) => it.dataset.key === {json.dumps(key)} && it.offsetParent)"
+
+    def has(self, key):
+        self.browser.until(f"Boolean({self.found(key)}) && !{self.found(key)}.disabled", 20)
+
+    def click(self, key):
+        self.has(key)
+        self.browser.value(f"{self.found(key)}.click()")
+
+    def submit(self, form):
+        self.browser.value(f"document.getElementById('{form}').requestSubmit()")
+
+    def type(self, name, text):
+        self.browser.value(f"(() => {{ const it = document.getElementById('{name}') ?? {self.found(name)}; it.focus(); it.select(); }})()")
+        self.browser.call("Input.insertText", text=str(text))
+
+    def drop(self, place, **files):
+        """Drops files on a place."""
+        given = json.dumps([[name.replace("_", "-") + ".csv", "".join(f"{line}\n" for line in lines)] for name, lines in files.items()])
+        self.browser.value(f"""(() => {{ const data = new DataTransfer();
+            for (const [name, text] of {given}) data.items.add(new File([text], name));
+            document.getElementById('{place}').dispatchEvent(new DragEvent('drop', {{dataTransfer: data, bubbles: true, cancelable: true}})); }})()""")
+
+    def asked(self, *words):
+        """Waits until something is asked, and sees that all of these words are read back."""
+        self.browser.until("document.getElementById('ask').open")
+        text = self.browser.value("document.getElementById('ask').innerText")
+        if missing := [word for word in words if word not in text]:
+            raise Wrong(f"{missing} isn't read back: {text!r}")
+
+    def yes(self, *words, said="Done"):
+        """Confirms what is asked, and waits for the reply."""
+        self.asked(*words)
+        self.forget()
+        self.browser.press("y")
+        self.shows(said)
+        self.browser.until("!document.body.classList.contains('busy')")
+
+    def forget(self):
+        self.browser.value("document.getElementById('result').hidden = true")
+
+    def tab_to(self, key):
+        """Reaches an element by the key Tab alone."""
+        self.has(key)
+        for _ in range(120):
+            if self.browser.value("document.activeElement?.dataset?.key ?? ''") == key:
+                return
+            self.browser.press("Tab")
+        raise Wrong(f"Tab doesn't reach {key}")
+
+    def press_on(self, key):
+        self.tab_to(key)
+        self.browser.press("Enter")
+
+    def picture(self, name):
+        self.evening.picture(self.browser, name)
+
+
+class Evening:
+    """The office, its console, and the pictures."""
+
+    def __init__(self, folder, pictures):
+        self.folder, self.pictures = folder, pictures
+        self.office = Office(folder / "console").begin()
+        self.port = free_port()
+        self.start()
+
+    def start(self):
+        self.mock = ConsoleMock(self.office.folder / TOWN, CODE, self.port, TITLE)
+
+    def address(self, part=""):
+        return f"{self.mock.origin}/office/{part}"
+
+    def picture(self, browser, name):
+        for width, height in WIDTHS if self.pictures else ():
+            browser.resize(width, height)
+            browser.wait(0.15)
+            tall = min(2400, max(height, browser.value("document.documentElement.scrollHeight")))
+            browser.resize(width, tall)
+            browser.wait(0.1)
+            (self.pictures / f"{name}-{width}.png").write_bytes(browser.picture())
+            wide = browser.value("document.documentElement.scrollWidth")
+            if wide > width:
+                raise Wrong(f"{name}: {wide} pixels wide at {width}")
+        browser.resize(1280, 900)
+
+    def play(self):
+        with Browser(self.folder, "office", CODE) as browser:
+            officer = Officer(browser, self)
+            officer.open()
+            officer.picture("1-empty")
+            self.nominations(officer)
+            self.papers(officer)
+            self.adjudication(officer)
+            self.counting(officer)
+            self.declaring(officer)
+            strange = [line for line in browser.said if "ERR_" not in line and "status of 401" not in line]
+            if strange:
+                raise Wrong(f"the browser said {strange[:5]}")
+        self.mock.close()
+
+    def nominations(self, officer):
+        browser = officer.browser
+        officer.click("step none")
+        for number, name in ((7, "Harbour"), (8, "Quay")):
+            officer.type("ward-number", number)
+            officer.type("ward-seats", 2)
+            officer.type("ward-name", name)
+            officer.submit("add-ward")
+            if number == 7:
+                browser.until("document.getElementById('ask').open")
+                officer.picture("2-ask-ward")
+            officer.yes(f"Add ward {number}", name, "It elects 2")
+        officer.go("nominations", 7)
+        officer.type("candidate-number", 1)
+        officer.type("candidate-name", "Ann")
+        self.reloaded(officer)
+        officer.submit("add-candidate")
+        officer.shows("candidate 1 of ward 7 added")
+        officer.drop("drop-candidates", names=[*NAMES[:3], "7,3,Dee", *NAMES[4:]])
+        officer.shows("this number is twice in the file", "preview")
+        officer.picture("3-preview-wrong")
+        officer.drop("drop-candidates", names=NAMES)
+        officer.shows("as it will be added", "preview")
+        self.mock.cuts = 1
+        officer.click("send-file")
+        officer.shows("Not confirmed yet", "unsent")
+        officer.picture("4-not-confirmed")
+        officer.shows("candidates from the file")
+        officer.click("withdraw 5")
+        officer.yes("Withdraw 5 Gil?")
+        officer.picture("5-nominations")
+        for ward, names, outcome in ((7, ("1 Ann", "4 Dee"), "will be polled"), (8, ("1 Eve, jr", "2 Fay"), "no poll")):
+            officer.go("nominations", ward)
+            officer.shows(f"Ward {ward}", "nominated")
+            officer.click("close")
+            officer.yes(f"Ward {ward}", *names, outcome, said="closed")
+
+    def reloaded(self, officer):
+        """What was typed is there again when the page is loaded again."""
+        officer.browser.reload()
+        officer.shows("As of", "health")
+        if officer.browser.value("document.getElementById('candidate-name').value") != "Ann":
+            raise Wrong("what was typed isn't kept")
+
+    def papers(self, officer):
+        browser = officer.browser
+        officer.go("overview")
+        officer.type("expected 7", 14)
+        officer.go("batches", 7)
+        browser.until("document.getElementById('give').open")
+        for name, value in (("from", 12), ("count", 2), ("size", 8), ("last", 6), ("clerks", "4 9")):
+            officer.type(f"give-{name}", value)
+        officer.shows("14 of 14 expected papers", "give-preview")
+        officer.picture("6-giving-out")
+        officer.submit("give-out")
+        officer.yes("2 batches, 14 papers", "Batch 12", "8 papers", "Batch 13", "6 papers", "tellers 4 and 9")
+        browser.value("document.getElementById('bring').open = true")
+        officer.drop("drop-keyings", k4_12=[HEAD[12][4], *TWELVE[:3], "4,1,,2", *TWELVE[4:]])
+        officer.shows("file fault 2 at record 4", "brought")
+        officer.picture("7-file-fault")
+        officer.drop("drop-keyings", k4_12=[HEAD[12][4], *TWELVE], k4_13=[HEAD[13][4], *THIRTEEN], k9_13=[HEAD[13][9], *OTHER], nobody=["paper,1,2", "1,1,"])
+        officer.shows("doesn\u2019t say whose it is", "brought")
+        browser.until("document.getElementById('brought').innerText.split('accepted').length === 4", 20)
+        officer.picture("8-batches")
+        # An order that is typed next to the console is seen on it by itself.
+        self.office.do("key", 9, 12, 1, *[line.split(",", 1)[1] if "D" not in line else "D" for line in TWELVE], "--id", "typed")
+        officer.shows("Agreed", "batch-list")
+        officer.go("overview")
+        officer.shows("1 batch differs", "steps")
+        officer.picture("9-overview-differs")
+        officer.click("step 7")
+        officer.click("where 13")
+        officer.shows("paper 5", "batch-list")
+        officer.picture("10-where")
+        officer.click("again 13")
+        officer.yes("round 2", "tellers 4 and 9")
+        officer.drop("drop-keyings", k4_13=[HEAD[13][4], *THIRTEEN], k9_13=[HEAD[13][9], *OTHER])
+        officer.shows("teller 9, round 2: accepted", "brought")
+        officer.click("third 13")
+        officer.asked("third teller")
+        browser.call("Input.insertText", text="9")
+        officer.picture("11-third")
+        browser.press("Enter")
+        officer.shows("doesn\u2019t key this batch yet")
+        self.third_in_two_windows(officer)
+        officer.drop("drop-keyings", k5_13=[HEAD[13][5], *THIRTEEN])
+        officer.shows("teller 5, round 2: accepted", "brought")
+        officer.click("papers 12")
+        officer.shows("no first preference", "batch-list")
+        officer.picture("12-read-back")
+
+    def third_in_two_windows(self, officer):
+        """A second console sets the third teller, while the first one shows the batch."""
+        other = Officer(officer.browser.another(), self)
+        other.open("#batches/7")
+        other.click("third 13")
+        other.asked("third teller")
+        other.browser.value("document.querySelector('#ask input').focus()")
+        other.browser.call("Input.insertText", text="5")
+        other.browser.press("Enter")
+        other.shows("batch 13 third clerk 5")
+        other.browser.close()
+        officer.browser.call("Page.bringToFront")
+        officer.browser.until("![...document.querySelectorAll('[data-key]')].some((it) => it.dataset.key === 'third 13')", 20)
+
+    def adjudication(self, officer):
+        """By keyboard alone; the server is gone for a while, and the page is loaded again with a verdict under way."""
+        browser = officer.browser
+        browser.value("document.activeElement.blur()")
+        browser.press("1")
+        officer.shows("2 doubtful papers to be judged", "steps")
+        officer.picture("13-overview-doubtful")
+        officer.press_on("step 7")
+        officer.shows("Batch 12, paper 6", "judging")
+        browser.press("2")
+        officer.shows("Bob", "judging")
+        browser.press("Backspace")
+        browser.press("1")
+        officer.picture("14-judging")
+        browser.value("document.activeElement.blur()")
+        browser.press("Enter")
+        officer.asked("Batch 12, paper 6", "First preference: 1 Ann")
+        officer.picture("15-ask-verdict")
+        self.mock.close()
+        officer.forget()
+        browser.press("y")
+        officer.shows("Not confirmed yet", "unsent")
+        officer.picture("16-server-gone")
+        self.start()
+        officer.shows("batch 12 paper 6 accepted")
+        browser.press("r")
+        self.mock.cuts = 1
+        browser.press("4")
+        officer.asked("Batch 13, paper 6", "voter identifiable")
+        browser.press("y")
+        officer.shows("Not confirmed yet", "unsent")
+        browser.reload()
+        officer.shows("batch 13 paper 6 rejected 4")
+        officer.shows("All 2 doubtful papers of this ward are judged", "judging")
+        officer.picture("17-judged")
+
+    def counting(self, officer):
+        """By keyboard alone up to the lot."""
+        browser = officer.browser
+        browser.value("document.activeElement.blur()")
+        browser.press("6")
+        officer.press_on("copy")
+        officer.shows("copied 2 wards")
+        officer.picture("18-journal")
+        browser.value("document.activeElement.blur()")
+        browser.press("5")
+        officer.shows("Next: the seal", "count-now")
+        officer.picture("19-seal")
+        officer.press_on("seal")
+        officer.asked("As many papers were given out as are expected: 14")
+        officer.picture("20-ask-seal")
+        officer.yes("Seal Ward 7", said="ward 7 sealed: 12 valid, 2 rejected, quota 5.00000")
+        for stage, words in ((1, "every first preference"), (2, "the surplus of 1 Ann")):
+            officer.shows(f"Next: stage {stage}", "count-now")
+            officer.press_on("advance")
+            if stage == 2:
+                officer.picture("21-ask-stage")
+            officer.yes(f"Count stage {stage}", words, said=f"ward 7 stage {stage}")
+        officer.shows("Next: a lot", "count-now")
+        officer.picture("22-lot")
+        officer.click("lot 4")
+        officer.click("lot")
+        officer.yes("3 Cy and 4 Dee", "4 Dee is excluded", said="lot at ward 7 stage 3: candidate 4")
+        officer.shows("Next: stage 3", "count-now")
+        officer.picture("23-stage")
+        officer.click("advance")
+        officer.yes("4 Dee has the fewest votes", said="ward 7 stage 3 exclusion of 4")
+        officer.click("count")
+        officer.yes("Count from stage 4 on", said="count finished")
+
+    def declaring(self, officer):
+        browser = officer.browser
+        officer.shows("Next: the declaration", "count-now")
+        officer.picture("24-finished")
+        officer.click("declare")
+        officer.yes("1 Ann", "2 Bob", said="ward 7 declared: 1, 2")
+        officer.shows("duly elected for Harbour", "count-now")
+        officer.picture("25-declared")
+        officer.go("count", 8)
+        officer.shows("uncontested", "count-now")
+        officer.picture("26-uncontested")
+        officer.click("declare")
+        officer.yes("1 Eve, jr", "2 Fay", said="ward 8 declared: 1, 2")
+        officer.go("overview")
+        officer.shows("All wards are declared", "steps")
+        officer.picture("27-overview-declared")
+        officer.go("journal")
+        officer.type("receipt-search", "judge 13")
+        officer.shows("batch 13 paper 6 rejected 4", "receipts")
+        officer.picture("28-search")
+
+
+def main(pictures: Path = None):
+    needs("chromium", "node")
+    if pictures:
+        pictures.mkdir(parents=True, exist_ok=True)
+    if wrong := wrong_script(page_and_policy()[0]):
+        return wrong
+    with temporary_folder() as folder:
+        Evening(folder, pictures).play()
+    return 0
