@@ -18,6 +18,7 @@ const changeChosen = (numbers) => {
 };
 
 const choose = (number) => {
+  if (current) return;
   if (judging.chosen.includes(number)) changeChosen(judging.chosen.filter((it) => it !== number));
   else changeChosen([...judging.chosen, number]);
 };
@@ -66,10 +67,10 @@ const drawPaper = (ward, open) => {
           made('div', {className: 'ballot', ariaLive: 'polite'}, judging.chosen.length ? chosenText() : made('p', {className: 'hint'}, 'Nothing is chosen yet.')),
           made('p', {className: 'acts'}, button('Accept (Enter)', accept, {key: 'accept', main: true, disabled: !judging.chosen.length}),
             button('Undo (Backspace)', () => changeChosen(judging.chosen.slice(0, -1)), {key: 'undo', disabled: !judging.chosen.length}))),
-        made('div', {}, made('h3', {}, 'Reject'),
-          made('div', {className: 'rejects'}, ...[3, 4, 5].map((code) => button(`Reject: ${REJECTIONS[code]}`, () => reject(code), {key: `reject ${code}`}))),
+        made('div', {}, made('h3', {}, 'Or reject'),
+          made('div', {className: 'rejects'}, ...[3, 4, 5].map((code) => button([made('kbd', {}, `R ${code}`), ` ${REJECTIONS[code]}`], () => reject(code), {key: `reject ${code}`}))),
           open.length > 1 ? made('p', {}, made('label', {}, 'Another paper ', otherPapers(open))) : '',
-          made('p', {className: 'hint'}, 'Keys: a candidate\u2019s number chooses, Backspace takes the last one back, Enter accepts, R and 3, 4 or 5 rejects.')))),
+          made('p', {className: 'hint'}, 'Keys: a candidate\u2019s number chooses, Backspace takes the last one back, Enter accepts; R, then 3, 4 or 5, rejects.')))),
   ];
 };
 

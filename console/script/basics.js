@@ -24,7 +24,13 @@ const button = (text, act, {key, main = false, ...others} = {}) => {
 const row = (...cells) => made('tr', {}, ...cells.map((it) => (it instanceof Element && /^T[DH]$/.test(it.tagName) ? it : made('td', {}, it))));
 const headRow = (...cells) => made('thead', {}, made('tr', {}, ...cells.map((it) => made('th', {scope: 'col'}, it))));
 const numeric = (value) => made('td', {className: 'figure'}, String(value));
-const table = (properties, heads, rows) => made('div', {className: 'wide'}, made('table', properties, headRow(...heads), made('tbody', {}, ...rows)));
+
+// A table. The head of a column of figures is to the right, as they are.
+const table = (properties, heads, rows) => {
+  const head = headRow(...heads);
+  [...head.rows[0].cells].forEach((cell, place) => cell.classList.toggle('figure', rows[0]?.cells[place]?.className === 'figure'));
+  return made('div', {className: 'wide'}, made('table', properties, head, made('tbody', {}, ...rows)));
+};
 
 // Replaces what an element holds. The element that had the focus, and what was typed into it, stay as they are.
 const fill = (element, ...inner) => {

@@ -19,7 +19,7 @@ const again = async (ward, it) => {
 
 const third = async (ward, it) => {
   const field = made('input', {type: 'text', inputMode: 'numeric', autocomplete: 'off', size: 4, ariaLabel: 'Third teller'});
-  field.addEventListener('keydown', (event) => { if (event.key === 'Enter') closeAsked(true); });
+  field.addEventListener('keydown', (event) => { if (event.key === 'Enter') { event.preventDefault(); closeAsked(true); } });
   const isSure = await askFirst(`Give batch ${it.batch} to a third teller?`, 'Yes, to this teller', made('p', {className: 'row'}, made('label', {}, 'Number of the third teller ', field)),
     `The tellers `.concat(it.clerks.map(({clerk}) => clerk).join(' and '), ' keyed it. The third one keys it too, from the papers, and stays for all later rounds. As soon as two of the three agree, the batch is agreed.'));
   const clerk = numberIn(field.value, 999);
@@ -55,6 +55,10 @@ const openBatch = async (what, it) => {
 
 const readOpened = async (it) => {
   if (opened?.batch !== it.batch) return null;
+  if (opened.what !== (it.standing === 'taken' ? 'papers' : 'differences') || it.standing === 'waiting') {
+    opened = null;
+    return null;
+  }
   const {says, why} = await read(`batches/${it.batch}/${opened.what}`);
   if (why) return [made('p', {}, why)];
   if (opened.what === 'differences') return differencesText(it, says.papers);
@@ -78,7 +82,7 @@ const actsOf = (ward, it) => {
 const batchRows = async (ward, it) => {
   const notes = [it.round > 1 ? `round ${it.round}` : '', it.doubtful_open ? many(it.doubtful_open, 'doubtful paper') : '', it.twin ? `the same papers as batch ${it.twin}: was one pile keyed as two batches?` : ''].filter(Boolean);
   const line = made('tr', {className: it.standing === 'differing' || it.twin ? 'urgent' : ''}, made('th', {scope: 'row'}, String(it.batch)), numeric(it.size),
-    made('td', {className: 'tellers'}, ...listed(it.clerks.map(tellerText), 'and')),
+    made('td', {className: 'tellers'}, ...it.clerks.flatMap((each, place) => [place ? ', ' : '', tellerText(each)])),
     made('td', {}, made('b', {className: it.standing}, STANDING_TEXTS[it.standing]), notes.length ? made('small', {}, ` ${notes.join('; ')}`) : ''), made('td', {}, actsOf(ward, it)));
   const below = await readOpened(it);
   return below ? [line, made('tr', {className: 'below'}, made('td', {colSpan: 5}, ...below))] : [line];

@@ -32,7 +32,7 @@ const sheetFigures = (text) => {
 const moved = ({gained, lost}) => (Number(gained) ? `+${gained}` : Number(lost) ? `\u2212${lost}` : '');
 
 const barOf = (votes, most, quota, standing) => {
-  const bar = made('span', {className: `bar ${standing}`});
+  const bar = made('span', {className: votes ? `bar ${standing}` : ''});
   bar.style.width = `${Math.min(100, 100 * votes / most)}%`;
   const line = made('span', {className: 'quota'});
   line.style.left = `${Math.min(100, 100 * quota / most)}%`;

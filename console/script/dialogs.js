@@ -9,15 +9,17 @@ const closeAsked = (isYes) => {
   answer(isYes);
 };
 
-// Asks before something is done. The focus is on the question, so that Enter alone does nothing; Y says yes.
+// Asks before something is done. The focus is on the question, so that Enter alone does nothing; Y says yes. If a number is asked for, the
+// focus is on its field, and Enter says yes.
 const askFirst = (title, yes, ...text) => new Promise((resolve) => {
   closeAsked(false);
   answerAsked = resolve;
   at('ask-title').replaceChildren(...[title].flat());
   at('ask-text').replaceChildren(...text.filter(Boolean).map((it) => (it instanceof Element && /^(P|UL|OL|DIV|TABLE)$/.test(it.tagName) ? it : made('p', {}, it))));
-  at('ask-yes').textContent = `${yes} (Y)`;
+  const field = at('ask-text').querySelector('input');
+  at('ask-yes').textContent = `${yes} (${field ? 'Enter' : 'Y'})`;
   at('ask').showModal();
-  at('ask-title').focus();
+  (field ?? at('ask-title')).focus();
 });
 
 const onAskKey = (event) => {

@@ -65,6 +65,7 @@ const route = () => {
     if (name === view) document.title = `${text} - Count office`;
   }
   if (isOther) {
+    if (at('result').className === 'done') at('result').hidden = true;
     scrollTo(0, 0);
     at(`${view}-title`).focus({preventScroll: true});
   }

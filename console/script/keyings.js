@@ -33,6 +33,7 @@ const bringFile = async (file) => {
 
 const bringKeyings = async (files) => {
   brought = [];
+  await refresh();
   for (const file of files) {
     brought.push(await bringFile(file));
     fill(at('brought'), made('ul', {}, ...brought.map((it) => made('li', {className: it.isWrong ? 'urgent' : ''}, made('b', {}, isolated(it.name)), ' ', it.text))));

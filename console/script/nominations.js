@@ -98,10 +98,14 @@ const addWard = async (event) => {
   return go('nominations', number);
 };
 
+// The number that was suggested last: if it wasn't changed, the next one takes its place.
+let suggested = '';
+
 const suggestNumber = (candidates) => {
-  if (at('candidate-number').value || document.activeElement === at('candidate-number')) return;
+  if (![suggested, ''].includes(at('candidate-number').value) || document.activeElement === at('candidate-number')) return;
   const free = Array.from({length: MOST_CANDIDATES}, (_, place) => place + 1).find((it) => !candidates.some(({candidate}) => candidate === it));
-  at('candidate-number').value = free ?? '';
+  suggested = String(free ?? '');
+  at('candidate-number').value = suggested;
 };
 
 DRAW.nominations = async (isNow) => {

@@ -33,10 +33,14 @@ const copyStep = () => {
 
 const stepEntry = ({ward, step}) => made('li', {className: step.isUrgent ? 'urgent' : ''},
   made('span', {className: 'what'}, made('b', {}, wardName(ward)), ': ', step.text),
-  button(step.button, () => go(step.to, ward.ward), {main: true, key: `step ${ward.ward}`, ariaLabel: `${step.button}: ward ${ward.ward}`}));
+  button(step.button, () => go(step.to, ward.ward), {main: true, key: `step ${step.to} ${ward.ward}`, ariaLabel: `${step.button}: ward ${ward.ward}`}));
+
+// A ward in which batches differ may have doubtful papers to be judged meanwhile.
+const alsoDue = ({ward}) => (ward.differing && ward.doubtful_open
+  ? [{ward, step: {rank: 2, text: `${many(ward.doubtful_open, 'doubtful paper')} to be judged`, to: 'doubtful', button: 'Judge', isUrgent: true}}] : []);
 
 const drawSteps = (steps) => {
-  const due = steps.filter(({step}) => !step.isDone && !step.isWaiting).sort((one, other) => one.step.rank - other.step.rank || one.ward.ward - other.ward.ward);
+  const due = steps.flatMap((it) => [it, ...alsoDue(it)]).filter(({step}) => !step.isDone && !step.isWaiting).sort((one, other) => one.step.rank - other.step.rank || one.ward.ward - other.ward.ward);
   const waiting = steps.filter(({step}) => step.isWaiting);
   const shown = due.slice(0, MOST_STEPS).map(stepEntry);
   if (due.length > MOST_STEPS) shown.push(made('li', {className: 'quiet'}, `and ${many(due.length - MOST_STEPS, 'more step')} below, ward by ward`));

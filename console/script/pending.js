@@ -82,14 +82,14 @@ const finish = async (order) => {
   document.body.classList.add('busy');
   const printed = await sendAsLong(order);
   unstore(PENDING + order.key);
-  current = null;
-  document.body.classList.remove('busy');
   if (printed) {
     logged(order, printed);
     if (order.words[0] === 'copy' && printed.status === 0) store('copy', {at: Date.now(), name: order.words[1]});
-    showResult(order, printed);
   }
   await refresh(true);
+  current = null;
+  document.body.classList.remove('busy');
+  if (printed) showResult(order, printed);
   return printed;
 };
 

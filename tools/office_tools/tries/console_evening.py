@@ -180,10 +180,30 @@ class Evening:
             self.adjudication(officer)
             self.counting(officer)
             self.declaring(officer)
+            self.compare()
+            self.elsewhere(browser)
             strange = [line for line in browser.said if "ERR_" not in line and "status of 401" not in line]
             if strange:
                 raise Wrong(f"the browser said {strange[:5]}")
         self.mock.close()
+
+    def compare(self):
+        """Plays the orders as they are typed, and compares all rows but the ids of receipts, and the name of the one order that was typed."""
+        typed = Office(self.folder / "typed").begin([f"{line} --id i{number}" for number, line in enumerate(TYPED)])
+        found, wanted = [dict(office.rows()) for office in (self.office, typed)]
+        for rows in (found, wanted):
+            rows["receipt"] = sorted((actor, subject, reply) for actor, _, subject, reply in rows["receipt"])
+        if differing := [name for name in wanted if found[name] != wanted[name]]:
+            raise Wrong(f"the console's office has other rows of {differing}")
+
+    def elsewhere(self, browser):
+        """A wrong code, a clerk's name, and a page from elsewhere aren't let in."""
+        for headers, wanted in (((), 401), ((f"Authorization: {basic('office', 'wrong')}",), 401), ((f"Authorization: {basic('4', CODE)}",), 401),
+                                ((f"Authorization: {basic('office', CODE)}", "Origin: http://elsewhere.example"), 403),
+                                ((f"Authorization: {basic('office', CODE)}", "Sec-Fetch-Site: cross-site"), 403),
+                                ((f"Authorization: {basic('office', CODE)}",), 200)):
+            if (found := status(ask(self.port, request("/office/wards", *headers)))) != wanted:
+                raise Wrong(f"{headers}: {found}")
 
     def nominations(self, officer):
         browser = officer.browser
@@ -255,7 +275,7 @@ class Evening:
         officer.go("overview")
         officer.shows("1 batch differs", "steps")
         officer.picture("9-overview-differs")
-        officer.click("step 7")
+        officer.click("step batches 7")
         officer.click("where 13")
         officer.shows("paper 5", "batch-list")
         officer.picture("10-where")
@@ -282,7 +302,6 @@ class Evening:
         other.open("#batches/7")
         other.click("third 13")
         other.asked("third teller")
-        other.browser.value("document.querySelector('#ask input').focus()")
         other.browser.call("Input.insertText", text="5")
         other.browser.press("Enter")
         other.shows("batch 13 third clerk 5")
@@ -297,7 +316,7 @@ class Evening:
         browser.press("1")
         officer.shows("2 doubtful papers to be judged", "steps")
         officer.picture("13-overview-doubtful")
-        officer.press_on("step 7")
+        officer.press_on("step doubtful 7")
         officer.shows("Batch 12, paper 6", "judging")
         browser.press("2")
         officer.shows("Bob", "judging")
