@@ -49,6 +49,7 @@ const drawHealth = () => {
 const draw = async () => {
   turn += 1;
   const now = turn;
+  if (!wardOf()) chosen = office.wards[0]?.ward ?? 0;
   drawTabs();
   drawPicks();
   await DRAW[view](() => now === turn);
@@ -56,15 +57,14 @@ const draw = async () => {
 
 const route = () => {
   const [part, ward] = location.hash.slice(1).split('/');
-  const isOther = part !== view;
+  const before = view;
   view = DRAW[part] ? part : 'overview';
   if (wardAt(Number(ward))) chosen = Number(ward);
-  else if (!wardOf()) chosen = office.wards[0]?.ward ?? 0;
   for (const [name, text] of TABS) {
     at(name).hidden = name !== view;
     if (name === view) document.title = `${text} - Count office`;
   }
-  if (isOther) {
+  if (view !== before) {
     if (at('result').className === 'done') at('result').hidden = true;
     scrollTo(0, 0);
     at(`${view}-title`).focus({preventScroll: true});
@@ -72,17 +72,21 @@ const route = () => {
   draw();
 };
 
-// A browser that knew more of the office than there is now sees another file, or an earlier copy.
+const isOther = () => !at('other').hidden;
+
+// An office only gains: no receipt goes, and no ward changes. If the browser saw more, this is another file, or an earlier copy.
 const compareOffice = () => {
-  const most = stored('most', 0);
-  if (office.receipts >= most) return store('most', office.receipts);
+  const seen = stored('seen', {receipts: 0, wards: []});
+  const wards = office.wards.map((it) => `${it.ward} ${it.seats} ${it.name}`);
+  const same = office.receipts >= seen.receipts && seen.wards.every((it) => wards.includes(it));
+  if (same && !isOther()) return store('seen', {receipts: office.receipts, wards});
   at('other').hidden = false;
   return at('other').replaceChildren(
     made('p', {className: 'said'}, 'This is not the office that this browser saw last.'),
-    made('p', {}, `It has ${many(office.receipts, 'accepted order')}; the one before had ${most.toLocaleString('en')}. Either another file is served, or an earlier copy. See that it is the right one.`),
+    made('p', {}, `It has ${many(office.receipts, 'accepted order')} and ${many(wards.length, 'ward')}; the one before had ${seen.receipts.toLocaleString('en')} and ${seen.wards.length}. Either another file is served, or an earlier copy. See that it is the right one.`),
     made('p', {className: 'acts'}, button('It is the right one', () => {
-      for (const name of [...storedNames('expected'), ...storedNames('draft'), 'copy', 'log']) unstore(name);
-      store('most', office.receipts);
+      for (const name of [...storedNames('expected'), ...storedNames('draft'), ...storedNames(PENDING), 'copy', 'log']) unstore(name);
+      store('seen', {receipts: office.receipts, wards: office.wards.map((it) => `${it.ward} ${it.seats} ${it.name}`)});
       at('other').hidden = true;
       refresh(true);
     })));

@@ -79,7 +79,7 @@ const wardRow = ({ward, step}) => {
   return made('tr', {className: step.isUrgent ? 'urgent' : ''},
     made('th', {scope: 'row'}, wardName(ward)),
     made('td', {className: 'phase', data: {label: ''}}, isUncontested(ward) && ward.phase === 'sealed' ? 'Uncontested' : PHASES[ward.phase]),
-    made('td', {className: 'figure', data: {label: 'expected'}}, ward.phase === 'nominations' || isKeyed ? expectedField(ward) : expectedOf(ward.ward) && isPolled ? expectedOf(ward.ward).toLocaleString('en') : '\u2013'),
+    made('td', {className: expectedOf(ward.ward) || ward.phase === 'nominations' || isKeyed ? 'figure' : 'figure none', data: {label: 'expected'}}, ward.phase === 'nominations' || isKeyed ? expectedField(ward) : expectedOf(ward.ward) && isPolled ? expectedOf(ward.ward).toLocaleString('en') : '\u2013'),
     papers('given out', ward.papers_given_out), papers('keyed', ward.papers_keyed), papers('agreed', ward.papers_agreed),
     isKeyed ? figure('batches differ', ward.differing, ward.differing ? 'bad' : '') : dash('batches differ'),
     isKeyed ? figure('doubtful open', ward.doubtful_open, ward.doubtful_open ? 'bad' : '') : dash('doubtful open'),
@@ -96,28 +96,20 @@ const sumRow = () => {
     figure('batches differ', sum('differing')), figure('doubtful open', sum('doubtful_open')), made('td', {}, ''));
 };
 
-// Who is still to key: the tellers with the batches that wait for them.
-const waitingBy = (lists) => {
-  const found = new Map();
-  for (const {batch, standing, clerks} of lists.flat()) {
-    if (standing !== 'waiting') continue;
-    for (const {clerk, keyed} of clerks) if (!keyed) found.set(clerk, [...(found.get(clerk) ?? []), batch]);
-  }
-  return [...found].sort(([, one], [, other]) => other.length - one.length);
-};
-
 const MOST_TELLERS = 40;
 
+const tellerRow = ({clerk, batches, first}) => row(made('th', {scope: 'row'}, `Teller ${clerk}`), numeric(batches), first.join(', ') + (batches > first.length ? ', ..' : ''));
+
 const drawWaiting = async (isNow) => {
-  const wards = office.wards.filter((it) => it.phase === 'keying' && it.batches > it.taken + it.differing);
-  const lists = [];
-  for (const {ward} of wards) lists.push((await readBatches(ward)).says?.batches ?? []);
+  const isAny = office.wards.some((it) => it.phase === 'keying' && it.batches > it.taken + it.differing);
+  const {says} = isAny ? await read('waiting') : {};
   if (!isNow()) return;
-  const tellers = waitingBy(lists);
-  const rows = tellers.slice(0, MOST_TELLERS).map(([clerk, batches]) => row(made('th', {scope: 'row'}, `Teller ${clerk}`), numeric(batches.length), firstOf(batches)));
+  const tellers = [...says?.waiting ?? []].sort((one, other) => other.batches - one.batches);
+  const rows = tellers.slice(0, MOST_TELLERS).map(tellerRow);
   const more = tellers.length > MOST_TELLERS ? made('p', {}, `and ${many(tellers.length - MOST_TELLERS, 'more teller')}`) : '';
   fill(at('waiting'), tellers.length ? table({className: 'plain'}, ['Teller', 'Batches', 'Numbers'], rows) : made('p', {}, 'No batch waits for a teller.'), more);
 };
+
 
 // What comes next in a sealed ward is read of it alone: the others show it by their figures.
 const stepsOf = async () => {

@@ -99,6 +99,10 @@ const order = async (title, words, files = {}) => {
     tell('refused', 'One order at a time.', `The office has not confirmed this one yet: ${current.title}.`);
     return null;
   }
+  if (isOther()) {
+    tell('refused', 'Nothing was sent.', 'This may be another office than the one before. Say above first whether it is the right one.');
+    return null;
+  }
   const key = newId();
   const sent = {key, at: Date.now(), title, words: words.map(String), files, open: false};
   store(PENDING + key, sent);
@@ -110,6 +114,7 @@ const orderWithId = (title, words, files) => order(title, [words[0], '--id', new
 
 // What was under way when the page was closed or loaded again is sent again, under its id.
 const resume = async () => {
+  if (isOther()) return;
   for (const each of pendingOrders()) await finish({...each, open: true});
 };
 

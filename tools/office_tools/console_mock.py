@@ -37,7 +37,7 @@ DUE = re.compile(r"stage (\d+) (?:comes next, (first preferences|surplus|exclusi
                  re.DOTALL)
 TARGETS = {name: re.compile(rf"/office/{pattern}") for name, pattern in {
     "page": "", "wards": "wards", "ward": r"wards/([1-9]\d{0,4})", "batches": r"wards/([1-9]\d{0,4})/batches", "index": "index",
-    "doubtful": r"wards/([1-9]\d{0,4})/doubtful", "ward_page": r"wards/([1-9]\d{0,4})/page", "leave": "leave", "orders": "orders",
+    "waiting": "waiting", "doubtful": r"wards/([1-9]\d{0,4})/doubtful", "ward_page": r"wards/([1-9]\d{0,4})/page", "leave": "leave", "orders": "orders",
     "differences": r"batches/([1-9]\d{0,4})/differences", "papers": r"batches/([1-9]\d{0,4})/papers",
     "receipts": r"receipts(?:\?actor=(0|[1-9]\d{0,4}))?"}.items()}
 STEPS = {"no batch is given out yet": "batches", "the seal comes next": "seal", "the seal comes once all are taken and judged": "papers"}
@@ -157,6 +157,16 @@ class Machine:
 
     def batches(self, ward):
         return self.with_count(batches=self.batch_list(ward), ward=int(ward))
+
+    def waiting(self):
+        found = {}
+        for line in lines(self.output("wards")):
+            ward = self.ward_of(line)
+            for pile in self.batch_list(ward["ward"]) if ward["phase"] == "keying" and ward["batches"] > ward["taken"] + ward["differing"] else ():
+                for clerk in pile["clerks"] if pile["standing"] == "waiting" else ():
+                    if not clerk["keyed"]:
+                        found.setdefault(clerk["clerk"], []).append(pile["batch"])
+        return self.with_count(waiting=[{"batches": len(piles), "clerk": clerk, "first": sorted(piles)[:12]} for clerk, piles in sorted(found.items())])
 
     def doubtful(self, ward):
         candidates, papers = self.candidates(ward), []
