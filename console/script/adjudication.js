@@ -62,12 +62,13 @@ const drawPaper = (ward, open) => {
       made('p', {className: 'which'}, `Batch ${judging.batch}, paper ${judging.paper}`),
       made('p', {}, wardName(ward), `: ${many(open.length, 'doubtful paper')} to be judged. Take this paper out of its pile, and show it to the agents.`),
       made('div', {className: 'columns'},
-        made('div', {}, made('h3', {}, `Accept. ${next}: choose a candidate`),
-          made('div', {className: 'candidates'}, ...judging.candidates.map(candidateButton)),
+        made('div', {}, made('h3', {}, `${next}: choose a candidate`),
+          made('div', {className: 'candidates'}, ...judging.candidates.map(candidateButton))),
+        made('div', {}, made('h3', {}, 'Accept it so'),
           made('div', {className: 'ballot', ariaLive: 'polite'}, judging.chosen.length ? chosenText() : made('p', {className: 'hint'}, 'Nothing is chosen yet.')),
           made('p', {className: 'acts'}, button('Accept (Enter)', accept, {key: 'accept', main: true, disabled: !judging.chosen.length}),
-            button('Undo (Backspace)', () => changeChosen(judging.chosen.slice(0, -1)), {key: 'undo', disabled: !judging.chosen.length}))),
-        made('div', {}, made('h3', {}, 'Or reject'),
+            button('Undo (Backspace)', () => changeChosen(judging.chosen.slice(0, -1)), {key: 'undo', disabled: !judging.chosen.length})),
+          made('h3', {}, 'Or reject it'),
           made('div', {className: 'rejects'}, ...[3, 4, 5].map((code) => button([made('kbd', {}, `R ${code}`), ` ${REJECTIONS[code]}`], () => reject(code), {key: `reject ${code}`}))),
           open.length > 1 ? made('p', {}, made('label', {}, 'Another paper ', otherPapers(open))) : '',
           made('p', {className: 'hint'}, 'Keys: a candidate\u2019s number chooses, Backspace takes the last one back, Enter accepts; R, then 3, 4 or 5, rejects.')))),
@@ -83,7 +84,7 @@ const otherPapers = (open) => {
 // The keys of this part: digits until they are the number of one candidate alone, Backspace, Enter, R and a code.
 const onDoubtfulKey = (event) => {
   const {key} = event;
-  if (at('judging').querySelector('.case') === null) return false;
+  if (at('judging').querySelector('.case') === null || document.body.classList.contains('stale')) return false;
   if (key === 'r' || key === 'R') judging.digits = 'r';
   else if (/^[345]$/.test(key) && judging.digits === 'r') { judging.digits = ''; reject(Number(key)); }
   else if (/^[0-9]$/.test(key)) typeDigit(key);

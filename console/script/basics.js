@@ -28,7 +28,7 @@ const numeric = (value) => made('td', {className: 'figure'}, String(value));
 // A table. The head of a column of figures is to the right, as they are.
 const table = (properties, heads, rows) => {
   const head = headRow(...heads);
-  [...head.rows[0].cells].forEach((cell, place) => cell.classList.toggle('figure', rows[0]?.cells[place]?.className === 'figure'));
+  [...head.rows[0].cells].forEach((cell, place) => cell.classList.toggle('figure', rows[0]?.cells[place]?.classList.contains('figure') === true));
   return made('div', {className: 'wide'}, made('table', properties, head, made('tbody', {}, ...rows)));
 };
 

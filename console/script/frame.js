@@ -53,17 +53,20 @@ const draw = async () => {
   drawTabs();
   drawPicks();
   await DRAW[view](() => now === turn);
+  if (now === turn) document.body.classList.remove('stale');
 };
 
 const route = () => {
   const [part, ward] = location.hash.slice(1).split('/');
-  const before = view;
+  const before = view, wardBefore = chosen;
   view = DRAW[part] ? part : 'overview';
   if (wardAt(Number(ward))) chosen = Number(ward);
   for (const [name, text] of TABS) {
     at(name).hidden = name !== view;
     if (name === view) document.title = `${text} - Count office`;
   }
+  // What is shown is of another part or ward until it was read: nothing of it is to be chosen meanwhile.
+  if (view !== before || chosen !== wardBefore) document.body.classList.add('stale');
   if (view !== before) {
     if (at('result').className === 'done') at('result').hidden = true;
     scrollTo(0, 0);

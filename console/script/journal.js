@@ -54,7 +54,7 @@ const drawReceipts = async (isNow) => {
 
 const drawLog = () => {
   const log = stored('log', []);
-  const rows = log.slice(0, 30).map((it) => row(clock(it.at), made('span', {}, it.title), made('code', {}, it.reply.trim().split('\n').at(-1) ?? '')));
+  const rows = log.slice(0, 30).map((it) => row(clock(it.at), made('span', {}, it.status ? made('b', {className: 'bad'}, 'Not done: ') : '', it.title), made('code', {}, it.reply.trim().split('\n').at(-1) ?? '')));
   fill(at('log'), rows.length ? table({className: 'plain small'}, ['At', 'Order', 'The program\u2019s reply'], rows) : made('p', {}, 'Nothing yet.'));
 };
 

@@ -102,12 +102,12 @@ const tellerRow = ({clerk, batches, first}) => row(made('th', {scope: 'row'}, `T
 
 const drawWaiting = async (isNow) => {
   const isAny = office.wards.some((it) => it.phase === 'keying' && it.batches > it.taken + it.differing);
-  const {says} = isAny ? await read('waiting') : {};
+  const {says, why} = isAny ? await read('waiting') : {};
   if (!isNow()) return;
   const tellers = [...says?.waiting ?? []].sort((one, other) => other.batches - one.batches);
   const rows = tellers.slice(0, MOST_TELLERS).map(tellerRow);
   const more = tellers.length > MOST_TELLERS ? made('p', {}, `and ${many(tellers.length - MOST_TELLERS, 'more teller')}`) : '';
-  fill(at('waiting'), tellers.length ? table({className: 'plain'}, ['Teller', 'Batches', 'Numbers'], rows) : made('p', {}, 'No batch waits for a teller.'), more);
+  fill(at('waiting'), tellers.length ? table({className: 'plain'}, ['Teller', 'Batches', 'Numbers'], rows) : made('p', {}, why ?? 'No batch waits for a teller.'), more);
 };
 
 

@@ -5,7 +5,7 @@ const check = (isRight, ...text) => made('li', {className: isRight ? 'right' : '
 const sealField = (ward) => {
   const field = expectedField(ward);
   field.dataset.key = 'expected-seal';
-  field.addEventListener('change', () => draw());
+  field.addEventListener('input', () => draw());
   return made('label', {}, 'Papers expected, by the boxes ', field);
 };
 

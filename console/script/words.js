@@ -25,7 +25,7 @@ const ordinal = (number) => ORDINALS[number - 1] ?? `${number}th`;
 const REJECTIONS = {
   1: 'no first preference', 2: 'more than one first preference', 3: 'no official mark', 4: 'voter identifiable', 5: 'void for uncertainty',
 };
-const PHASES = {nominations: 'Nominations are open', keying: 'Papers are being keyed', sealed: 'Sealed, being counted', declared: 'Declared'};
+const PHASES = {nominations: 'Nominations', keying: 'Being keyed', sealed: 'Sealed', declared: 'Declared'};
 
 const nameIn = (candidates, number) => candidates.find((it) => it.candidate === number) ?? {candidate: number, name: ''};
 const namesOf = (candidates, numbers) => numbers.map((it) => withNumber(nameIn(candidates, it)));

@@ -22,6 +22,10 @@ from office_tools.tables import Table
 from office_tools.web import ask, basic, request, status
 
 CODE, TITLE = "kf7m2wxth4dnw3hd4psn", "Election of 6 May 2027, Harbour Council"
+# Puts 9,000 batches into what the page has read of ward 1.
+FAKE = """(() => { const batches = Array.from({length: 9000}, (_, place) => ({batch: place + 1, clerks: [{clerk: 4, keyed: true}, {clerk: 9, keyed: place % 3 > 0}],
+    doubtful_open: 0, round: 1, size: 75, standing: ['waiting', 'differing', 'taken'][place % 3], twin: 0}));
+    office.reads.set('wards/1/batches', {receipts: office.receipts, found: Promise.resolve({says: {batches, ward: 1}})}); })()"""
 MARKUP = "<img src=x onerror=document.title='marked'>"
 WIDTHS = ((1280, 900), (800, 900), (400, 900))
 NAMES = ["ward,candidate,name", "7,2,Bob", "7,3,Cy", "7,4,Dee", "7,5,Gil", '8,1,"Eve, jr"', "8,2,Fay"]
@@ -86,6 +90,11 @@ class Officer:
             self.has(f"ward {part}")
             self.browser.value(f"(() => {{ const it = {self.found(f'ward {part}')}; it.value = '{ward}'; it.dispatchEvent(new Event('change')); }})()")
             self.browser.until(f"location.hash === '#{part}/{ward}'")
+        self.drawn()
+
+    def drawn(self):
+        """Waits until what is shown is of the part and the ward that were chosen last."""
+        self.browser.until("!document.body.classList.contains('stale')", 300)
 
     def found(self, key):
         return f"[...document.querySelectorAll('[data-key]')].find((it) => it.dataset.key === {json.dumps(key)} && it.offsetParent)"
@@ -296,6 +305,7 @@ class Evening:
         officer.go("overview")
         officer.shows("differ", "steps")
         officer.click(f"step batches {ward}")
+        officer.has(f"third {min(batch for batch in self.marks if batch > 12 * (ward - 1))}")
         while found := officer.browser.value("[...document.querySelectorAll('[data-key]')].map((it) => it.dataset.key).find((it) => it.startsWith('third ')) ?? ''"):
             batch = int(found.split()[1])
             officer.click(found)
@@ -314,7 +324,6 @@ class Evening:
         browser, count = officer.browser, 0
         officer.go("doubtful", ward)
         browser.value("document.activeElement.blur()")
-        browser.until("Boolean(document.getElementById('judging').innerText)")
         while (which := browser.value("document.querySelector('#judging .which')?.textContent ?? ''")):
             columns = browser.value("judging.candidates.length")
             if chance.random() < 0.4:
@@ -371,18 +380,20 @@ class Evening:
         self.start()
 
     def large(self, browser):
-        """99 wards and 9,999 batches, 9,000 of them in one ward: each part is drawn within a second, and a few rows of it at once."""
+        """99 wards and 9,999 batches: each part is drawn within a second, and a few rows of it at once; so is a ward of 9,000 made-up batches."""
         officer = Officer(browser, self)
         wards = [line for ward in range(1, 100) for line in (f"ward {ward} 3 'Ward name {ward}' --id w{ward}", *(
             f"candidate {ward} {number} 'Candidate {number}' --id c{ward}-{number}" for number in range(1, 6)), f"close {ward} --id n{ward}")]
-        batches = [f"batch {batch} {1 if batch < 9000 else batch % 99 + 1} 500 {batch % 20 * 2 + 1} {batch % 20 * 2 + 2} --id b{batch}" for batch in range(1, 10000)]
+        batches = [f"batch {batch} {batch % 99 + 1} 500 {batch % 20 * 2 + 1} {batch % 20 * 2 + 2} --id b{batch}" for batch in range(1, 10000)]
         self.another([*wards, *batches], "large")
         browser.open(self.address())
         browser.until("document.getElementById('waiting').innerText.includes('Teller 1')", 200)
         officer.picture("50-large-overview")
         spent = {part: self.seconds(officer, part) for part in ("overview", "nominations", "batches", "doubtful", "count", "journal")}
         officer.go("batches", 1)
-        officer.shows("Page 1 of", "batch-more")
+        browser.value(FAKE)
+        spent["batches, 9,000 in the ward"] = self.seconds(officer, "batches")
+        officer.shows("Page 1 of 225", "batch-more")
         officer.picture("51-large-batches")
         most = browser.value("document.querySelectorAll('tr').length")
         table = Table("part", "milliseconds to draw, its reads at hand")
