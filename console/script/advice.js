@@ -50,7 +50,7 @@ const AFTER_FAULT = {
 
 const AFTER_FILE_FAULT = {
   1: 'The first line isn\u2019t the right one. For candidates it is ward,candidate,name; for a keying it is such as paper 12/4 and the candidates\u2019 numbers. Save the file as CSV, UTF-8.',
-  2: 'This line has too many or too few commas. A name with a comma is put in double quotes.',
+  2: 'It has too many or too few commas. A name with a comma is put in double quotes.',
   3: 'Write the number in digits, without zeros in front and without spaces. Take out lines of commas alone.',
   4: 'Number the papers 1, 2, 3, .. in their order. A paper was left out, or keyed twice.',
   5: 'Look for a double quote that was opened and not closed.',
@@ -78,9 +78,11 @@ const explainedError = (errors) => {
   const line = errors.split('\n').find((it) => /(refused|fault) \d+/.test(it)) ?? errors.split('\n')[0];
   const [, refusal] = /refused (\d+): /.exec(line) ?? [];
   const [, fileFault] = /file fault (\d+)/.exec(line) ?? [];
+  const [, record] = / at record (\d+)/.exec(line) ?? [];
+  const place = fileFault && record > 0 ? `Look at line ${Number(record) + 1} of the file. ` : '';
   const [, fault] = /(?:^|: )fault (\d+): /.exec(line) ?? [];
   const todo = refusal ? AFTER_REFUSAL[refusal] : fileFault ? AFTER_FILE_FAULT[fileFault] : fault ? AFTER_FAULT[fault] : '';
-  return {line, refusal: Number(refusal ?? 0), fault: Number(fault ?? 0), todo: todo ?? 'Look this line up in Refusals and faults.'};
+  return {line, refusal: Number(refusal ?? 0), fault: Number(fault ?? 0), todo: todo ? place + todo : 'Look this line up in Refusals and faults.'};
 };
 
 // Why something can't be read, and what to do.

@@ -2,6 +2,8 @@
 
 const COPY_AFTER = 45 * 60000;
 const MOST_STEPS = 8;
+// With more wards than these, a ward has one line.
+const MOST_ROOMY = 12;
 
 const expectedOf = (ward) => stored(`expected ${ward}`, 0);
 
@@ -122,6 +124,6 @@ DRAW.overview = async (isNow) => {
   const steps = await stepsOf();
   if (!isNow()) return;
   drawSteps(steps);
-  fill(at('wards'), steps.length ? table({className: 'wards'}, WARD_HEADS, [...steps.map(wardRow), ...(steps.length > 1 ? [sumRow()] : [])]) : noWards());
+  fill(at('wards'), steps.length ? table({className: steps.length > MOST_ROOMY ? 'wards close' : 'wards'}, WARD_HEADS, [...steps.map(wardRow), ...(steps.length > 1 ? [sumRow()] : [])]) : noWards());
   await drawWaiting(isNow);
 };

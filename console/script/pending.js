@@ -74,7 +74,7 @@ const showResult = (order, {status, output, errors}) => {
   if (status === 0) return tell('refused', `Nothing was changed: ${order.title}.`, made('code', {}, note), 'This id was used before. Try once more.');
   const {line, todo} = explainedError(errors);
   const before = lines.length ? `Before that ${many(lines.length, 'part')} of it ${lines.length === 1 ? 'was' : 'were'} done.` : '';
-  return tell('refused', `Not done: ${order.title}.`, made('code', {}, line), made('b', {}, 'What to do: '), todo, before);
+  return tell('refused', `Not done: ${order.title}.`, made('code', {}, line), made('span', {}, made('b', {}, 'What to do: '), todo), before);
 };
 
 const finish = async (order) => {

@@ -10,6 +10,7 @@ go into the folder PICTURES. It needs the programs `chromium` and `node`.
 import json
 import random
 import shlex
+import time
 from pathlib import Path
 
 from office_tools.browser import Browser
@@ -619,6 +620,35 @@ class Evening:
         officer.type("receipt-search", "judge 13")
         officer.shows("batch 13 paper 6 rejected 4", "receipts")
         officer.picture("28-search")
+        self.saved(officer)
+        self.file_gone(officer)
+
+    def saved(self, officer):
+        """The journal, the ballots and the stages are saved as the orders print them; the page and the index are shown."""
+        folder = self.folder / "saved"
+        folder.mkdir()
+        officer.browser.command("Browser.setDownloadBehavior", behavior="allow", downloadPath=str(folder))
+        for key, name, words in (("save-journal", "journal.txt", ["journal"]), ("file-ballots", "ballots-7.txt", ["ballots", 7]), ("file-table", "stages-7.csv", ["table", 7])):
+            officer.click(key)
+            end = time.monotonic() + 20
+            while not (folder / name).exists() and time.monotonic() < end:
+                officer.browser.wait(0.1)
+            if (folder / name).read_text(encoding="utf-8") != self.office.do(*words):
+                raise Wrong(f"{name} isn't what the order prints")
+        for target, words in (("wards/7/page", ["page", 7]), ("index", ["index"])):
+            sends = request(f"/office/{target}", f"Authorization: {basic('office', CODE)}")
+            if self.office.do(*words, "--title", TITLE) not in ask(self.port, sends).decode():
+                raise Wrong(f"{target} isn't what the order prints")
+
+    def file_gone(self, officer):
+        """While the office can't be read, the console says so, and what to do; what it shows stays."""
+        town = self.office.folder / TOWN
+        town.rename(town.with_suffix(".away"))
+        officer.shows("fault 105", "health")
+        officer.go("overview")
+        officer.picture("29-file-gone")
+        town.with_suffix(".away").rename(town)
+        officer.browser.until("!document.getElementById('health').classList.contains('down')", 20)
 
 
 def main(pictures: Path = None):
