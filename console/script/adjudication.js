@@ -26,7 +26,8 @@ const choose = (number) => {
 // The field for each candidate that the program asks for is made here, and nowhere typed.
 const verdictOf = () => `accept:${judging.candidates.map(({candidate}) => { const place = judging.chosen.indexOf(candidate); return place < 0 ? '' : place + 1; }).join(',')}`;
 
-const chosenText = (numbers = judging.chosen) => made('ol', {className: 'names'}, ...numbers.map((it, place) => made('li', {}, `${ordinal(place + 1)} preference: `, withNumber(nameIn(judging.candidates, it)))));
+const chosenText = (numbers = judging.chosen) =>
+  made('ol', {className: 'names'}, ...numbers.map((it, place) => made('li', {}, `${ordinal(place + 1)} preference: `, withNumber(nameIn(judging.candidates, it)))));
 
 const paperName = () => `Batch ${judging.batch}, paper ${judging.paper}`;
 
@@ -37,21 +38,25 @@ const sendVerdict = async (title, verdict) => {
 };
 
 const accept = async () => {
-  if (!judging.chosen.length) return tell('refused', 'No candidate is chosen.', 'Choose whom the voter prefers first. If there is no first preference, reject the paper.');
-  const isSure = await askFirst(`${paperName()}: accept it so?`, 'Yes, accept', 'Read aloud:', chosenText(), warningText('A verdict stands. It can\u2019t be taken back.'));
+  if (!judging.chosen.length) return tell('refused', 'No candidate is chosen.',
+    'Choose whom the voter prefers first. If there is no first preference, reject the paper.');
+  const isSure = await askFirst(`${paperName()}: accept it so?`, 'Yes, accept', 'Read aloud:', chosenText(),
+    warningText('A verdict stands. It can\u2019t be taken back.'));
   if (!isSure) return undefined;
   const names = judging.chosen.map((it) => spokenName(nameIn(judging.candidates, it).name)).join(', ');
   return sendVerdict(`batch ${judging.batch}, paper ${judging.paper} accepted: ${names}`, verdictOf());
 };
 
 const reject = async (code) => {
-  const isSure = await askFirst(`${paperName()}: reject it?`, 'Yes, reject', made('p', {}, 'Read aloud: rejected, ', made('b', {}, REJECTIONS[code]), '.'), warningText('A verdict stands. It can\u2019t be taken back.'));
+  const isSure = await askFirst(`${paperName()}: reject it?`, 'Yes, reject', made('p', {}, 'Read aloud: rejected, ', made('b', {}, REJECTIONS[code]), '.'),
+    warningText('A verdict stands. It can\u2019t be taken back.'));
   if (isSure) await sendVerdict(`batch ${judging.batch}, paper ${judging.paper} rejected, ${REJECTIONS[code]}`, `reject:${code}`);
 };
 
 const candidateButton = (each) => {
   const place = judging.chosen.indexOf(each.candidate);
-  return button([made('b', {}, String(each.candidate)), ' ', isolated(each.name), place < 0 ? '' : made('span', {className: 'badge'}, String(place + 1))], () => choose(each.candidate),
+  return button([made('b', {}, String(each.candidate)), ' ', isolated(each.name), place < 0 ? '' : made('span', {className: 'badge'}, String(place + 1))],
+    () => choose(each.candidate),
     {key: `choose ${each.candidate}`, className: place < 0 ? 'candidate' : 'candidate chosen', ariaPressed: String(place >= 0)});
 };
 
@@ -69,14 +74,17 @@ const drawPaper = (ward, open) => {
           made('p', {className: 'acts'}, button('Accept (Enter)', accept, {key: 'accept', main: true, disabled: !judging.chosen.length}),
             button('Undo (Backspace)', () => changeChosen(judging.chosen.slice(0, -1)), {key: 'undo', disabled: !judging.chosen.length})),
           made('h3', {}, 'Or reject it'),
-          made('div', {className: 'rejects'}, ...[3, 4, 5].map((code) => button([made('kbd', {}, `R ${code}`), ` ${REJECTIONS[code]}`], () => reject(code), {key: `reject ${code}`}))),
+          made('div', {className: 'rejects'},
+            ...[3, 4, 5].map((code) => button([made('kbd', {}, `R ${code}`), ` ${REJECTIONS[code]}`], () => reject(code), {key: `reject ${code}`}))),
           open.length > 1 ? made('p', {}, made('label', {}, 'Another paper ', otherPapers(open))) : '',
           made('p', {className: 'hint'}, 'Keys: a candidate\u2019s number chooses, Backspace takes the last one back, Enter accepts; R, then 3, 4 or 5, rejects.')))),
   ];
 };
 
 const otherPapers = (open) => {
-  const select = made('select', {data: {key: 'other-paper'}}, ...open.slice(0, 500).map((it, place) => made('option', {value: String(place), selected: it.batch === judging.batch && it.paper === judging.paper}, `Batch ${it.batch}, paper ${it.paper}`)));
+  const select = made('select', {data: {key: 'other-paper'}},
+    ...open.slice(0, 500).map((it, place) =>
+    made('option', {value: String(place), selected: it.batch === judging.batch && it.paper === judging.paper}, `Batch ${it.batch}, paper ${it.paper}`)));
   select.addEventListener('change', () => { choosePaper(judging.ward, open[Number(select.value)]); draw(); });
   return select;
 };

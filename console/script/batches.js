@@ -20,11 +20,14 @@ const again = async (ward, it) => {
 const third = async (ward, it) => {
   const field = made('input', {type: 'text', inputMode: 'numeric', autocomplete: 'off', size: 4, ariaLabel: 'Third teller'});
   field.addEventListener('keydown', (event) => { if (event.key === 'Enter') { event.preventDefault(); closeAsked(true); } });
-  const isSure = await askFirst(`Give batch ${it.batch} to a third teller?`, 'Yes, to this teller', made('p', {className: 'row'}, made('label', {}, 'Number of the third teller ', field)),
-    `The tellers `.concat(it.clerks.map(({clerk}) => clerk).join(' and '), ' keyed it. The third one keys it too, from the papers, and stays for all later rounds. As soon as two of the three agree, the batch is agreed.'));
+  const isSure = await askFirst(`Give batch ${it.batch} to a third teller?`, 'Yes, to this teller',
+    made('p', {className: 'row'}, made('label', {}, 'Number of the third teller ', field)),
+    `The tellers `.concat(it.clerks.map(({clerk}) => clerk).join(' and '),
+      ' keyed it. The third one keys it too, from the papers, and stays for all later rounds. As soon as two of the three agree, the batch is agreed.'));
   const clerk = numberIn(field.value, 999);
   if (!isSure) return;
-  if (!clerk || it.clerks.some((each) => each.clerk === clerk)) tell('refused', 'No third teller was set.', 'Type the number, 1 to 999, of a teller who doesn\u2019t key this batch yet.');
+  if (!clerk || it.clerks.some((each) => each.clerk === clerk)) tell('refused', 'No third teller was set.',
+    'Type the number, 1 to 999, of a teller who doesn\u2019t key this batch yet.');
   else await orderWithId(`batch ${it.batch} given to teller ${clerk} as the third`, ['third', it.batch, clerk]);
 };
 
@@ -46,7 +49,8 @@ const paperText = (candidates, it) => {
   return it.state === 'open' ? 'doubtful, not judged yet' : `rejected: ${REJECTIONS[it.code]}`;
 };
 
-const papersTable = ({candidates, papers}) => table({className: 'plain'}, ['Paper', 'As it counts'], papers.map((it) => row(numeric(it.paper), paperText(candidates, it))));
+const papersTable = ({candidates, papers}) =>
+  table({className: 'plain'}, ['Paper', 'As it counts'], papers.map((it) => row(numeric(it.paper), paperText(candidates, it))));
 
 const openBatch = async (what, it) => {
   opened = opened?.batch === it.batch && opened.what === what ? null : {batch: it.batch, what};
@@ -73,17 +77,20 @@ const actsOf = (ward, it) => {
   if (it.standing === 'differing') {
     acts.push(button('Where?', () => openBatch('differences', it), {key: `where ${it.batch}`, ariaLabel: `Where batch ${it.batch} differs`}));
     acts.push(button('Key again', () => again(ward, it), {key: `again ${it.batch}`, ariaLabel: `Key batch ${it.batch} again`, main: it.clerks.length > 2}));
-    if (it.clerks.length < 3) acts.push(button('Third teller', () => third(ward, it), {key: `third ${it.batch}`, ariaLabel: `Third teller for batch ${it.batch}`, main: true}));
+    if (it.clerks.length < 3) acts.push(button('Third teller', () => third(ward, it),
+      {key: `third ${it.batch}`, ariaLabel: `Third teller for batch ${it.batch}`, main: true}));
   }
   if (it.standing === 'taken') acts.push(button('Read back', () => openBatch('papers', it), {key: `papers ${it.batch}`, ariaLabel: `Read back batch ${it.batch}`}));
   return made('span', {className: 'acts'}, ...acts);
 };
 
 const batchRows = async (ward, it) => {
-  const notes = [it.round > 1 ? `round ${it.round}` : '', it.doubtful_open ? many(it.doubtful_open, 'doubtful paper') : '', it.twin ? `the same papers as batch ${it.twin}: was one pile keyed as two batches?` : ''].filter(Boolean);
+  const notes = [it.round > 1 ? `round ${it.round}` : '', it.doubtful_open ? many(it.doubtful_open, 'doubtful paper') : '',
+    it.twin ? `the same papers as batch ${it.twin}: was one pile keyed as two batches?` : ''].filter(Boolean);
   const line = made('tr', {className: it.standing === 'differing' || it.twin ? 'urgent' : ''}, made('th', {scope: 'row'}, String(it.batch)), numeric(it.size),
     made('td', {className: 'tellers'}, ...it.clerks.flatMap((each, place) => [place ? ', ' : '', tellerText(each)])),
-    made('td', {}, made('b', {className: it.standing}, STANDING_TEXTS[it.standing]), notes.length ? made('small', {}, ` ${notes.join('; ')}`) : ''), made('td', {}, actsOf(ward, it)));
+    made('td', {}, made('b', {className: it.standing}, STANDING_TEXTS[it.standing]), notes.length ? made('small', {}, ` ${notes.join('; ')}`) : ''),
+      made('td', {}, actsOf(ward, it)));
   const below = await readOpened(it);
   return below ? [line, made('tr', {className: 'below'}, made('td', {colSpan: 5}, ...below))] : [line];
 };
@@ -98,8 +105,10 @@ const drawFilter = (batches) => {
   const countOf = (standing) => batches.filter((it) => !standing || it.standing === standing).length;
   const search = made('input', {type: 'search', size: 8, autocomplete: 'off', value: filter.search, data: {key: 'search'}});
   search.addEventListener('input', () => { Object.assign(filter, {search: search.value, page: 0}); draw(); });
-  fill(at('batch-filter'), ...STANDINGS.map(([standing, text]) => button(`${text}: ${countOf(standing).toLocaleString('en')}`, () => { Object.assign(filter, {standing, page: 0}); draw(); },
-    {key: `filter ${standing}`, className: filter.standing === standing ? 'here' : '', ariaPressed: String(filter.standing === standing)})), made('label', {}, 'Batch or teller ', search));
+  fill(at('batch-filter'), ...STANDINGS.map(([standing, text]) =>
+    button(`${text}: ${countOf(standing).toLocaleString('en')}`, () => { Object.assign(filter, {standing, page: 0}); draw(); },
+    {key: `filter ${standing}`, className: filter.standing === standing ? 'here' : '', ariaPressed: String(filter.standing === standing)})),
+      made('label', {}, 'Batch or teller ', search));
 };
 
 const drawPages = (count) => {
@@ -116,7 +125,9 @@ DRAW.batches = async (isNow) => {
   const {says, why} = isPolled ? await readBatches(ward.ward) : {};
   if (!isNow()) return;
   at('give').hidden = at('bring').hidden = ward?.phase !== 'keying';
-  const note = !ward ? 'There is no ward yet.' : why ?? (ward.phase === 'nominations' ? 'Nominations are open: batches are given out once they are closed.' : isUncontested(ward) ? 'This ward is uncontested, so it has no papers.' : '');
+  const note = !ward ? 'There is no ward yet.' : why
+    ?? (ward.phase === 'nominations' ? 'Nominations are open: batches are given out once they are closed.' : isUncontested(ward)
+    ? 'This ward is uncontested, so it has no papers.' : '');
   const {batches = []} = says ?? {};
   const progress = isPolled ? `${batchesOf(batches.length)}, ${papersOf(ward.papers_given_out)}${expectedOf(ward.ward) ? ` of ${expectedOf(ward.ward).toLocaleString('en')} expected` : ''}; ${papersOf(ward.papers_agreed)} agreed.` : '';
   fill(at('batches-note'), note || progress);
@@ -130,6 +141,7 @@ DRAW.batches = async (isNow) => {
   filter.page = Math.min(filter.page, Math.max(0, Math.ceil(shown.length / ON_PAGE) - 1));
   const rows = await Promise.all(shown.slice(filter.page * ON_PAGE, (filter.page + 1) * ON_PAGE).map((it) => batchRows(ward, it)));
   if (!isNow()) return undefined;
-  fill(at('batch-list'), rows.length ? table({className: 'batches'}, ['Batch', 'Papers', 'Tellers', 'How it stands', ''], rows.flat()) : made('p', {}, 'No batch is like this.'));
+  fill(at('batch-list'), rows.length ? table({className: 'batches'}, ['Batch', 'Papers', 'Tellers', 'How it stands', ''], rows.flat())
+    : made('p', {}, 'No batch is like this.'));
   return drawPages(shown.length);
 };

@@ -48,9 +48,13 @@ const stageTable = (stages, place, quota) => {
   const most = Math.max(Number(quota), ...stages.flatMap((stage) => stage.candidates.map((it) => Number(it.votes)))) * 1.02;
   const {candidates, sums} = stages[place];
   const before = place ? stages[place - 1].candidates : [];
-  const rows = candidates.map((it, index) => made('tr', {className: it.standing}, made('th', {scope: 'row'}, withNumber(it)), made('td', {className: 'chart'}, barOf(Number(it.votes), most, Number(quota), it.standing)),
+  const rows = candidates.map((it, index) =>
+    made('tr', {className: it.standing}, made('th', {scope: 'row'}, withNumber(it)),
+    made('td', {className: 'chart'}, barOf(Number(it.votes), most, Number(quota), it.standing)),
     numeric(it.votes), made('td', {className: 'figure small'}, place ? moved(it) : ''), made('td', {}, wordOf(it, before[index]))));
-  const others = sums.map((it) => made('tr', {className: 'others'}, made('th', {scope: 'row'}, it.name), made('td', {}, ''), numeric(it.votes), made('td', {className: 'figure small'}, place ? moved(it) : ''), made('td', {}, '')));
+  const others = sums.map((it) =>
+    made('tr', {className: 'others'}, made('th', {scope: 'row'}, it.name), made('td', {}, ''), numeric(it.votes),
+    made('td', {className: 'figure small'}, place ? moved(it) : ''), made('td', {}, '')));
   return table({className: 'stage'}, ['Candidate', `Votes; the line is the quota, ${quota}`, 'Votes', place ? 'At this stage' : '', 'Standing'], [...rows, ...others]);
 };
 
@@ -68,7 +72,8 @@ const drawChart = async (ward) => {
   const {valid, quota, rejected} = sheetFigures(sheet.output);
   const stages = stagesIn(stageList.output, says.candidates);
   const total = rejected.reduce((sum, [, count]) => sum + count, 0);
-  const figures = made('p', {className: 'figures'}, made('span', {}, made('b', {}, valid.toLocaleString('en')), ' valid papers'), made('span', {}, made('b', {}, total.toLocaleString('en')), ` rejected (${rejectedText(rejected)})`),
+  const figures = made('p', {className: 'figures'}, made('span', {}, made('b', {}, valid.toLocaleString('en')), ' valid papers'),
+    made('span', {}, made('b', {}, total.toLocaleString('en')), ` rejected (${rejectedText(rejected)})`),
     made('span', {}, made('b', {}, quota), ' quota'), made('span', {}, made('b', {}, String(ward.seats)), ward.seats === 1 ? ' seat' : ' seats'));
   if (!stages.length) return [figures];
   if (shown.ward !== ward.ward) Object.assign(shown, {ward: ward.ward, stage: 0});

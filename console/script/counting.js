@@ -12,14 +12,16 @@ const actionText = (next, candidates) => {
 };
 
 const advance = async (ward, next, candidates) => {
-  const isSure = await askFirst(`Count stage ${next.stage}?`, 'Yes, count it', made('p', {}, wardName(ward)), made('p', {}, 'At this stage ', ...actionText(next, candidates), '.'), 'A stage stands once it is counted.');
+  const isSure = await askFirst(`Count stage ${next.stage}?`, 'Yes, count it', made('p', {}, wardName(ward)),
+    made('p', {}, 'At this stage ', ...actionText(next, candidates), '.'), 'A stage stands once it is counted.');
   if (!isSure) return;
   shown.stage = 0;
   await orderWithId(`stage ${next.stage} of ward ${ward.ward} counted`, ['advance', ward.ward]);
 };
 
 const countOn = async (ward, next) => {
-  const isSure = await askFirst(`Count from stage ${next.stage} on?`, 'Yes, count on', made('p', {}, wardName(ward)), 'Stage after stage is counted, up to the next lot or the end. Look at each afterwards with the buttons beside its name.', 'Stages stand once they are counted.');
+  const isSure = await askFirst(`Count from stage ${next.stage} on?`, 'Yes, count on', made('p', {}, wardName(ward)),
+    'Stage after stage is counted, up to the next lot or the end. Look at each afterwards with the buttons beside its name.', 'Stages stand once they are counted.');
   if (!isSure) return;
   shown.stage = 0;
   await orderWithId(`ward ${ward.ward} counted up to a lot or the end`, ['count', ward.ward]);
@@ -32,9 +34,12 @@ const lotTexts = {
 
 const recordLot = async (ward, next, candidates) => {
   const who = nameIn(candidates, drawn.candidate);
-  const isSure = await askFirst('Record this lot?', 'Yes, record it', made('p', {}, wardName(ward), `, stage ${next.stage}: the lot was drawn among `, ...listed(namesOf(candidates, next.tied)), '.'),
-    made('p', {className: 'said'}, withNumber(who), ` ${lotTexts[next.decides][1]}.`), warningText('Read it aloud before the witnesses. A lot can\u2019t be taken back.'));
-  if (isSure) await orderWithId(`lot at stage ${next.stage} of ward ${ward.ward}: ${who.candidate} ${spokenName(who.name)}`, ['lot', ward.ward, next.stage, who.candidate]);
+  const isSure = await askFirst('Record this lot?', 'Yes, record it',
+    made('p', {}, wardName(ward), `, stage ${next.stage}: the lot was drawn among `, ...listed(namesOf(candidates, next.tied)), '.'),
+    made('p', {className: 'said'}, withNumber(who), ` ${lotTexts[next.decides][1]}.`),
+      warningText('Read it aloud before the witnesses. A lot can\u2019t be taken back.'));
+  if (isSure) await orderWithId(`lot at stage ${next.stage} of ward ${ward.ward}: ${who.candidate} ${spokenName(who.name)}`,
+    ['lot', ward.ward, next.stage, who.candidate]);
 };
 
 const drawLot = (ward, next, candidates) => {
@@ -46,7 +51,8 @@ const drawLot = (ward, next, candidates) => {
   });
   return [
     made('p', {className: 'said'}, `Next: a lot. Stage ${next.stage} waits for it.`),
-    made('p', {}, ...listed(namesOf(candidates, next.tied)), ' had equal votes at every stage. Draw the lot before witnesses, as the law asks. Then choose whom it names.'),
+    made('p', {}, ...listed(namesOf(candidates, next.tied)),
+      ' had equal votes at every stage. Draw the lot before witnesses, as the law asks. Then choose whom it names.'),
     made('fieldset', {}, made('legend', {}, lotTexts[next.decides][0]), ...choices),
     made('p', {className: 'acts'}, button('Record the lot', () => recordLot(ward, next, candidates), {key: 'lot', main: true, disabled: !drawn.candidate})),
   ];
@@ -54,10 +60,12 @@ const drawLot = (ward, next, candidates) => {
 
 const drawStage = (ward, next, candidates) => [
   made('p', {className: 'said'}, `Next: stage ${next.stage}`), made('p', {}, 'At this stage ', ...actionText(next, candidates), '.'),
-  made('p', {className: 'acts'}, button(`Count stage ${next.stage}`, () => advance(ward, next, candidates), {key: 'advance', main: true}), button('Count up to the next lot or the end', () => countOn(ward, next), {key: 'count'})),
+  made('p', {className: 'acts'}, button(`Count stage ${next.stage}`, () => advance(ward, next, candidates), {key: 'advance', main: true}),
+    button('Count up to the next lot or the end', () => countOn(ward, next), {key: 'count'})),
 ];
 
-const notYet = (ward) => [made('p', {className: 'said'}, 'Nominations are open: nothing is to be counted yet.'), made('p', {className: 'acts'}, button('To the nominations', () => go('nominations'), {key: 'to-nominations', main: true}))];
+const notYet = (ward) => [made('p', {className: 'said'}, 'Nominations are open: nothing is to be counted yet.'),
+  made('p', {className: 'acts'}, button('To the nominations', () => go('nominations'), {key: 'to-nominations', main: true}))];
 
 const drawNow = (ward, {next, candidates}) => {
   if (ward.phase === 'nominations') return notYet(ward);

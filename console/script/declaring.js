@@ -9,10 +9,12 @@ const electedNow = async (ward, candidates) => {
 
 const nameList = (candidates, numbers) => made('ol', {className: 'names'}, ...numbers.map((it) => made('li', {}, withNumber(nameIn(candidates, it)))));
 
-const emptyText = (ward, elected) => (ward.seats > elected.length ? made('p', {}, `${many(ward.seats - elected.length, 'seat')} ${ward.seats - elected.length === 1 ? 'stays' : 'stay'} empty.`) : '');
+const emptyText = (ward, elected) =>
+  (ward.seats > elected.length ? made('p', {}, `${many(ward.seats - elected.length, 'seat')} ${ward.seats - elected.length === 1 ? 'stays' : 'stay'} empty.`) : '');
 
 const declare = async (ward, candidates, elected) => {
-  const isSure = await askFirst(['Declare the result of ', wardName(ward), '?'], 'Yes, declare it', 'Elected:', nameList(candidates, elected), emptyText(ward, elected) || null, warningText('A declaration can\u2019t be taken back.'));
+  const isSure = await askFirst(['Declare the result of ', wardName(ward), '?'], 'Yes, declare it', 'Elected:', nameList(candidates, elected),
+    emptyText(ward, elected) || null, warningText('A declaration can\u2019t be taken back.'));
   if (isSure) await orderWithId(`ward ${ward.ward} ${spokenName(ward.name)} declared`, ['declare', ward.ward]);
 };
 
@@ -20,14 +22,16 @@ const drawDeclare = async (ward, candidates) => {
   const elected = await electedNow(ward, candidates);
   return [
     made('p', {className: 'said'}, isUncontested(ward) ? 'Next: the declaration. The ward is uncontested.' : 'Next: the declaration. The count is finished.'),
-    made('p', {}, elected.length === 1 ? 'This candidate will be declared elected:' : 'These candidates will be declared elected:'), nameList(candidates, elected), emptyText(ward, elected),
+    made('p', {}, elected.length === 1 ? 'This candidate will be declared elected:' : 'These candidates will be declared elected:'), nameList(candidates, elected),
+      emptyText(ward, elected),
     made('p', {className: 'acts'}, button('Declare the result', () => declare(ward, candidates, elected), {key: 'declare', main: true, disabled: !elected.length})),
   ];
 };
 
 const drawDeclared = (ward, candidates) => [
   made('div', {className: 'aloud'}, made('h3', {}, 'To read aloud'),
-    made('p', {}, 'I declare that ', ...listed(ward.elected.map((it) => made('b', {}, isolated(nameIn(candidates, it).name)))), ward.elected.length === 1 ? ' is' : ' are', ' duly elected for ', made('b', {}, isolated(ward.name)), '.'),
+    made('p', {}, 'I declare that ', ...listed(ward.elected.map((it) => made('b', {}, isolated(nameIn(candidates, it).name)))),
+      ward.elected.length === 1 ? ' is' : ' are', ' duly elected for ', made('b', {}, isolated(ward.name)), '.'),
     isUncontested(ward) ? made('p', {}, 'No poll was held: there were no more candidates than seats.') : '', emptyText(ward, ward.elected)),
 ];
 

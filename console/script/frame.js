@@ -23,7 +23,8 @@ const go = (part, ward = chosen) => {
 const drawTabs = () => {
   const open = {doubtful: office.wards.reduce((sum, it) => sum + it.doubtful_open, 0), batches: office.wards.reduce((sum, it) => sum + it.differing, 0)};
   fill(at('tabs'), TABS.map(([part, text], place) => button(
-    [made('kbd', {}, String(place + 1)), ` ${text}`, open[part] ? made('span', {className: 'badge', title: part === 'batches' ? 'batches that differ' : 'open'}, String(open[part])) : ''],
+    [made('kbd', {}, String(place + 1)), ` ${text}`,
+      open[part] ? made('span', {className: 'badge', title: part === 'batches' ? 'batches that differ' : 'open'}, String(open[part])) : ''],
     () => go(part), {key: `tab ${part}`, className: part === view ? 'here' : '', ariaCurrent: part === view ? 'page' : null})));
 };
 

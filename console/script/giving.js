@@ -42,7 +42,8 @@ const drawGiven = () => {
   const isEmpty = !at('give-from').value.trim() && !at('give-clerks').value.trim();
   const {list, why} = givenBatches();
   if (!ward || isEmpty) return fill(at('give-preview'));
-  return fill(at('give-preview'), list ? [made('p', {className: 'said'}, sumText(list)), givenTable(list), expectedText(ward, list)] : made('p', {className: 'hint'}, why));
+  return fill(at('give-preview'),
+    list ? [made('p', {className: 'said'}, sumText(list)), givenTable(list), expectedText(ward, list)] : made('p', {className: 'hint'}, why));
 };
 
 // One batch is an order of its own. Several are one script, each of its lines with an id of its own.

@@ -29,12 +29,14 @@ const drawCopies = () => {
 const drawFiles = () => {
   const sealed = office.wards.filter((it) => it.phase === 'sealed' || it.phase === 'declared');
   const counted = sealed.filter((it) => !isUncontested(it));
-  const select = made('select', {ariaLabel: 'Ward', data: {key: 'file-ward'}}, ...counted.map((it) => made('option', {value: String(it.ward)}, `${it.ward} ${spokenName(it.name)}`)));
+  const select = made('select', {ariaLabel: 'Ward', data: {key: 'file-ward'}},
+    ...counted.map((it) => made('option', {value: String(it.ward)}, `${it.ward} ${spokenName(it.name)}`)));
   fill(at('files'),
     made('p', {}, 'The journal has every order that was accepted. The text alone makes the office again. Keep it from the tellers: it shows what each of them keyed.'),
     made('p', {className: 'acts'}, button('Save the journal', () => saveOutput('journal.txt', 'text/plain', 'journal'), {key: 'save-journal'}),
       button('Open the index of all wards', () => openPage('index'), {key: 'index'})),
-    counted.length ? made('p', {className: 'acts'}, made('label', {}, 'Ward ', select), button('Save its ballots', () => saveOutput(`ballots-${select.value}.txt`, 'text/plain', 'ballots', select.value), {key: 'file-ballots'}),
+    counted.length ? made('p', {className: 'acts'}, made('label', {}, 'Ward ', select),
+      button('Save its ballots', () => saveOutput(`ballots-${select.value}.txt`, 'text/plain', 'ballots', select.value), {key: 'file-ballots'}),
       button('Save its stages, for a spreadsheet', () => saveOutput(`stages-${select.value}.csv`, 'text/csv', 'table', select.value), {key: 'file-table'})) : '');
 };
 
@@ -54,7 +56,9 @@ const drawReceipts = async (isNow) => {
 
 const drawLog = () => {
   const log = stored('log', []);
-  const rows = log.slice(0, 30).map((it) => row(clock(it.at), made('span', {}, it.status ? made('b', {className: 'bad'}, 'Not done: ') : '', it.title), made('code', {}, it.reply.trim().split('\n').at(-1) ?? '')));
+  const rows = log.slice(0, 30).map((it) =>
+    row(clock(it.at), made('span', {}, it.status ? made('b', {className: 'bad'}, 'Not done: ') : '', it.title),
+    made('code', {}, it.reply.trim().split('\n').at(-1) ?? '')));
   fill(at('log'), rows.length ? table({className: 'plain small'}, ['At', 'Order', 'The program\u2019s reply'], rows) : made('p', {}, 'Nothing yet.'));
 };
 

@@ -25,7 +25,8 @@ const bringFile = async (file) => {
   const round = await roundOf(heading.batch);
   if (!round) return {name: file.name, text: `is of batch ${heading.batch}, which no ward in keying has.`, isWrong: true};
   const name = `k${heading.clerk}-${heading.batch}.csv`;
-  const printed = await order(`the keying of batch ${heading.batch}, round ${round}, by teller ${heading.clerk}`, ['import-keying', heading.clerk, heading.batch, round, name, '--id', newId()], {[name]: text});
+  const printed = await order(`the keying of batch ${heading.batch}, round ${round}, by teller ${heading.clerk}`,
+    ['import-keying', heading.clerk, heading.batch, round, name, '--id', newId()], {[name]: text});
   const what = `batch ${heading.batch}, teller ${heading.clerk}, round ${round}`;
   if (isAccepted(printed)) return {name: file.name, text: `${what}: accepted`};
   return {name: file.name, text: `${what}: ${printed ? `${explainedError(printed.errors).line}. ${explainedError(printed.errors).todo}` : 'not sent'}`, isWrong: true};

@@ -29,14 +29,16 @@ const dropCandidates = async ([file]) => {
   const [header, ...records] = csvRows(text);
   const seen = new Set();
   const isHeaded = String(header) === 'ward,candidate,name';
-  dropped = {name: file.name, text, records: records.map((record) => ({record, fault: faultOf(record, seen)})), fault: isHeaded ? '' : 'The first line has to be: ward,candidate,name'};
+  dropped = {name: file.name, text, records: records.map((record) => ({record, fault: faultOf(record, seen)})),
+    fault: isHeaded ? '' : 'The first line has to be: ward,candidate,name'};
   drawPreview();
   at('preview').scrollIntoView({block: 'nearest'});
 };
 
 const sendDropped = async () => {
   const {text, records, name} = dropped;
-  const printed = await order(`${many(records.length, 'candidate')} from the file ${name}`, ['import-candidates', 'candidates.csv', '--id', newId()], {'candidates.csv': text});
+  const printed = await order(`${many(records.length, 'candidate')} from the file ${name}`, ['import-candidates', 'candidates.csv', '--id', newId()],
+    {'candidates.csv': text});
   if (isAccepted(printed)) dropped = null;
   drawPreview();
 };
@@ -47,23 +49,29 @@ const drawPreview = () => {
   const {records, fault, name} = dropped;
   const wrong = records.filter((it) => it.fault);
   const shown = [...wrong, ...records.filter((it) => !it.fault)].slice(0, SHOWN_RECORDS);
-  const rows = shown.map((it) => made('tr', {className: it.fault ? 'urgent' : ''}, numeric(records.indexOf(it) + 1), numeric(it.record[0] ?? ''), numeric(it.record[1] ?? ''), made('td', {}, isolated(it.record[2])), made('td', {}, it.fault || 'as it will be added')));
+  const rows = shown.map((it) =>
+    made('tr', {className: it.fault ? 'urgent' : ''}, numeric(records.indexOf(it) + 1), numeric(it.record[0] ?? ''), numeric(it.record[1] ?? ''),
+    made('td', {}, isolated(it.record[2])), made('td', {}, it.fault || 'as it will be added')));
   const more = records.length > shown.length ? made('p', {}, `and ${many(records.length - shown.length, 'more line')}`) : '';
   const sends = !fault && !wrong.length && records.length;
   return fill(at('preview'), made('h3', {}, `From ${name}: ${many(records.length, 'candidate')}`),
     fault ? warningText(fault) : '', wrong.length ? warningText(`${many(wrong.length, 'line')} can\u2019t be added. Correct the file, and drop it again.`) : '',
-    made('div', {className: 'acts'}, button(`Add ${records.length === 1 ? 'this candidate' : `these ${records.length} candidates`}`, sendDropped, {main: true, key: 'send-file', disabled: !sends}), button('Put the file away', () => { dropped = null; drawPreview(); }, {key: 'put-away'})),
+    made('div', {className: 'acts'},
+      button(`Add ${records.length === 1 ? 'this candidate' : `these ${records.length} candidates`}`, sendDropped, {main: true, key: 'send-file', disabled: !sends}),
+      button('Put the file away', () => { dropped = null; drawPreview(); }, {key: 'put-away'})),
     table({className: 'plain'}, ['Line', 'Ward', 'Number', 'Name', ''], rows), more);
 };
 
 const withdraw = async (ward, each) => {
-  const isSure = await askFirst(['Withdraw ', withNumber(each), '?'], 'Yes, withdraw', made('p', {}, wardName(ward)), 'The number becomes free again. The candidate can be added anew until nominations close.');
+  const isSure = await askFirst(['Withdraw ', withNumber(each), '?'], 'Yes, withdraw', made('p', {}, wardName(ward)),
+    'The number becomes free again. The candidate can be added anew until nominations close.');
   if (isSure) await orderWithId(`candidate ${each.candidate} ${spokenName(each.name)} of ward ${ward.ward} withdrawn`, ['withdraw', ward.ward, each.candidate]);
 };
 
 const closeNominations = async (ward, candidates) => {
   const isPolled = candidates.length > ward.seats;
-  const outcome = isPolled ? `There are more candidates than seats, so the ward will be polled.` : `There are no more candidates than seats, so there will be no poll: ${candidates.length === 1 ? 'the one candidate is' : 'all of them are'} elected.`;
+  const outcome = isPolled ? `There are more candidates than seats, so the ward will be polled.`
+    : `There are no more candidates than seats, so there will be no poll: ${candidates.length === 1 ? 'the one candidate is' : 'all of them are'} elected.`;
   const isSure = await askFirst(['Close nominations of ', wardName(ward), '?'], 'Yes, close nominations',
     made('p', {}, `${many(candidates.length, 'candidate')} for ${many(ward.seats, 'seat')}. Read the names aloud:`),
     made('ol', {className: 'names'}, ...candidates.map((it) => made('li', {}, withNumber(it)))), made('p', {}, made('b', {}, outcome)),
@@ -72,7 +80,8 @@ const closeNominations = async (ward, candidates) => {
 };
 
 const candidateRow = (ward, isOpen) => (each) => row(numeric(each.candidate), isolated(each.name),
-  isOpen ? button('Withdraw', () => withdraw(ward, each), {key: `withdraw ${each.candidate}`, ariaLabel: `Withdraw candidate ${each.candidate} ${spokenName(each.name)}`}) : '');
+  isOpen ? button('Withdraw', () => withdraw(ward, each),
+    {key: `withdraw ${each.candidate}`, ariaLabel: `Withdraw candidate ${each.candidate} ${spokenName(each.name)}`}) : '');
 
 const addCandidate = async (event) => {
   event.preventDefault();
@@ -89,8 +98,10 @@ const addCandidate = async (event) => {
 const addWard = async (event) => {
   event.preventDefault();
   const number = numberIn(at('ward-number').value, 99), seats = numberIn(at('ward-seats').value, 15), name = at('ward-name').value.trim();
-  if (!number || !seats || !isName(name)) return tell('refused', 'The ward isn\u2019t complete.', 'A ward\u2019s number is 1 to 99, it has 1 to 15 seats, and a name of 1 to 120 bytes.');
-  const isSure = await askFirst(['Add ward ', String(number), ' ', isolated(name), '?'], 'Yes, add the ward', `It elects ${seats}. Its number, its seats and its name can\u2019t be changed afterwards.`);
+  if (!number || !seats || !isName(name)) return tell('refused', 'The ward isn\u2019t complete.',
+    'A ward\u2019s number is 1 to 99, it has 1 to 15 seats, and a name of 1 to 120 bytes.');
+  const isSure = await askFirst(['Add ward ', String(number), ' ', isolated(name), '?'], 'Yes, add the ward',
+    `It elects ${seats}. Its number, its seats and its name can\u2019t be changed afterwards.`);
   if (!isSure) return undefined;
   const printed = await orderWithId(`ward ${number} ${spokenName(name)} added`, ['ward', number, seats, name]);
   if (!isAccepted(printed)) return undefined;
@@ -117,8 +128,10 @@ DRAW.nominations = async (isNow) => {
   if (!says) return fill(at('nominated'), made('p', {}, why ?? 'There is no ward yet. Add the first one below.'));
   const {candidates} = says;
   if (isOpen) suggestNumber(candidates);
-  const state = isOpen ? `${many(candidates.length, 'candidate')} for ${many(ward.seats, 'seat')} so far` : `Nominations are closed: ${many(candidates.length, 'candidate')} for ${many(ward.seats, 'seat')}${isUncontested(ward) ? ', uncontested' : ''}`;
+  const state = isOpen ? `${many(candidates.length, 'candidate')} for ${many(ward.seats, 'seat')} so far`
+    : `Nominations are closed: ${many(candidates.length, 'candidate')} for ${many(ward.seats, 'seat')}${isUncontested(ward) ? ', uncontested' : ''}`;
   fill(at('nominated'), made('p', {className: 'said'}, wardName(ward), `: ${state}`),
-    isOpen ? made('p', {className: 'acts'}, button('Close nominations', () => closeNominations(ward, candidates), {key: 'close', main: candidates.length > 0, disabled: !candidates.length})) : '',
+    isOpen ? made('p', {className: 'acts'},
+      button('Close nominations', () => closeNominations(ward, candidates), {key: 'close', main: candidates.length > 0, disabled: !candidates.length})) : '',
     candidates.length ? table({className: 'plain'}, ['Number', 'Name', ''], candidates.map(candidateRow(ward, isOpen))) : '');
 };

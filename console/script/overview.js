@@ -10,13 +10,16 @@ const expectedOf = (ward) => stored(`expected ${ward}`, 0);
 // What a ward needs next: how urgent it is, what it is in words, and where it is done.
 const stepOf = (ward, next) => {
   const {phase} = ward;
-  if (phase === 'nominations') return {rank: 5, text: ward.candidates ? `${many(ward.candidates, 'candidate')} so far; close nominations when all are in` : 'Add its candidates', to: 'nominations', button: 'Nominations'};
+  if (phase === 'nominations') return {rank: 5,
+    text: ward.candidates ? `${many(ward.candidates, 'candidate')} so far; close nominations when all are in` : 'Add its candidates', to: 'nominations',
+    button: 'Nominations'};
   if (phase === 'declared') return {rank: 9, text: 'Declared', to: 'count', button: 'Result', isDone: true};
   if (phase === 'sealed' && isUncontested(ward)) return {rank: 4, text: 'Uncontested: declare the result', to: 'count', button: 'Declare'};
   if (phase === 'sealed' && next?.step === 'lot') return {rank: 2, text: `Stage ${next.stage} waits for a lot`, to: 'count', button: 'Draw the lot', isUrgent: true};
   if (phase === 'sealed' && next?.step === 'declaration') return {rank: 4, text: 'The count is finished: declare the result', to: 'count', button: 'Declare'};
   if (phase === 'sealed') return {rank: 4, text: next?.stage ? `Count stage ${next.stage}` : 'Count the next stage', to: 'count', button: 'Count'};
-  if (ward.differing) return {rank: 1, text: `${batchesOf(ward.differing)} ${ward.differing === 1 ? 'differs' : 'differ'}: key again, or a third teller`, to: 'batches', button: 'Settle', isUrgent: true};
+  if (ward.differing) return {rank: 1, text: `${batchesOf(ward.differing)} ${ward.differing === 1 ? 'differs' : 'differ'}: key again, or a third teller`,
+    to: 'batches', button: 'Settle', isUrgent: true};
   if (ward.doubtful_open) return {rank: 2, text: `${many(ward.doubtful_open, 'doubtful paper')} to be judged`, to: 'doubtful', button: 'Judge', isUrgent: true};
   if (!ward.batches) return {rank: 5, text: 'Give out its batches', to: 'batches', button: 'Give out'};
   const waiting = ward.batches - ward.taken;
@@ -42,13 +45,17 @@ const alsoDue = ({ward}) => (ward.differing && ward.doubtful_open
   ? [{ward, step: {rank: 2, text: `${many(ward.doubtful_open, 'doubtful paper')} to be judged`, to: 'doubtful', button: 'Judge', isUrgent: true}}] : []);
 
 const drawSteps = (steps) => {
-  const due = steps.flatMap((it) => [it, ...alsoDue(it)]).filter(({step}) => !step.isDone && !step.isWaiting).sort((one, other) => one.step.rank - other.step.rank || one.ward.ward - other.ward.ward);
+  const due = steps.flatMap((it) => [it, ...alsoDue(it)]).filter(({step}) => !step.isDone && !step.isWaiting).sort((one, other) =>
+    one.step.rank - other.step.rank || one.ward.ward - other.ward.ward);
   const waiting = steps.filter(({step}) => step.isWaiting);
   const shown = due.slice(0, MOST_STEPS).map(stepEntry);
   if (due.length > MOST_STEPS) shown.push(made('li', {className: 'quiet'}, `and ${many(due.length - MOST_STEPS, 'more step')} below, ward by ward`));
-  if (!due.length && waiting.length) shown.push(made('li', {className: 'quiet'}, `Wait: ${batchesOf(waiting.reduce((sum, {ward}) => sum + ward.batches - ward.taken, 0))} being keyed. Nothing is for you to do.`));
-  if (!steps.length) shown.push(made('li', {}, made('span', {className: 'what'}, 'Add the wards of this election.'), button('Add a ward', () => go('nominations'), {main: true, key: 'step none'})));
-  if (steps.length && steps.every(({step}) => step.isDone)) shown.push(made('li', {className: 'quiet'}, 'All wards are declared. Make a last copy, and save the journal.'));
+  if (!due.length && waiting.length) shown.push(made('li', {className: 'quiet'},
+    `Wait: ${batchesOf(waiting.reduce((sum, {ward}) => sum + ward.batches - ward.taken, 0))} being keyed. Nothing is for you to do.`));
+  if (!steps.length) shown.push(made('li', {}, made('span', {className: 'what'}, 'Add the wards of this election.'),
+    button('Add a ward', () => go('nominations'), {main: true, key: 'step none'})));
+  if (steps.length && steps.every(({step}) => step.isDone)) shown.push(made('li', {className: 'quiet'},
+    'All wards are declared. Make a last copy, and save the journal.'));
   fill(at('steps'), shown, steps.length ? copyStep() : '');
 };
 
@@ -81,11 +88,13 @@ const wardRow = ({ward, step}) => {
   return made('tr', {className: step.isUrgent ? 'urgent' : ''},
     made('th', {scope: 'row'}, wardName(ward)),
     made('td', {className: 'phase', data: {label: ''}}, isUncontested(ward) && ward.phase === 'sealed' ? 'Uncontested' : PHASES[ward.phase]),
-    made('td', {className: expectedOf(ward.ward) || ward.phase === 'nominations' || isKeyed ? 'figure' : 'figure none', data: {label: 'expected'}}, ward.phase === 'nominations' || isKeyed ? expectedField(ward) : expectedOf(ward.ward) && isPolled ? expectedOf(ward.ward).toLocaleString('en') : '\u2013'),
+    made('td', {className: expectedOf(ward.ward) || ward.phase === 'nominations' || isKeyed ? 'figure' : 'figure none', data: {label: 'expected'}},
+      ward.phase === 'nominations' || isKeyed ? expectedField(ward) : expectedOf(ward.ward) && isPolled ? expectedOf(ward.ward).toLocaleString('en') : '\u2013'),
     papers('given out', ward.papers_given_out), papers('keyed', ward.papers_keyed), papers('agreed', ward.papers_agreed),
     isKeyed ? figure('batches differ', ward.differing, ward.differing ? 'bad' : '') : dash('batches differ'),
     isKeyed ? figure('doubtful open', ward.doubtful_open, ward.doubtful_open ? 'bad' : '') : dash('doubtful open'),
-    made('td', {className: 'next', data: {label: ''}}, button(step.button, () => go(step.to, ward.ward), {key: `row ${ward.ward}`, ariaLabel: `${step.button}: ward ${ward.ward}`}), made('span', {}, step.text)));
+    made('td', {className: 'next', data: {label: ''}},
+      button(step.button, () => go(step.to, ward.ward), {key: `row ${ward.ward}`, ariaLabel: `${step.button}: ward ${ward.ward}`}), made('span', {}, step.text)));
 };
 
 const WARD_HEADS = ['Ward', 'Phase', 'Papers expected', 'Given out', 'Keyed', 'Agreed', 'Batches differ', 'Doubtful open', 'Next step'];
@@ -100,7 +109,8 @@ const sumRow = () => {
 
 const MOST_TELLERS = 40;
 
-const tellerRow = ({clerk, batches, first}) => row(made('th', {scope: 'row'}, `Teller ${clerk}`), numeric(batches), first.join(', ') + (batches > first.length ? ', ..' : ''));
+const tellerRow = ({clerk, batches, first}) =>
+  row(made('th', {scope: 'row'}, `Teller ${clerk}`), numeric(batches), first.join(', ') + (batches > first.length ? ', ..' : ''));
 
 const drawWaiting = async (isNow) => {
   const isAny = office.wards.some((it) => it.phase === 'keying' && it.batches > it.taken + it.differing);
@@ -109,7 +119,8 @@ const drawWaiting = async (isNow) => {
   const tellers = [...says?.waiting ?? []].sort((one, other) => other.batches - one.batches);
   const rows = tellers.slice(0, MOST_TELLERS).map(tellerRow);
   const more = tellers.length > MOST_TELLERS ? made('p', {}, `and ${many(tellers.length - MOST_TELLERS, 'more teller')}`) : '';
-  fill(at('waiting'), tellers.length ? table({className: 'plain'}, ['Teller', 'Batches', 'Numbers'], rows) : made('p', {}, why ?? 'No batch waits for a teller.'), more);
+  fill(at('waiting'), tellers.length ? table({className: 'plain'}, ['Teller', 'Batches', 'Numbers'], rows) : made('p', {}, why ?? 'No batch waits for a teller.'),
+    more);
 };
 
 
@@ -124,6 +135,8 @@ DRAW.overview = async (isNow) => {
   const steps = await stepsOf();
   if (!isNow()) return;
   drawSteps(steps);
-  fill(at('wards'), steps.length ? table({className: steps.length > MOST_ROOMY ? 'wards close' : 'wards'}, WARD_HEADS, [...steps.map(wardRow), ...(steps.length > 1 ? [sumRow()] : [])]) : noWards());
+  fill(at('wards'), steps.length
+    ? table({className: steps.length > MOST_ROOMY ? 'wards close' : 'wards'}, WARD_HEADS, [...steps.map(wardRow), ...(steps.length > 1 ? [sumRow()] : [])])
+    : noWards());
   await drawWaiting(isNow);
 };

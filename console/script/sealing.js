@@ -41,12 +41,14 @@ const drawSeal = async (ward) => {
   const {says} = await readBatches(ward.ward);
   const checks = sealChecks(ward, says?.batches ?? []);
   const acts = [];
-  if (ward.differing || ward.taken < ward.batches || !ward.batches) acts.push(button('To the batches', () => go('batches'), {key: 'to-batches', main: ward.differing > 0}));
+  if (ward.differing || ward.taken < ward.batches
+    || !ward.batches) acts.push(button('To the batches', () => go('batches'), {key: 'to-batches', main: ward.differing > 0}));
   if (ward.doubtful_open) acts.push(button('To the doubtful papers', () => go('doubtful'), {key: 'to-doubtful', main: true}));
   return [
     made('p', {className: 'said'}, checks.isReady && ward.batches ? 'Next: the seal' : 'Not ready to be sealed yet'),
     made('p', {className: 'row'}, sealField(ward)), checks.list,
-    made('p', {className: 'acts'}, button(`Seal ward ${ward.ward}`, () => seal(ward, checks), {key: 'seal', main: checks.isReady && checks.isSure, disabled: !checks.isReady}), ...acts,
+    made('p', {className: 'acts'},
+      button(`Seal ward ${ward.ward}`, () => seal(ward, checks), {key: 'seal', main: checks.isReady && checks.isSure, disabled: !checks.isReady}), ...acts,
       button('Make a copy first', makeCopy, {key: 'copy-first'})),
   ];
 };

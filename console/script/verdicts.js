@@ -29,7 +29,9 @@ const noDoubtful = (ward, papers) => {
   const waiting = ward.phase === 'keying' && ward.batches > ward.taken ? ' More may come as batches are agreed.' : '';
   const text = papers.length ? `All ${papers.length} doubtful papers of this ward are judged.` : 'No doubtful paper is in the agreed batches of this ward.';
   return [made('p', {className: 'said'}, text + waiting),
-    ...elsewhere.slice(0, 5).map((it) => made('p', {}, button([`${many(it.doubtful_open, 'doubtful paper')} in `, wardName(it)], () => go('doubtful', it.ward), {main: true, key: `elsewhere ${it.ward}`})))];
+    ...elsewhere.slice(0, 5).map((it) =>
+      made('p', {}, button([`${many(it.doubtful_open, 'doubtful paper')} in `, wardName(it)], () => go('doubtful', it.ward),
+      {main: true, key: `elsewhere ${it.ward}`})))];
 };
 
 DRAW.doubtful = async (isNow) => {

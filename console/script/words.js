@@ -30,7 +30,8 @@ const PHASES = {nominations: 'Nominations', keying: 'Being keyed', sealed: 'Seal
 const nameIn = (candidates, number) => candidates.find((it) => it.candidate === number) ?? {candidate: number, name: ''};
 const namesOf = (candidates, numbers) => numbers.map((it) => withNumber(nameIn(candidates, it)));
 const preferencesOf = (candidates, numbers) =>
-  made('span', {className: 'preferences'}, ...numbers.map((it, place) => made('span', {className: 'preference'}, made('i', {}, `${place + 1}.`), ' ', isolated(nameIn(candidates, it).name))));
+  made('span', {className: 'preferences'},
+    ...numbers.map((it, place) => made('span', {className: 'preference'}, made('i', {}, `${place + 1}.`), ' ', isolated(nameIn(candidates, it).name))));
 
 const isUncontested = (ward) => ward.phase !== 'nominations' && ward.candidates <= ward.seats;
 

@@ -18,7 +18,7 @@ from office_tools.checks.page import wrong_script
 from office_tools.console_mock import ConsoleMock
 from office_tools.console_page import page_and_policy
 from office_tools.election import LARGE
-from office_tools.office import TOWN, Office, Wrong, free_port, needs, temporary_folder
+from office_tools.office import SCRIPT, TOWN, Office, Wrong, free_port, needs, temporary_folder
 from office_tools.tables import Table
 from office_tools.web import ask, basic, request, status
 
@@ -377,7 +377,10 @@ class Evening:
     def another(self, orders, folder="another"):
         """Serves another office at the same address."""
         self.mock.close()
-        self.office = Office(self.folder / folder).begin(orders)
+        self.office = Office(self.folder / folder).begin()
+        self.office.write(SCRIPT, orders)
+        if printed := self.office.run("replay", SCRIPT, seconds=900).err:
+            raise Wrong(printed)
         self.start()
 
     def large(self, browser):
