@@ -67,7 +67,7 @@ const drawPaper = (ward, open) => {
       made('p', {className: 'which'}, `Batch ${judging.batch}, paper ${judging.paper}`),
       made('p', {}, wardName(ward), `: ${many(open.length, 'doubtful paper')} to be judged. Take this paper out of its pile, and show it to the agents.`),
       made('div', {className: 'columns'},
-        made('div', {}, made('h3', {}, `${next}: choose a candidate`),
+        made('div', {}, made('h3', {}, `${next}: ${/\d/.test(judging.digits) ? `${judging.digits}_, then Enter` : 'choose a candidate'}`),
           made('div', {className: 'candidates'}, ...judging.candidates.map(candidateButton))),
         made('div', {}, made('h3', {}, 'Accept it so'),
           made('div', {className: 'ballot', ariaLive: 'polite'}, judging.chosen.length ? chosenText() : made('p', {className: 'hint'}, 'Nothing is chosen yet.')),
@@ -89,6 +89,10 @@ const otherPapers = (open) => {
   return select;
 };
 
+// Enter on a button does what the button says. On a candidate who is chosen already it is for the paper: who clicks goes on by keyboard.
+const isForPaper = (target) =>
+  !/^(BUTTON|SELECT|INPUT)$/.test(target.tagName) || Boolean(judging.digits) || (/^choose /.test(target.dataset.key) && target.ariaPressed === 'true');
+
 // The keys of this part: digits until they are the number of one candidate alone, Backspace, Enter, R and a code.
 const onDoubtfulKey = (event) => {
   const {key} = event;
@@ -97,7 +101,7 @@ const onDoubtfulKey = (event) => {
   else if (/^[345]$/.test(key) && judging.digits === 'r') { judging.digits = ''; reject(Number(key)); }
   else if (/^[0-9]$/.test(key)) typeDigit(key);
   else if (key === 'Backspace') { if (judging.digits) judging.digits = ''; else changeChosen(judging.chosen.slice(0, -1)); }
-  else if (key === 'Enter' && !/^(BUTTON|SELECT|INPUT|A|SUMMARY)$/.test(event.target.tagName)) endDigits();
+  else if (key === 'Enter' && isForPaper(event.target)) endDigits();
   else return false;
   event.preventDefault();
   return true;
@@ -108,8 +112,9 @@ const isCandidate = (text) => judging.candidates.some((it) => String(it.candidat
 const typeDigit = (digit) => {
   judging.digits = judging.digits === 'r' ? digit : judging.digits + digit;
   const longer = judging.candidates.some((it) => String(it.candidate).startsWith(judging.digits) && String(it.candidate) !== judging.digits);
-  if (isCandidate(judging.digits) && !longer) choose(Number(judging.digits));
-  else if (!longer) { judging.digits = ''; tell('refused', 'There is no candidate of this number.'); }
+  if (longer) draw();
+  else if (isCandidate(judging.digits)) choose(Number(judging.digits));
+  else { judging.digits = ''; tell('refused', 'There is no candidate of this number.'); }
 };
 
 const endDigits = () => {

@@ -129,7 +129,8 @@ DRAW.batches = async (isNow) => {
     ?? (ward.phase === 'nominations' ? 'Nominations are open: batches are given out once they are closed.' : isUncontested(ward)
     ? 'This ward is uncontested, so it has no papers.' : '');
   const {batches = []} = says ?? {};
-  const progress = isPolled ? `${batchesOf(batches.length)}, ${papersOf(ward.papers_given_out)}${expectedOf(ward.ward) ? ` of ${expectedOf(ward.ward).toLocaleString('en')} expected` : ''}; ${papersOf(ward.papers_agreed)} agreed.` : '';
+  const expected = expectedOf(ward?.ward) ? ` of ${expectedOf(ward.ward).toLocaleString('en')} expected` : '';
+  const progress = isPolled ? `${batchesOf(batches.length)}, ${papersOf(ward.papers_given_out)}${expected}; ${papersOf(ward.papers_agreed)} agreed.` : '';
   fill(at('batches-note'), note || progress);
   suggestBatch(batches);
   if (ward?.phase === 'keying' && !batches.length) at('give').open = true;

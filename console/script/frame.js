@@ -87,11 +87,14 @@ const compareOffice = () => {
   at('other').hidden = false;
   return at('other').replaceChildren(
     made('p', {className: 'said'}, 'This is not the office that this browser saw last.'),
-    made('p', {}, `It has ${many(office.receipts, 'accepted order')} and ${many(wards.length, 'ward')}; the one before had ${seen.receipts.toLocaleString('en')} and ${seen.wards.length}. Either another file is served, or an earlier copy. See that it is the right one.`),
+    made('p', {}, `It has ${many(office.receipts, 'accepted order')} and ${many(wards.length, 'ward')}; `,
+      `the one before had ${seen.receipts.toLocaleString('en')} and ${seen.wards.length}. `,
+      'Either another file is served, or an earlier copy. See that it is the right one.'),
     made('p', {className: 'acts'}, button('It is the right one', () => {
       for (const name of [...storedNames('expected'), ...storedNames('draft'), ...storedNames(PENDING), 'copy', 'log']) unstore(name);
       store('seen', {receipts: office.receipts, wards: office.wards.map((it) => `${it.ward} ${it.seats} ${it.name}`)});
       at('other').hidden = true;
+      giveUp();
       refresh(true);
     })));
 };
@@ -117,14 +120,15 @@ const refreshOnce = async (isForced) => {
 
 // Asks how all stands, and draws what changed.
 const refresh = (isForced = false) => {
-  refreshing = (refreshing ?? Promise.resolve()).then(() => refreshOnce(isForced));
+  refreshing = (refreshing ?? Promise.resolve()).catch(() => {}).then(() => refreshOnce(isForced));
   return refreshing;
 };
 
+// How long ago something was is drawn anew every minute, also if nothing changed.
 const keepFresh = async () => {
-  for (;;) {
+  for (let turns = 1; ; turns += 1) {
     await new Promise((resolve) => setTimeout(resolve, 1000 * SECONDS));
-    if (!document.hidden) await refresh();
+    if (!document.hidden) await refresh(turns % 20 === 0).catch(() => {});
   }
 };
 

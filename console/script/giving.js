@@ -64,7 +64,12 @@ const giveOut = async (event) => {
   if (isAccepted(printed)) {
     clearInputs('give-count', 'give-last');
     at('give').open = false;
-  } else if (done) setInput('give-count', list.length - done);
+  } else if (done) {
+    // The rest goes to those tellers whose turn it is.
+    const clerks = numbersIn(at('give-clerks').value);
+    setInput('give-count', list.length - done);
+    setInput('give-clerks', clerks.map((_, place) => clerks[(place + 2 * done) % clerks.length]).join(' '));
+  }
   if (done) setInput('give-from', list[0].batch + done);
   return drawGiven();
 };

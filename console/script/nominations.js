@@ -9,7 +9,7 @@ const isName = (name) => name.length > 0 && new TextEncoder().encode(name).lengt
 // A file of candidates that was dropped: its text, and the records in it with what is wrong with each.
 let dropped = null;
 
-const faultOf = ([ward, candidate, name, ...more], seen) => {
+const faultOf = ([ward, candidate, name, ...more], seen, known) => {
   const key = `${ward} ${candidate}`;
   const isSeen = seen.has(key);
   seen.add(key);
@@ -19,8 +19,18 @@ const faultOf = ([ward, candidate, name, ...more], seen) => {
   if (!/^[1-9][0-9]?$/.test(candidate) || Number(candidate) > MOST_CANDIDATES) return 'a number is 1 to 30';
   if (isSeen) return 'this number is twice in the file';
   if (!isName(name)) return 'a name has 1 to 120 bytes';
-  return '';
+  const other = known.get(key);
+  return other === undefined || other === name ? '' : `this number has ${spokenName(other)}`;
 };
+
+// The candidates that the wards of a file have already, by ward and number.
+const knownIn = async (records) => {
+  const wards = [...new Set(records.map(([ward]) => Number(ward)))].filter((it) => wardAt(it));
+  const lists = await Promise.all(wards.map(async (ward) => (await readWard(ward)).says?.candidates.map((it) => [`${ward} ${it.candidate}`, it.name]) ?? []));
+  return new Map(lists.flat());
+};
+
+const csvField = (text) => (/[",\r\n]/.test(text) ? `"${text.replaceAll('"', '""')}"` : text);
 
 const dropCandidates = async ([file]) => {
   if (!file) return;
@@ -29,18 +39,32 @@ const dropCandidates = async ([file]) => {
   const [header, ...records] = csvRows(text);
   const seen = new Set();
   const isHeaded = String(header) === 'ward,candidate,name';
-  dropped = {name: file.name, text, records: records.map((record) => ({record, fault: faultOf(record, seen)})),
-    fault: isHeaded ? '' : 'The first line has to be: ward,candidate,name'};
+  await refresh();
+  const known = await knownIn(records);
+  dropped = {
+    name: file.name, fault: isHeaded ? '' : 'The first line has to be: ward,candidate,name',
+    records: records.map((record, place) => ({record, line: place + 1, fault: faultOf(record, seen, known), isThere: known.has(`${record[0]} ${record[1]}`)})),
+  };
   drawPreview();
   at('preview').scrollIntoView({block: 'nearest'});
 };
 
+// Those who are there already are left out: an earlier sending of the file may have added them.
+const newRecords = () => dropped.records.filter((it) => !it.isThere);
+
 const sendDropped = async () => {
-  const {text, records, name} = dropped;
-  const printed = await order(`${many(records.length, 'candidate')} from the file ${name}`, ['import-candidates', 'candidates.csv', '--id', newId()],
-    {'candidates.csv': text});
+  const records = newRecords();
+  const text = ['ward,candidate,name', ...records.map(({record}) => record.map(csvField).join(','))].map((it) => `${it}\n`).join('');
+  const title = `${many(records.length, 'candidate')} from the file ${dropped.name}`;
+  const printed = await order(title, ['import-candidates', 'candidates.csv', '--id', newId()], {'candidates.csv': text});
   if (isAccepted(printed)) dropped = null;
   drawPreview();
+};
+
+const recordRow = (it) => {
+  const [ward = '', candidate = '', name] = it.record;
+  return made('tr', {className: it.fault ? 'urgent' : ''}, numeric(it.line), numeric(ward), numeric(candidate), made('td', {}, isolated(name)),
+    made('td', {}, it.fault || (it.isThere ? 'is there already' : 'will be added')));
 };
 
 const drawPreview = () => {
@@ -49,17 +73,16 @@ const drawPreview = () => {
   const {records, fault, name} = dropped;
   const wrong = records.filter((it) => it.fault);
   const shown = [...wrong, ...records.filter((it) => !it.fault)].slice(0, SHOWN_RECORDS);
-  const rows = shown.map((it) =>
-    made('tr', {className: it.fault ? 'urgent' : ''}, numeric(records.indexOf(it) + 1), numeric(it.record[0] ?? ''), numeric(it.record[1] ?? ''),
-    made('td', {}, isolated(it.record[2])), made('td', {}, it.fault || 'as it will be added')));
   const more = records.length > shown.length ? made('p', {}, `and ${many(records.length - shown.length, 'more line')}`) : '';
-  const sends = !fault && !wrong.length && records.length;
-  return fill(at('preview'), made('h3', {}, `From ${name}: ${many(records.length, 'candidate')}`),
-    fault ? warningText(fault) : '', wrong.length ? warningText(`${many(wrong.length, 'line')} can\u2019t be added. Correct the file, and drop it again.`) : '',
+  const count = newRecords().length;
+  const sends = !fault && !wrong.length && count > 0;
+  const putAway = () => { dropped = null; drawPreview(); };
+  return fill(at('preview'), made('h3', {}, `From ${name}: ${many(records.length, 'candidate')}`), fault ? warningText(fault) : '',
+    wrong.length ? warningText(`${many(wrong.length, 'line')} can\u2019t be added. Correct the file, and drop it again.`) : '',
     made('div', {className: 'acts'},
-      button(`Add ${records.length === 1 ? 'this candidate' : `these ${records.length} candidates`}`, sendDropped, {main: true, key: 'send-file', disabled: !sends}),
-      button('Put the file away', () => { dropped = null; drawPreview(); }, {key: 'put-away'})),
-    table({className: 'plain'}, ['Line', 'Ward', 'Number', 'Name', ''], rows), more);
+      button(`Add ${count === 1 ? 'this candidate' : `these ${count} candidates`}`, sendDropped, {main: true, key: 'send-file', disabled: !sends}),
+      button('Put the file away', putAway, {key: 'put-away'})),
+    table({className: 'plain'}, ['Line', 'Ward', 'Number', 'Name', ''], shown.map(recordRow)), more);
 };
 
 const withdraw = async (ward, each) => {

@@ -30,9 +30,17 @@ const waitFor = (seconds) => new Promise((resolve) => {
   wakeUp = () => { clearTimeout(timer); resolve(); };
 });
 
+// The order that is under way is sent no more.
+const giveUp = () => {
+  at('unsent').hidden = true;
+  if (!current) return;
+  current.given = true;
+  wakeUp();
+};
+
 const showUnsent = (order, text, isPaused) => {
   at('unsent').hidden = false;
-  const forgetIt = button('Give it up', () => { order.given = true; wakeUp(); });
+  const forgetIt = button('Give it up', giveUp);
   at('unsent').replaceChildren(
     made('p', {className: 'said'}, `Not confirmed yet: ${order.title}.`), made('p', {}, text),
     made('p', {className: 'acts'}, button('Send it again now', () => wakeUp(), {main: true}), isPaused ? forgetIt : ''));
@@ -42,6 +50,13 @@ const showUnsent = (order, text, isPaused) => {
 const sendAsLong = async (order) => {
   const body = JSON.stringify({files: order.files ?? {}, words: order.words});
   for (let turn = 0; ; turn += 1) {
+    if (turn) await refresh();
+    if (isOther()) {
+      showUnsent(order, 'This may be another office than the one that it was meant for. Say above first whether it is the right one.', true);
+      await waitFor(86400);
+      if (order.given) return null;
+      continue;
+    }
     const answer = await ask('orders', body);
     at('unsent').hidden = true;
     if (isDone(answer)) {

@@ -27,20 +27,24 @@ NEVER = ("init", "migrate", "serve", "codes")
 MOST, LONGEST = 1_048_576, 32 << 20
 WARD = re.compile(r"ward (\d+) (\w+): (\d+) seats, (\d+) candidates, (\d+) batches, (\d+) not taken, (\d+) differing, (\d+) doubtful open, "
                   r"(\d+) stages(?:, elected ([\d, ]+), \d+ seats empty)?: (.*)")
-BATCH = re.compile(r"batch (\d+) round (\d+): (\d+) papers((?:, clerk \d+ (?:not )?keyed)+), (\w+), (\d+) doubtful open(?:, same papers as batch (\d+))?")
+BATCH = re.compile(r"batch (\d+) round (\d+): (\d+) papers((?:, clerk \d+ (?:not )?keyed)+), (\w+), (\d+) doubtful open"
+                   r"(?:, same papers as batch (\d+))?")
 CLERK = re.compile(r"clerk (\d+) (not )?keyed")
 DOUBTFUL = re.compile(r"batch (\d+) paper (\d+) (open|accepted|rejected)(?: ([\d,]+))?")
 DIFFERENCES = re.compile(r"batch (\d+) round (\d+) differs on papers (.*)\n")
 PAPER = re.compile(r"batch (\d+) paper (\d+): (?:(preferences) (.*)|(rejected) (\d), .*|doubtful, no verdict yet)")
 RECEIPT = re.compile(r"actor (\d+) id ([a-z0-9-]+), ([a-z]+(?: \d+)*): (.*)")
-DUE = re.compile(r"stage (\d+) (?:comes next, (first preferences|surplus|exclusion)(?: of (\d+).*?)?(, last vacancies)?|waits for a lot that decides (.*?): (.*))",
+DUE = re.compile(r"stage (\d+) (?:comes next, (first preferences|surplus|exclusion)(?: of (\d+).*?)?(, last vacancies)?|"
+                 r"waits for a lot that decides (.*?): (.*))",
                  re.DOTALL)
 TARGETS = {name: re.compile(rf"/office/{pattern}") for name, pattern in {
     "page": "", "wards": "wards", "ward": r"wards/([1-9]\d{0,4})", "batches": r"wards/([1-9]\d{0,4})/batches", "index": "index",
-    "waiting": "waiting", "doubtful": r"wards/([1-9]\d{0,4})/doubtful", "ward_page": r"wards/([1-9]\d{0,4})/page", "leave": "leave", "orders": "orders",
+    "waiting": "waiting", "doubtful": r"wards/([1-9]\d{0,4})/doubtful", "ward_page": r"wards/([1-9]\d{0,4})/page", "leave": "leave",
+        "orders": "orders",
     "differences": r"batches/([1-9]\d{0,4})/differences", "papers": r"batches/([1-9]\d{0,4})/papers",
     "receipts": r"receipts(?:\?actor=(0|[1-9]\d{0,4}))?"}.items()}
-STEPS = {"no batch is given out yet": "batches", "the seal comes next": "seal", "the seal comes once all are taken and judged": "papers"}
+STEPS = {"the close of nominations comes next": "nominations", "no batch is given out yet": "batches", "the seal comes next": "seal",
+         "the seal comes once all are taken and judged": "papers", "the declaration comes next": "declaration"}
 
 
 class Refused(Exception):
@@ -113,8 +117,10 @@ class Machine:
         found = []
         for line in lines(self.output("batches", ward)):
             number, at, size, clerks, standing, doubtful, twin = BATCH.fullmatch(line).groups()
-            found.append({"batch": int(number), "clerks": [{"clerk": int(clerk), "keyed": not has_not} for clerk, has_not in CLERK.findall(clerks)],
-                          "doubtful_open": int(doubtful), "round": int(at), "size": int(size), "standing": standing, "twin": int(twin or 0)})
+            found.append({"batch": int(number),
+                "clerks": [{"clerk": int(clerk), "keyed": not has_not} for clerk, has_not in CLERK.findall(clerks)],
+                          "doubtful_open": int(doubtful), "round": int(at), "size": int(size), "standing": standing,
+                              "twin": int(twin or 0)})
         return found
 
     def ward_of(self, line):
@@ -145,10 +151,10 @@ class Machine:
                 if tied == words or tied.startswith(words + ", "):
                     found.append(each["candidate"])
                     tied = tied[len(words) + 2:]
-            return {"decides": "exclusion" if decides == "who is excluded" else "surplus", "stage": int(stage), "step": "lot", "tied": found}
+            return {"decides": "exclusion" if decides == "who is excluded" else "surplus", "stage": int(stage), "step": "lot",
+                "tied": found}
         last = text.rsplit(", ", 1)[-1]
-        step = "nominations" if last == "the close of nominations comes next" else "declaration" if last == "the declaration comes next" else STEPS.get(last)
-        return {"step": step or "nothing"}
+        return {"step": STEPS.get(last, "nothing")}
 
     def ward(self, ward):
         candidates = self.candidates(ward)
@@ -162,11 +168,12 @@ class Machine:
         found = {}
         for line in lines(self.output("wards")):
             ward = self.ward_of(line)
-            for pile in self.batch_list(ward["ward"]) if ward["phase"] == "keying" and ward["batches"] > ward["taken"] + ward["differing"] else ():
+            for pile in self.batch_list(ward["ward"]) if ward["phase"] == "keying" else ():
                 for clerk in pile["clerks"] if pile["standing"] == "waiting" else ():
                     if not clerk["keyed"]:
                         found.setdefault(clerk["clerk"], []).append(pile["batch"])
-        return self.with_count(waiting=[{"batches": len(piles), "clerk": clerk, "first": sorted(piles)[:12]} for clerk, piles in sorted(found.items())])
+        return self.with_count(waiting=[{"batches": len(piles), "clerk": clerk, "first": sorted(piles)[:12]} for clerk,
+            piles in sorted(found.items())])
 
     def doubtful(self, ward):
         candidates, papers = self.candidates(ward), []
@@ -205,7 +212,8 @@ class Machine:
 
     def receipts(self, actor):
         found = [RECEIPT.fullmatch(line).groups() for line in lines(self.output("receipts", *([actor] if actor else [])))]
-        return {"receipts": [{"actor": int(actor), "id": name, "reply": reply, "subject": subject} for actor, name, subject, reply in found]}
+        return {"receipts": [{"actor": int(actor), "id": name, "reply": reply, "subject": subject} for actor, name, subject,
+            reply in found]}
 
     def titled(self):
         return ["--title", self.title] if self.title else []
@@ -254,7 +262,8 @@ class Asked(BaseHTTPRequestHandler):
         text = body if isinstance(body, str) else json.dumps(body, separators=(",", ":"), sort_keys=True, ensure_ascii=False)
         sends = text.encode()
         self.send_response(status)
-        for name, value in {"Content-Type": kind, "Content-Length": len(sends), "Cache-Control": "no-store", "Connection": "close", **more}.items():
+        for name, value in {"Content-Type": kind, "Content-Length": len(sends), "Cache-Control": "no-store", "Connection": "close",
+            **more}.items():
             self.send_header(name, str(value))
         self.end_headers()
         self.wfile.write(sends)
@@ -268,7 +277,8 @@ class Asked(BaseHTTPRequestHandler):
         server.asked.append(f"{method} {self.path}")
         length = int(self.headers.get("Content-Length") or 0)
         body = self.rfile.read(min(length, MOST + 1)) if method == "POST" else b""
-        if self.headers.get("Origin", server.origin) != server.origin or self.headers.get("Sec-Fetch-Site", "none") not in ("same-origin", "none"):
+        if self.headers.get("Origin", server.origin) != server.origin or self.headers.get("Sec-Fetch-Site",
+            "none") not in ("same-origin", "none"):
             return self.deny(403)
         if not hmac.compare_digest(self.headers.get("Authorization", ""), basic("office", server.code)):
             return self.deny(401, **{"WWW-Authenticate": 'Basic realm="office", charset="UTF-8"'})
@@ -281,7 +291,8 @@ class Asked(BaseHTTPRequestHandler):
             return self.deny(413)
         if name == "page":
             page, policy = page_and_policy()
-            return self.reply(200, page, **{"Content-Security-Policy": policy, "X-Frame-Options": "DENY", "X-Content-Type-Options": "nosniff"})
+            return self.reply(200, page, **{"Content-Security-Policy": policy, "X-Frame-Options": "DENY",
+                "X-Content-Type-Options": "nosniff"})
         try:
             with server.machine.lock:
                 said = server.machine.order(body) if name == "orders" else getattr(server.machine, name)(*found.groups())

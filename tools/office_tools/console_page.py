@@ -4,11 +4,12 @@ from office_tools.office import ROOT
 
 FOLDER = ROOT / "console"
 # The parts of the script, in the order in which a browser reads them. The last one alone runs anything.
-PARTS = ("basics", "advice", "words", "requests", "pending", "dialogs", "frame", "overview", "nominations", "giving", "batches", "keyings",
+PARTS = ("basics", "advice", "words", "requests", "pending", "dialogs", "frame", "overview", "nominations", "giving", "batches",
+    "keyings",
          "adjudication", "verdicts", "sealing", "chart", "counting", "declaring", "journal", "events")
 STYLES = ("frame", "views")
-POLICY = ("default-src 'none'; script-src {script}; style-src {style}; img-src data:; connect-src 'self'; base-uri 'none'; form-action 'none'; "
-          "frame-ancestors 'none'; require-trusted-types-for 'script'; trusted-types 'none'")
+POLICY = ("default-src 'none'; script-src {script}; style-src {style}; img-src data:; connect-src 'self'; base-uri 'none'; "
+          "form-action 'none'; frame-ancestors 'none'; require-trusted-types-for 'script'; trusted-types 'none'")
 
 
 def joined(folder, ending, names):
