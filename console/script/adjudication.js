@@ -84,7 +84,7 @@ const drawPaper = (ward, open) => {
 const otherPapers = (open) => {
   const select = made('select', {data: {key: 'other-paper'}},
     ...open.slice(0, 500).map((it, place) =>
-    made('option', {value: String(place), selected: it.batch === judging.batch && it.paper === judging.paper}, `Batch ${it.batch}, paper ${it.paper}`)));
+    made('option', {value: String(place), defaultSelected: it.batch === judging.batch && it.paper === judging.paper}, `Batch ${it.batch}, paper ${it.paper}`)));
   select.addEventListener('change', () => { choosePaper(judging.ward, open[Number(select.value)]); draw(); });
   return select;
 };

@@ -90,7 +90,7 @@ const explainedAnswer = (answer) => {
   if (!answer) return NOBODY;
   const {status, says} = answer;
   if (status === 409) return `${said(says.text)} ${AFTER_REFUSAL[says.refusal] ?? ''}`;
-  if (status === 503) return `The office couldn\u2019t be read (fault ${says.fault}). ${AFTER_FAULT[says.fault] ?? ''}`;
+  if (status === 503) return `The office met fault ${says.fault}. ${AFTER_FAULT[says.fault] ?? ''}`;
   return AFTER_STATUS[status] ?? `The office sent the unexpected status ${status}.`;
 };
 

@@ -32,12 +32,17 @@ const table = (properties, heads, rows) => {
   return made('div', {className: 'wide'}, made('table', properties, head, made('tbody', {}, ...rows)));
 };
 
-// Replaces what an element holds. The element that had the focus, and what was typed into it, stay as they are.
+// Replaces what an element holds, unless it holds the same already: so a list that is open stays open, and a text selected. The element
+// that had the focus, and what was typed into it, stay as they are.
 const fill = (element, ...inner) => {
+  const next = document.createElement(element.tagName);
+  next.append(...inner.flat().filter((it) => it !== null && it !== undefined && it !== false));
+  const [before, after] = [[...element.childNodes], [...next.childNodes]];
+  if (before.length === after.length && before.every((it, place) => it.isEqualNode(after[place]))) return;
   const old = element.contains(document.activeElement) ? document.activeElement : null;
   const {key} = old?.dataset ?? {};
   const {value, selectionStart, selectionEnd} = old ?? {};
-  element.replaceChildren(...inner.flat().filter((it) => it !== null && it !== undefined && it !== false));
+  element.replaceChildren(...after);
   const found = key && [...element.querySelectorAll('[data-key]')].find((it) => it.dataset.key === key);
   if (!found) return;
   if (old.tagName === 'INPUT' && /^(text|search)$/.test(old.type)) {

@@ -103,7 +103,7 @@ const isShown = (it) => {
 
 const drawFilter = (batches) => {
   const countOf = (standing) => batches.filter((it) => !standing || it.standing === standing).length;
-  const search = made('input', {type: 'search', size: 8, autocomplete: 'off', value: filter.search, data: {key: 'search'}});
+  const search = made('input', {type: 'search', size: 8, autocomplete: 'off', defaultValue: filter.search, data: {key: 'search'}});
   search.addEventListener('input', () => { Object.assign(filter, {search: search.value, page: 0}); draw(); });
   fill(at('batch-filter'), ...STANDINGS.map(([standing, text]) =>
     button(`${text}: ${countOf(standing).toLocaleString('en')}`, () => { Object.assign(filter, {standing, page: 0}); draw(); },

@@ -45,7 +45,7 @@ const recordLot = async (ward, next, candidates) => {
 const drawLot = (ward, next, candidates) => {
   if (drawn.ward !== ward.ward || drawn.stage !== next.stage) drawn = {ward: ward.ward, stage: next.stage, candidate: 0};
   const choices = next.tied.map((number) => {
-    const input = made('input', {type: 'radio', name: 'lot', value: String(number), checked: drawn.candidate === number, data: {key: `lot ${number}`}});
+    const input = made('input', {type: 'radio', name: 'lot', value: String(number), defaultChecked: drawn.candidate === number, data: {key: `lot ${number}`}});
     input.addEventListener('change', () => { drawn.candidate = number; draw(); });
     return made('label', {className: 'choice'}, input, ' ', withNumber(nameIn(candidates, number)));
   });

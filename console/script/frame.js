@@ -32,7 +32,7 @@ const drawTabs = () => {
 const drawPicks = () => {
   for (const place of document.querySelectorAll('[data-pick]')) {
     const part = place.dataset.pick;
-    const options = office.wards.map((it) => made('option', {value: String(it.ward), selected: it.ward === chosen}, `${it.ward} ${spokenName(it.name)}`));
+    const options = office.wards.map((it) => made('option', {value: String(it.ward), defaultSelected: it.ward === chosen}, `${it.ward} ${spokenName(it.name)}`));
     const select = made('select', {ariaLabel: 'Ward', data: {key: `ward ${part}`}}, ...options);
     select.addEventListener('change', () => go(part, Number(select.value)));
     fill(place, office.wards.length ? made('label', {}, 'Ward ', select) : '');
@@ -44,6 +44,7 @@ const drawHealth = () => {
   at('health').className = down ? 'down' : '';
   at('health').textContent = down ? `${down}${when ? ` What you see is as of ${clock(when)}.` : ''}` : `As of ${clock(Date.now())}`;
   const copy = stored('copy');
+  at('unkept').hidden = stores;
   at('copied').replaceChildren(copy ? `Last copy ${ago(copy.at)}` : 'No copy made here yet');
 };
 

@@ -62,7 +62,8 @@ const drawSteps = (steps) => {
 // The papers that are expected are typed in once, and the browser keeps them.
 const expectedField = (ward) => {
   const field = made('input', {
-    type: 'text', inputMode: 'numeric', size: 6, autocomplete: 'off', value: String(expectedOf(ward.ward) || ''), ariaLabel: `Papers expected in ward ${ward.ward}`,
+    type: 'text', inputMode: 'numeric', size: 6, autocomplete: 'off', defaultValue: String(expectedOf(ward.ward) || ''),
+      ariaLabel: `Papers expected in ward ${ward.ward}`,
     data: {key: `expected ${ward.ward}`},
   });
   field.addEventListener('input', () => {

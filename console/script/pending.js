@@ -3,6 +3,8 @@
 const WAITS = [2, 5, 10, 20, 30];
 const PENDING = 'order ';
 const MOST_LOGGED = 200;
+// A day: until the officer says so.
+const LONG = 86400;
 
 // The order that is under way in this window; no other is sent meanwhile.
 let current = null;
@@ -10,6 +12,10 @@ let wakeUp = () => {};
 
 const isUnknown = (answer) => !answer || answer.status >= 500;
 const isDone = (answer) => answer?.status === 200 && Number.isInteger(answer.says?.status);
+
+// A fault leaves open whether an order with an id was done. Under its id it is done once, so it is never sent again under another.
+const OPEN_FAULTS = /(^|: )fault (101|102|103|104|107): /m;
+const leavesOpen = ({words}, {status, errors}) => status === 3 && OPEN_FAULTS.test(errors) && words[0] !== 'copy';
 
 const pendingOrders = () => storedNames(PENDING).map((it) => stored(it)).filter((it) => it?.words).sort((one, other) => one.at - other.at);
 
@@ -46,39 +52,46 @@ const showUnsent = (order, text, isPaused) => {
     made('p', {className: 'acts'}, button('Send it again now', () => wakeUp(), {main: true}), isPaused ? forgetIt : ''));
 };
 
+const leaveOpen = (order) => {
+  order.open = true;
+  store(PENDING + order.key, order);
+};
+
+// Why an order isn't confirmed, and after how many seconds it is sent again; 0: when the officer says so.
+const whyUnsent = (order, answer, turn) => {
+  if (isOther()) return ['This may be another office than the one that it was meant for. Say above first whether it is the right one.', 0];
+  if (isDone(answer)) {
+    leaveOpen(order);
+    const {line, todo} = explainedError(answer.says.errors);
+    return [`${said(line)} ${todo} It is done once, however often it is sent again from here.`, 0];
+  }
+  if (isUnknown(answer)) {
+    leaveOpen(order);
+    const seconds = WAITS[Math.min(turn, WAITS.length - 1)];
+    const again = `It is sent again every ${seconds} seconds, and done once.`;
+    return [`${explainedAnswer(answer)} Nothing is lost, and you need not type it again. ${again}`, seconds];
+  }
+  const doubt = order.open ? 'An earlier sending may have been done: look at the overview before you give it up.' : 'Nothing was done.';
+  return [`${explainedAnswer(answer)} ${doubt}`, 0];
+};
+
+// A copy whose reply was lost is there already when it is sent again: no other copy has its name.
+const replyTo = (order, says) =>
+  (order.words[0] === 'copy' && order.open && /^fault 109/.test(says.errors) ? {status: 0, output: 'the copy is there\n', errors: ''} : says);
+
 // Sends an order as often as it has to be, and returns what the program printed. Null: it was given up.
 const sendAsLong = async (order) => {
   const body = JSON.stringify({files: order.files ?? {}, words: order.words});
-  for (let turn = 0; ; turn += 1) {
+  for (let turn = 0; !order.given; turn += 1) {
     if (turn) await refresh();
-    if (isOther()) {
-      showUnsent(order, 'This may be another office than the one that it was meant for. Say above first whether it is the right one.', true);
-      await waitFor(86400);
-      if (order.given) return null;
-      continue;
-    }
-    const answer = await ask('orders', body);
+    const answer = isOther() ? null : await ask('orders', body);
     at('unsent').hidden = true;
-    if (isDone(answer)) {
-      const wasMade = order.words[0] === 'copy' && order.open && /^fault 109/.test(answer.says.errors);
-      return wasMade ? {status: 0, output: 'the copy is there\n', errors: ''} : answer.says;
-    }
-    const seconds = WAITS[Math.min(turn, WAITS.length - 1)];
-    if (isUnknown(answer)) {
-      order.open = true;
-      store(PENDING + order.key, order);
-      showUnsent(order, `${explainedAnswer(answer)} Nothing is lost, and you need not type it again. It is sent again every ${seconds} seconds, and done once.`, false);
-      await waitFor(seconds);
-    } else {
-      const doubt = order.open ? ' An earlier sending may have been done: look at the overview before you give it up.' : ' Nothing was done.';
-      showUnsent(order, explainedAnswer(answer) + doubt, true);
-      await waitFor(86400);
-    }
-    if (order.given) {
-      at('unsent').hidden = true;
-      return null;
-    }
+    if (isDone(answer) && !leavesOpen(order, answer.says)) return replyTo(order, answer.says);
+    const [why, seconds] = whyUnsent(order, answer, turn);
+    showUnsent(order, why, seconds === 0);
+    await waitFor(seconds || LONG);
   }
+  return null;
 };
 
 const showResult = (order, {status, output, errors}) => {

@@ -6,6 +6,7 @@ a while, the page is loaded again with an order under way, two consoles are open
 wrong code are denied. At the end the office has the rows that the typed orders make, but for the ids. Pictures at 1280, 800 and 400 pixels
 go into the folder PICTURES. It needs the programs `chromium` and `node`.
 """
+import sqlite3
 import time
 from pathlib import Path
 
@@ -253,11 +254,11 @@ class GuideEvening(Evening):
         officer.asked("As many papers were given out as are expected: 14")
         officer.picture("20-ask-seal")
         officer.yes("Seal Ward 7", said="ward 7 sealed: 12 valid, 2 rejected, quota 5.00000")
-        for stage, words in ((1, "every first preference"), (2, "the surplus of 1 Ann")):
+        self.locked(officer)
+        for stage, words in ((2, "the surplus of 1 Ann"),):
             officer.shows(f"Next: stage {stage}", "count-now")
             officer.press_on("advance")
-            if stage == 2:
-                officer.picture("21-ask-stage")
+            officer.picture("21-ask-stage")
             officer.yes(f"Count stage {stage}", words, said=f"ward 7 stage {stage}")
         officer.shows("Next: a lot", "count-now")
         officer.picture("22-lot")
@@ -270,6 +271,21 @@ class GuideEvening(Evening):
         officer.yes("4 Dee has the fewest votes", said="ward 7 stage 3 exclusion of 4")
         officer.click("count")
         officer.yes("Count from stage 4 on", said="count finished")
+
+    def locked(self, officer):
+        """Another program holds the file, so the order meets a fault. It is sent again under its id, and done once."""
+        officer.shows("Next: stage 1", "count-now")
+        officer.press_on("advance")
+        officer.asked("every first preference")
+        holder = sqlite3.connect(self.office.folder / TOWN, isolation_level=None)
+        holder.execute("BEGIN EXCLUSIVE")
+        officer.browser.press("y")
+        officer.shows("Fault 102: store", "unsent")
+        officer.picture("21-fault")
+        holder.execute("ROLLBACK")
+        holder.close()
+        officer.browser.value("document.querySelector('#unsent button').click()")
+        officer.shows("ward 7 stage 1 first preferences")
 
     def declaring(self, officer):
         officer.shows("Next: the declaration", "count-now")
