@@ -14,7 +14,7 @@ const again = async (ward, it) => {
   const isSure = await askFirst(`Have batch ${it.batch} keyed again?`, 'Yes, key it again',
     made('p', {}, wardName(ward), `: ${papersOf(it.size)}, keyed by the tellers `, ...listed(it.clerks.map(({clerk}) => String(clerk))), '.'),
     `All of them key the whole batch once more, from the papers, in round ${it.round + 1}. Give the pile back to them. Don\u2019t tell them which papers differ.`);
-  if (isSure) await orderWithId(`batch ${it.batch} keyed again`, ['again', it.batch]);
+  if (isSure) await orderOnce(`batch ${it.batch} keyed again`, ['again', it.batch], `${it.batch}-${it.round + 1}`);
 };
 
 const third = async (ward, it) => {

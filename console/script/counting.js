@@ -16,7 +16,7 @@ const advance = async (ward, next, candidates) => {
     made('p', {}, 'At this stage ', ...actionText(next, candidates), '.'), 'A stage stands once it is counted.');
   if (!isSure) return;
   shown.stage = 0;
-  await orderWithId(`stage ${next.stage} of ward ${ward.ward} counted`, ['advance', ward.ward]);
+  await orderOnce(`stage ${next.stage} of ward ${ward.ward} counted`, ['advance', ward.ward], `${ward.ward}-${next.stage}`);
 };
 
 const countOn = async (ward, next) => {
@@ -24,7 +24,7 @@ const countOn = async (ward, next) => {
     'Stage after stage is counted, up to the next lot or the end. Look at each afterwards with the buttons beside its name.', 'Stages stand once they are counted.');
   if (!isSure) return;
   shown.stage = 0;
-  await orderWithId(`ward ${ward.ward} counted up to a lot or the end`, ['count', ward.ward]);
+  await orderOnce(`ward ${ward.ward} counted up to a lot or the end`, ['count', ward.ward], `${ward.ward}-${next.stage}`);
 };
 
 const lotTexts = {

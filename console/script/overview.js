@@ -81,6 +81,12 @@ const compareExpected = (field, ward) => {
 
 const figure = (text, value, className = '') => made('td', {className: `figure ${className}`.trim(), data: {label: text}}, value.toLocaleString('en'));
 
+const phaseText = (ward) => {
+  if (ward.phase === 'keying' && ward.batches) return `Being keyed: ${ward.taken} of ${batchesOf(ward.batches)} agreed`;
+  if (ward.phase === 'sealed') return isUncontested(ward) ? 'Uncontested' : `Sealed: ${many(ward.stages, 'stage')} counted`;
+  return PHASES[ward.phase];
+};
+
 const wardRow = ({ward, step}) => {
   const isKeyed = ward.phase === 'keying';
   const isPolled = ward.phase !== 'nominations' && !isUncontested(ward);
@@ -88,7 +94,7 @@ const wardRow = ({ward, step}) => {
   const papers = (text, value) => (isPolled ? figure(text, value) : dash(text));
   return made('tr', {className: step.isUrgent ? 'urgent' : ''},
     made('th', {scope: 'row'}, wardName(ward)),
-    made('td', {className: 'phase', data: {label: ''}}, isUncontested(ward) && ward.phase === 'sealed' ? 'Uncontested' : PHASES[ward.phase]),
+    made('td', {className: 'phase', data: {label: ''}}, phaseText(ward)),
     made('td', {className: expectedOf(ward.ward) || ward.phase === 'nominations' || isKeyed ? 'figure' : 'figure none', data: {label: 'expected'}},
       ward.phase === 'nominations' || isKeyed ? expectedField(ward) : expectedOf(ward.ward) && isPolled ? expectedOf(ward.ward).toLocaleString('en') : '\u2013'),
     papers('given out', ward.papers_given_out), papers('keyed', ward.papers_keyed), papers('agreed', ward.papers_agreed),

@@ -140,6 +140,13 @@ const order = async (title, words, files = {}) => {
 // The same with an id of its own, after the words.
 const orderWithId = (title, words, files) => order(title, [words[0], '--id', newId(), '--', ...words.slice(1)], files);
 
+// The same with an id that says what it is about, such as a ward's third stage: two consoles that do it at once do it once.
+const orderOnce = async (title, words, about) => {
+  const sent = (id) => order(title, [words[0], '--id', id, '--', ...words.slice(1)]);
+  const printed = await sent(`c-${words[0]}-${about}`);
+  return printed?.status === 1 && explainedError(printed.errors).refusal === 2 ? sent(newId()) : printed;
+};
+
 // What was under way when the page was closed or loaded again is sent again, under its id.
 const resume = async () => {
   if (isOther()) return;

@@ -255,11 +255,7 @@ class GuideEvening(Evening):
         officer.picture("20-ask-seal")
         officer.yes("Seal Ward 7", said="ward 7 sealed: 12 valid, 2 rejected, quota 5.00000")
         self.locked(officer)
-        for stage, words in ((2, "the surplus of 1 Ann"),):
-            officer.shows(f"Next: stage {stage}", "count-now")
-            officer.press_on("advance")
-            officer.picture("21-ask-stage")
-            officer.yes(f"Count stage {stage}", words, said=f"ward 7 stage {stage}")
+        self.in_two_consoles(officer)
         officer.shows("Next: a lot", "count-now")
         officer.picture("22-lot")
         officer.click("lot 4")
@@ -271,6 +267,21 @@ class GuideEvening(Evening):
         officer.yes("4 Dee has the fewest votes", said="ward 7 stage 3 exclusion of 4")
         officer.click("count")
         officer.yes("Count from stage 4 on", said="count finished")
+
+    def in_two_consoles(self, officer):
+        """Two consoles ask whether to count stage 2. Both say yes, and it is counted once."""
+        other = Officer(officer.browser.another(), self)
+        other.open("#count/7")
+        for each in (other, officer):
+            each.shows("Next: stage 2", "count-now")
+            each.press_on("advance")
+            each.asked("Count stage 2", "the surplus of 1 Ann")
+        officer.picture("21-ask-stage")
+        for each in (officer, other):
+            each.yes(said="ward 7 stage 2 surplus of 1")
+        if " 2 stages" not in (stands := self.office.do("wards")):
+            raise Wrong(f"two consoles: {stands}")
+        other.browser.close()
 
     def locked(self, officer):
         """Another program holds the file, so the order meets a fault. It is sent again under its id, and done once."""
