@@ -3,6 +3,9 @@
 // What is chosen so far of the paper that is shown: the numbers of the candidates, the first preference first.
 const judging = {ward: 0, batch: 0, paper: 0, chosen: [], candidates: [], digits: ''};
 
+// So many candidates are below each other, as on the ballot paper; more are in columns.
+const FEW = 9;
+
 const draftOfVerdict = () => `draft verdict ${judging.ward} ${judging.batch} ${judging.paper}`;
 
 const choosePaper = (ward, it) => {
@@ -68,7 +71,7 @@ const drawPaper = (ward, open) => {
       made('p', {}, wardName(ward), `: ${many(open.length, 'doubtful paper')} to be judged. Take this paper out of its pile, and show it to the agents.`),
       made('div', {className: 'columns'},
         made('div', {}, made('h3', {}, `${next}: ${/\d/.test(judging.digits) ? `${judging.digits}_, then Enter` : 'choose a candidate'}`),
-          made('div', {className: 'candidates'}, ...judging.candidates.map(candidateButton))),
+          made('div', {className: judging.candidates.length > FEW ? 'candidates' : 'candidates few'}, ...judging.candidates.map(candidateButton))),
         made('div', {}, made('h3', {}, 'Accept it so'),
           made('div', {className: 'ballot', ariaLive: 'polite'}, judging.chosen.length ? chosenText() : made('p', {className: 'hint'}, 'Nothing is chosen yet.')),
           made('p', {className: 'acts'}, button('Accept (Enter)', accept, {key: 'accept', main: true, disabled: !judging.chosen.length}),

@@ -3,7 +3,8 @@
 const AFTER_REFUSAL = {
   1: 'Tell whoever looks after this program: the console made an id that the office does not accept.',
   2: 'Try once more. The order goes out under a new id.',
-  3: 'Correct the number. A ward is 1 to 99, a candidate 1 to 30, a batch 1 to 9999 with 1 to 500 papers, a teller 1 to 999, seats 1 to 15. A batch that differs in round 99 can be agreed by a third teller alone.',
+  3: 'Correct the number. A ward is 1 to 99, a candidate 1 to 30, a batch 1 to 9999 with 1 to 500 papers, a teller 1 to 999, seats 1 to 15. '
+    + 'A batch that differs in round 99 can be agreed by a third teller alone.',
   4: 'Give a name, and shorten it to 120 bytes. It can\u2019t hold a line end or a tab.',
   5: 'Correct the ward\u2019s number, or add the ward first.',
   6: 'Nothing, if this ward is meant: it is there. Otherwise take another number.',
@@ -65,7 +66,7 @@ const AFTER_FILE_FAULT = {
 const AFTER_STATUS = {
   400: 'Tell whoever looks after this program: the office did not understand the console.',
   401: 'The code is missing or wrong. Load this page again, and type the name office and the office\u2019s code.',
-  403: 'This page was opened under an address that the office doesn\u2019t know. Open it as http://127.0.0.1 and its port.',
+  403: 'This page was opened under an address that the office doesn\u2019t know. Open it at 127.0.0.1 and its port.',
   404: 'The office does not serve a console. Its file of codes has no line for the office.',
   413: 'The file is too large for the console. Type the order on the machine.',
   429: 'The code is wrong, and very many wrong codes were sent. Wait a minute, load this page again, and type the right code.',

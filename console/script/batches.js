@@ -85,7 +85,7 @@ const actsOf = (ward, it) => {
 };
 
 const batchRows = async (ward, it) => {
-  const notes = [it.round > 1 ? `round ${it.round}` : '', it.doubtful_open ? many(it.doubtful_open, 'doubtful paper') : '',
+  const notes = [it.round > 1 ? `round ${it.round}` : '', it.doubtful_open ? `${many(it.doubtful_open, 'doubtful paper')} to be judged` : '',
     it.twin ? `the same papers as batch ${it.twin}: was one pile keyed as two batches?` : ''].filter(Boolean);
   const line = made('tr', {className: it.standing === 'differing' || it.twin ? 'urgent' : ''}, made('th', {scope: 'row'}, String(it.batch)), numeric(it.size),
     made('td', {className: 'tellers'}, ...it.clerks.flatMap((each, place) => [place ? ', ' : '', tellerText(each)])),
