@@ -68,9 +68,11 @@ const route = () => {
     if (name === view) document.title = `${text} - Count office`;
   }
   // What is shown is of another part or ward until it was read: nothing of it is to be chosen meanwhile.
-  if (view !== before || chosen !== wardBefore) document.body.classList.add('stale');
+  if (view !== before || chosen !== wardBefore) {
+    document.body.classList.add('stale');
+    forgetTold();
+  }
   if (view !== before) {
-    if (at('result').className === 'done') at('result').hidden = true;
     scrollTo(0, 0);
     at(`${view}-title`).focus({preventScroll: true});
   }

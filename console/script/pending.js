@@ -24,8 +24,17 @@ const logged = (order, {status, output, errors}) => {
   store('log', [entry, ...stored('log', [])].slice(0, MOST_LOGGED));
 };
 
+// When something was told last.
+let toldAt = 0;
+
+// Whoever goes on to another part has read that an order was done, unless it was done just now.
+const forgetTold = () => {
+  if (at('result').className === 'done' && Date.now() - toldAt > 2000) at('result').hidden = true;
+};
+
 const tell = (kind, title, ...more) => {
   const close = button('Close', () => { at('result').hidden = true; }, {className: 'quiet'});
+  toldAt = Date.now();
   at('result').className = kind;
   at('result').hidden = false;
   at('result').replaceChildren(made('div', {}, made('p', {className: 'said'}, title), ...more.filter(Boolean).map((it) => made('p', {}, it))), close);
@@ -45,6 +54,7 @@ const giveUp = () => {
 };
 
 const showUnsent = (order, text, isPaused) => {
+  at('result').hidden = true;
   at('unsent').hidden = false;
   const forgetIt = button('Give it up', giveUp);
   at('unsent').replaceChildren(
