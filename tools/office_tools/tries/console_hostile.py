@@ -53,6 +53,7 @@ class HostileEvening(Evening):
         self.another(ward_lines(1, 2, "Before", numbered(3)), "before")
         officer.open()
         papers = ["batch 1 9 14 4 9 --id b", f"key 4 1 1 {keyed} --id k", f"key 9 1 1 {keyed} --id k"]
+        browser.open("about:blank")
         self.another([*ward_lines(9, 3, MARKUP + names[1], names), *papers])
         officer.open("#nominations/9")
         self.other_office(officer)
@@ -162,7 +163,7 @@ class HostileEvening(Evening):
 
     def judged(self, officer, chance, ward):
         """Judges all doubtful papers of a ward by keyboard alone."""
-        browser, count = officer.browser, 0
+        browser, count, pictured = officer.browser, 0, set()
         officer.go("doubtful", ward)
         browser.value("document.activeElement.blur()")
         while (which := browser.value("document.querySelector('#judging .which')?.textContent ?? ''")):
@@ -179,7 +180,8 @@ class HostileEvening(Evening):
                         browser.press(key)
                     if columns > 9 and number == 1:
                         browser.press("Enter")
-                if count == 3:
+                if ward not in pictured:
+                    pictured.add(ward)
                     officer.picture(f"31-judging-{ward}")
                 browser.press("Enter")
                 officer.asked(which, *(f"{word} preference: {number} Candidate {number}" for word,
