@@ -81,10 +81,13 @@ const compareExpected = (field, ward) => {
 
 const figure = (text, value, className = '') => made('td', {className: `figure ${className}`.trim(), data: {label: text}}, value.toLocaleString('en'));
 
-const phaseText = (ward) => {
-  if (ward.phase === 'keying' && ward.batches) return `Being keyed: ${ward.taken} of ${batchesOf(ward.batches)} agreed`;
-  if (ward.phase === 'sealed') return isUncontested(ward) ? 'Uncontested' : `Sealed: ${many(ward.stages, 'stage')} counted`;
-  return PHASES[ward.phase];
+const phaseWord = (ward) => (ward.phase === 'sealed' && isUncontested(ward) ? 'Uncontested' : PHASES[ward.phase]);
+
+// The phase of a ward, and, if there is room, how far it is.
+const phaseCell = (ward) => {
+  const keyed = ward.phase === 'keying' && ward.batches ? `: ${ward.taken} of ${batchesOf(ward.batches)} agreed` : '';
+  const counted = ward.phase === 'sealed' && !isUncontested(ward) ? `: ${many(ward.stages, 'stage')} counted` : '';
+  return made('td', {className: 'phase', data: {label: ''}}, phaseWord(ward), made('span', {}, keyed || counted));
 };
 
 const wardRow = ({ward, step}) => {
@@ -93,8 +96,8 @@ const wardRow = ({ward, step}) => {
   const dash = (text) => made('td', {className: 'figure none', data: {label: text}}, '\u2013');
   const papers = (text, value) => (isPolled ? figure(text, value) : dash(text));
   return made('tr', {className: step.isUrgent ? 'urgent' : ''},
-    made('th', {scope: 'row'}, wardName(ward)),
-    made('td', {className: 'phase', data: {label: ''}}, phaseText(ward)),
+    made('th', {scope: 'row'}, wardName(ward), made('small', {className: 'phase-here'}, phaseWord(ward))),
+    phaseCell(ward),
     made('td', {className: expectedOf(ward.ward) || ward.phase === 'nominations' || isKeyed ? 'figure' : 'figure none', data: {label: 'expected'}},
       ward.phase === 'nominations' || isKeyed ? expectedField(ward) : expectedOf(ward.ward) && isPolled ? expectedOf(ward.ward).toLocaleString('en') : '\u2013'),
     papers('given out', ward.papers_given_out), papers('keyed', ward.papers_keyed), papers('agreed', ward.papers_agreed),
