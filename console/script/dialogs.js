@@ -71,9 +71,10 @@ const takeFiles = (place, input, act) => {
 const printText = (title, ...inner) => {
   at('paper').replaceChildren(made('h1', {}, ...[title].flat()), ...inner);
   document.body.classList.add('printing');
-  setTimeout(() => {
-    window.print();
-    document.body.classList.remove('printing');
-    at('paper').replaceChildren();
-  }, 50);
+  setTimeout(() => window.print(), 50);
+};
+
+const endPrinting = () => {
+  document.body.classList.remove('printing');
+  at('paper').replaceChildren();
 };

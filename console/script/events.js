@@ -36,6 +36,7 @@ at('sign-out').addEventListener('click', async () => {
 });
 
 addEventListener('hashchange', route);
+addEventListener('afterprint', endPrinting);
 document.addEventListener('visibilitychange', () => { if (!document.hidden) refresh(); });
 addEventListener('storage', ({key}) => { if (key?.startsWith(`${FRONT}expected`) || key === `${FRONT}copy`) draw(); });
 addEventListener('beforeunload', (event) => { if (current && !stores) event.preventDefault(); });

@@ -24,14 +24,23 @@ const verdictList = (ward, {candidates, papers}) => {
   ];
 };
 
-const noDoubtful = (ward, papers) => {
+// What comes once no paper of the ward is to be judged: those of other wards, or the seal.
+const afterJudging = (ward) => {
   const elsewhere = office.wards.filter((it) => it.doubtful_open && it.ward !== ward.ward);
+  if (elsewhere.length) {
+    return elsewhere.slice(0, 5).map((it) => made('p', {},
+      button([`${many(it.doubtful_open, 'doubtful paper')} in `, wardName(it)], () => go('doubtful', it.ward), {main: true, key: `elsewhere ${it.ward}`})));
+  }
+  const isReady = ward.phase === 'keying' && ward.batches > 0 && ward.taken === ward.batches;
+  return [made('p', {className: 'acts'}, isReady ? button('On to the seal', () => go('count'), {main: true, key: 'to-seal'}) : '',
+    button('To the overview', () => go('overview'), {key: 'to-overview'}))];
+};
+
+const noDoubtful = (ward, papers) => {
   const waiting = ward.phase === 'keying' && ward.batches > ward.taken ? ' More may come as batches are agreed.' : '';
-  const text = papers.length ? `All ${papers.length} doubtful papers of this ward are judged.` : 'No doubtful paper is in the agreed batches of this ward.';
-  return [made('p', {className: 'said'}, text + waiting),
-    ...elsewhere.slice(0, 5).map((it) =>
-      made('p', {}, button([`${many(it.doubtful_open, 'doubtful paper')} in `, wardName(it)], () => go('doubtful', it.ward),
-      {main: true, key: `elsewhere ${it.ward}`})))];
+  const judged = papers.length === 1 ? 'The doubtful paper of this ward is judged.' : `All ${papers.length} doubtful papers of this ward are judged.`;
+  const text = papers.length ? judged : 'No doubtful paper is in the agreed batches of this ward.';
+  return [made('p', {className: 'said'}, text + waiting), ...afterJudging(ward)];
 };
 
 DRAW.doubtful = async (isNow) => {
