@@ -37,7 +37,7 @@ const drawDeclared = (ward, candidates) => [
 
 const printOutput = async (title, ...words) => {
   const {output, why} = await outputOnce(...words);
-  if (output) printText(title, made('pre', {}, output)); else tell('refused', 'This can\u2019t be printed.', why);
+  if (output) printText(title, made('pre', {}, shownName(output))); else tell('refused', 'This can\u2019t be printed.', why);
 };
 
 const saveOutput = async (name, type, ...words) => {

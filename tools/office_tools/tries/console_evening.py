@@ -6,6 +6,7 @@ a while, the page is loaded again with an order under way, two consoles are open
 wrong code are denied. At the end the office has the rows that the typed orders make, but for the ids. Pictures at 1280, 800 and 400 pixels
 go into the folder PICTURES. It needs the programs `chromium` and `node`.
 """
+import json
 import sqlite3
 import time
 from pathlib import Path
@@ -306,6 +307,7 @@ class GuideEvening(Evening):
         officer.yes("1 Ann", "2 Bob", said="ward 7 declared: 1, 2")
         officer.shows("duly elected for Harbour", "count-now")
         officer.picture("25-declared")
+        self.printed(officer)
         officer.go("count", 8)
         officer.shows("uncontested", "count-now")
         officer.picture("26-uncontested")
@@ -320,6 +322,17 @@ class GuideEvening(Evening):
         officer.picture("28-search")
         self.saved(officer)
         self.file_gone(officer)
+
+    def printed(self, officer):
+        """The declaration and the sheet are printed as the orders print them, and the page is as before then."""
+        browser = officer.browser
+        browser.value("(() => { window.print = () => { window.printed = document.querySelector('#paper pre').textContent; }; })()")
+        for key, words in (("print-result", ["result", 7]), ("print-sheet", ["sheet", 7])):
+            officer.click(key)
+            browser.until(f"window.printed === {json.dumps(self.office.do(*words))}", PATIENCE)
+            browser.value("dispatchEvent(new Event('afterprint'))")
+        if browser.value("document.getElementById('paper').children.length || document.body.classList.contains('printing')"):
+            raise Wrong("what was printed stays")
 
     def saved(self, officer):
         """The journal, the ballots and the stages are saved as the orders print them; the page and the index are shown."""
