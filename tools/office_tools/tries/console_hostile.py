@@ -1,10 +1,10 @@
 """Plays the officer's console in Chromium with names that are hostile, an evening of twelve tellers, and the largest office.
 
 The server's side of the console is the stand-in of console_mock.py, which runs the program's own orders. Names that would be markup, that
-turn the direction of writing and of 120 bytes are read as names. Another office comes to the same address, and the console asks whether
-it is the right one. Twelve tellers key 22 batches, some of which differ; 19 doubtful papers are judged by keyboard, and each lot that
-comes is recorded. Then 99 wards and 9,999 batches are shown, and how long the console takes to draw them is printed. Pictures at 1280, 800
-and 400 pixels go into the folder PICTURES. It needs the program `chromium`.
+turn the direction of writing and of 120 bytes are read as names. Another office comes to the same address, and the console asks whether it
+is the right one. A script of batches is refused in its middle, and the code changes. Twelve tellers key 22 batches, some of which differ;
+19 doubtful papers are judged by keyboard, and each lot that comes is recorded. Then 99 wards and 9,999 batches are shown, and how long the
+console takes to draw them is printed. Pictures at 1280, 800 and 400 pixels go into the folder PICTURES. It needs the program `chromium`.
 """
 import json
 import random
@@ -27,7 +27,7 @@ DRAWN = """(async () => { await draw(); const began = performance.now(); await d
     return performance.now() - began; })()"""
 SETTLED = "document.getElementById('count-now').innerText.match(/Next:|duly elected/)?.[0] ?? ''"
 MARKUP = "<img src=x onerror=document.title='marked'>"
-PLAYS = ("names", "evening_of_tellers", "large")
+PLAYS = ("names", "refused", "evening_of_tellers", "large")
 
 
 def ward_lines(ward, seats, name, candidates):
@@ -84,6 +84,39 @@ class HostileEvening(Evening):
         officer.picture("45-names-overview")
         if browser.value("document.querySelectorAll('img, main i b, main script').length") or browser.value("document.title") == "marked":
             raise Wrong("a name is markup")
+
+    def refused(self, browser):
+        """A script of batches is refused in its middle: the rest goes to the tellers whose turn it is. A code that is no longer right."""
+        officer = Officer(browser, self)
+        self.another([*ward_lines(1, 2, "A", numbered(4)), "batch 3 1 10 4 9 --id x"])
+        officer.open()
+        officer.go("batches", 1)
+        browser.value("(() => { document.getElementById('give').open = true; })()")
+        for field, value in (("from", 1), ("count", 4), ("size", 10), ("last", 7), ("clerks", "4 9 5 6 7 8")):
+            officer.type(f"give-{field}", value)
+        officer.submit("give-out")
+        officer.yes("4 batches, 37 papers", said="line 3: refused 8: batch exists")
+        officer.picture("46-refused")
+        browser.until("document.getElementById('give-clerks').value === '7 8 4 9 5 6'", PATIENCE)
+        left = [browser.value(f"document.getElementById('give-{field}').value") for field in ("from", "count", "size", "last")]
+        if left != ["3", "2", "10", "7"]:
+            raise Wrong(f"the rest to give out is {left}")
+        self.mock.code, browser.code = "another-code-of-the-office", "wrong"
+        officer.type("give-from", 11)
+        officer.submit("give-out")
+        officer.asked("Batch 11")
+        browser.press("y")
+        officer.shows("Nothing was done", "unsent")
+        officer.picture("47-code")
+        browser.value("[...document.querySelectorAll('#unsent button')].at(-1).click()")
+        browser.until("document.getElementById('unsent').hidden && pendingOrders().length === 0", PATIENCE)
+        if "batch 11" in self.office.do("batches", 1):
+            raise Wrong("an order that was given up was done")
+        self.mock.code = browser.code = CODE
+        browser.until("!document.getElementById('health').classList.contains('down')", PATIENCE)
+        browser.value("document.getElementById('sign-out').click()")
+        browser.until("document.body.innerText.includes('You have signed out')", PATIENCE)
+        browser.said = [line for line in browser.said if "status of 401" not in line]
 
     def evening_of_tellers(self, browser):
         """Two wards are polled and one isn't: 22 batches that twelve tellers key, 19 doubtful papers, and every lot that comes."""
