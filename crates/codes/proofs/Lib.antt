@@ -1,5 +1,6 @@
 -- Lemmas.
 pub mod DrawingLemmas
+pub mod FileLemmas
 pub mod LetterLemmas
 pub mod MakingLemmas
 pub mod NumberLemmas

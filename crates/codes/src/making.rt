@@ -79,7 +79,7 @@ fn is_made_for(alloc: Global, text: &[u8], clerks: ClerkRange) -> Result<bool, C
 {
     let lines = lines_of(alloc, text)?;
     match entries_of(alloc, lines.as_slice()) {
-        Ok(entries) => Ok(are_of(entries.as_slice(), clerks) && all_made(entries.as_slice())),
+        Ok(found) => Ok(are_of(found.clerks.as_slice(), clerks) && all_made(found.clerks.as_slice())),
         Err(CodesError::Fault(_)) => Ok(false),
         Err(CodesError::Memory) => Err(CodesError::Memory),
     }
