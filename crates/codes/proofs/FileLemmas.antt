@@ -1,9 +1,14 @@
--- A clerk's line after others.
-use Rattle.std.proofs.Common.{◌≡◌, ◌==◌, true, false, Err, Ok, Result, refl}
+-- Lines after others, and files without a line of the office.
+use Rattle.std.proofs.Common.{◌≡◌, ◌==◌, ◌+◌, ◌++◌, ◌∷◌, ◌||◌, Bool, true, false, List, [], Err, None, Ok, Result, if◌then◌else◌, length, refl, ℕ}
+use Rattle.std.specs.Prelude.{bytes_eq}
 use Rattle.std.specs.List.{list_any}
-use Rattle.codes.specs.Files.{CodeEntry, FileEntry, entry_behind, has_code}
+use Rattle.codes.specs.Files.{CodeEntry, FileEntry, entry_behind, entry_in, file_by, file_from, has_code, is_office_line, with_clerk, with_line, without_return}
 use Rattle.codes.specs.declared.fault.CodeFlaw.{CodeFlaw}
 use Rattle.codes.specs.declared.fault.CodeFlaw.TheVariants.{ClerkTwice, CodeTwice}
+use Rattle.codes.specs.declared.fault.CodesFault.{CodesFault}
+use Rattle.codes.specs.declared.fault.CodesFault.TheVariants as fault
+
+-- ---- a clerk's line after others
 
 pub clerk_twice : (before : FileEntry) (entry : CodeEntry) (read : Result CodeEntry CodeFlaw) → read ≡ Ok entry
     → list_any (λ (other : CodeEntry). other.clerk == entry.clerk) before.clerks ≡ true → entry_behind before read ≡ Err ClerkTwice
@@ -16,3 +21,66 @@ code_twice before entry read is new there = rw (is, new, there) refl
 pub clerk_once : (before : FileEntry) (entry : CodeEntry) (read : Result CodeEntry CodeFlaw) → read ≡ Ok entry
     → list_any (λ (other : CodeEntry). other.clerk == entry.clerk) before.clerks ≡ false → has_code before entry.code ≡ false → entry_behind before read ≡ Ok entry
 clerk_once before entry read is new own = rw (is, new, own) refl
+
+-- ---- a file without a line of the office
+
+-- a clerk's entry after others, none of which has its clerk or its code
+abbrev alone_behind : List CodeEntry → Result CodeEntry CodeFlaw → Result CodeEntry CodeFlaw
+alone_behind before (Err flaw) = Err flaw
+alone_behind before (Ok entry) =
+    if list_any (λ other. other.clerk == entry.clerk) before then Err ClerkTwice else
+    (if list_any (λ other. bytes_eq other.code entry.code) before then Err CodeTwice else Ok entry)
+
+abbrev alone_by : (List CodeEntry → Result (List CodeEntry) CodesFault) → ℕ → List CodeEntry → Result CodeEntry CodeFlaw → Result (List CodeEntry) CodesFault
+alone_by others number before (Err flaw) = Err (fault.Line number flaw)
+alone_by others number before (Ok entry) = others (before ++ entry ∷ [])
+
+-- the entries of clerks' lines
+abbrev alone_from : ℕ → List CodeEntry → List (List ℕ) → Result (List CodeEntry) CodesFault
+alone_from number before [] = Ok before
+alone_from number before (line ∷ lines) =
+    if length (without_return line) == 0 then alone_from (number + 1) before lines else
+    alone_by (λ all. alone_from (number + 1) all lines) number before (alone_behind before (entry_in (without_return line)))
+
+-- clerks' codes, and none of the office
+abbrev clerks_alone : List CodeEntry → FileEntry
+clerks_alone entries = record { clerks = entries; office = None }
+
+abbrev file_alone : Result (List CodeEntry) CodesFault → Result FileEntry CodesFault
+file_alone (Err fault) = Err fault
+file_alone (Ok entries) = Ok (clerks_alone entries)
+
+or_parts : (a b : Bool) → (a || b) ≡ false → (a ≡ false) × (b ≡ false)
+or_parts true b is = let no : true ≡ false = is in absurd (cc)
+or_parts false b is = (refl, is)
+
+none_more : (b : Bool) → (b || false) ≡ b
+none_more true = refl
+none_more false = refl
+
+behind_alone : (before : List CodeEntry) (read : Result CodeEntry CodeFlaw) → entry_behind (clerks_alone before) read ≡ alone_behind before read
+behind_alone before (Err flaw) = refl
+behind_alone before (Ok entry) = rw (none_more (list_any (λ (other : CodeEntry). bytes_eq other.code entry.code) before)) refl
+
+by_alone : (others : FileEntry → Result FileEntry CodesFault) (alone : List CodeEntry → Result (List CodeEntry) CodesFault) (number : ℕ) (before : List CodeEntry) (found : Result CodeEntry CodeFlaw)
+    → ((all : List CodeEntry) → others (clerks_alone all) ≡ file_alone (alone all))
+    → file_by others number (with_clerk (clerks_alone before) found) ≡ file_alone (alone_by alone number before found)
+by_alone others alone number before (Err flaw) more = refl
+by_alone others alone number before (Ok entry) more = more (before ++ entry ∷ [])
+
+line_alone : (skipped : Bool) (others : FileEntry → Result FileEntry CodesFault) (alone : List CodeEntry → Result (List CodeEntry) CodesFault) (number : ℕ) (before : List CodeEntry) (line : List ℕ)
+    → is_office_line line ≡ false → ((all : List CodeEntry) → others (clerks_alone all) ≡ file_alone (alone all))
+    → (if skipped then others (clerks_alone before) else file_by others number (with_line (clerks_alone before) line))
+    ≡ file_alone (if skipped then alone before else alone_by alone number before (alone_behind before (entry_in line)))
+line_alone true others alone number before line other more = more before
+line_alone false others alone number before line other more =
+    rw (other, behind_alone before (entry_in line)) (by_alone others alone number before (alone_behind before (entry_in line)) more)
+
+-- without a line of the office, a file has what its clerks' lines have alone, and is wrong where they are
+pub lines_alone : (number : ℕ) (before : List CodeEntry) (lines : List (List ℕ)) → list_any (λ (line : List ℕ). is_office_line (without_return line)) lines ≡ false
+    → file_from number (clerks_alone before) lines ≡ file_alone (alone_from number before lines)
+lines_alone number before [] none = refl
+lines_alone number before (line ∷ lines) none =
+    let parts = or_parts (is_office_line (without_return line)) (list_any (λ (l : List ℕ). is_office_line (without_return l)) lines) none in
+    line_alone (length (without_return line) == 0) (λ all. file_from (number + 1) all lines) (λ all. alone_from (number + 1) all lines) number before (without_return line) parts.0
+    (λ all. lines_alone (number + 1) all lines parts.1)

@@ -4,3 +4,4 @@ pub mod FileLemmas
 pub mod LetterLemmas
 pub mod MakingLemmas
 pub mod NumberLemmas
+pub mod Rows
