@@ -1,4 +1,5 @@
 -- Lemmas.
+pub mod ApartLemmas
 pub mod DrawingLemmas
 pub mod FileLemmas
 pub mod LetterLemmas

@@ -12,7 +12,7 @@ use Rattle.codes.proofs.NumberLemmas.{from_numbers, same_number}
 
 -- ---- no clerk has a code as long as the office's
 
-not_true : (b : Bool) → (b ≡ true → ⊥) → b ≡ false
+pub not_true : (b : Bool) → (b ≡ true → ⊥) → b ≡ false
 not_true true is = absurd (is refl)
 not_true false is = refl
 

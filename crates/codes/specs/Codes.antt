@@ -1,5 +1,5 @@
 -- The codes of clerks and of the office, and how a browser sends them.
-use Rattle.std.specs.Prelude.{◌++◌, ◌==◌, ◌&&◌, Bool, false, List, Option, Some, None, bytes_eq, codes, decimal, map, option_map, string_bytes, ℕ}
+use Rattle.std.specs.Prelude.{◌≡◌, ◌++◌, ◌==◌, ◌&&◌, Bool, false, true, List, Option, Some, None, bytes_eq, codes, decimal, map, option_map, string_bytes, ℕ}
 use Rattle.std.specs.List.{list_any}
 use Rattle.base64.specs.Engines.{standard}
 use Rattle.base64.specs.GeneralPurpose.{encode_of}
@@ -46,3 +46,7 @@ office_of held = option_map (λ (own : Basic). string_bytes own.text) held.offic
 abbrev pub is_office : Option (List ℕ) → List ℕ → Bool
 is_office None text = false
 is_office (Some own) text = bytes_eq text own
+
+-- nobody is let in both as a clerk and as the office: a clerk's code doesn't open the office, nor the office's a clerk's work
+abbrev pub AreApart : List Holder → Option (List ℕ) → Type 0
+AreApart holders own = (clerk : ℕ) → (text : List ℕ) → is_of holders clerk text ≡ true → is_office own text ≡ false

@@ -2,7 +2,7 @@
 
 ghost use Rattle.std.specs.Prelude.{◌≡◌, ◌≤◌, ◌⊎◌, ◌*◌, ◌+◌, ◌==◌, [], IfErr, IfOk, IfSome, List, Ok, Err, bytes_eq, length, map, option_and_then, option_map, ℕ};
 ghost use Rattle.std.specs.List.{list_all, list_any, prefix_len};
-ghost use Rattle.codes.specs.Codes.{holders_of, office_of};
+ghost use Rattle.codes.specs.Codes.{AreApart, holders_of, office_of};
 ghost use Rattle.codes.specs.Files.{CodeEntry, FileEntry, clerk_in, code_entry, codes_in, digit_in, entry_behind, entry_in, file_entry, file_from, front_of, has_code, holders_by, is_code, is_for_office, is_no_blank};
 ghost use Rattle.codes.specs.Files.{is_no_hyphen, is_office_line, is_offices, is_strong, is_visible, lines_from, no_codes, office_behind, office_held, office_in, rest_of, weak_clerks, with_line, without_return};
 ghost use Rattle.codes.specs.declared.fault.CodeFlaw.{CodeFlaw};
@@ -336,6 +336,7 @@ impl Codes {
     pub fn read(alloc: Global, text: &[u8]) -> Result<Codes, CodesError>
         ensures ok { IfOk result (λ own. (entries : List CodeEntry) × (codes_in text.now ≡ Ok entries) × (holders_of own ≡ holders_by entries) × (own.weak.items ≡ weak_clerks entries)) }
         ensures office { IfOk result (λ own. office_of own ≡ office_held (office_in text.now)) }
+        ensures apart { IfOk result (λ own. AreApart (holders_of own) (office_of own)) }
         ensures err { IfErr result (λ why. (why ≡ read_error.Memory) ⊎ ((fault : CodesFault) × (why ≡ read_error.Fault fault) × (codes_in text.now ≡ Err fault))) }
     {
         let lines = lines_of(alloc, text)?;
