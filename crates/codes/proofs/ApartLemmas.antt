@@ -96,10 +96,10 @@ one_apart : (clerk : ℕ) (code own text : List ℕ) → bytes_eq text (credenti
 one_apart clerk code own text is =
     not_true (bytes_eq text (office_credentials own))
     (λ both.
-      let clerks : text ≡ credentials_of clerk code = (bytes_eq-Decides text (credentials_of clerk code)).0 is in
-      let offices : text ≡ office_credentials own = (bytes_eq-Decides text (office_credentials own)).0 both in
-      let same : slice_index (credentials_of clerk code) 6 ≡ slice_index (office_credentials own) 6 = ap (λ (t : List ℕ). slice_index t 6) (sym clerks ∙ offices) in
-      omega (arith, same, clerks_seventh clerk code, offices_seventh own))
+    let clerks : text ≡ credentials_of clerk code = (bytes_eq-Decides text (credentials_of clerk code)).0 is in
+    let offices : text ≡ office_credentials own = (bytes_eq-Decides text (office_credentials own)).0 both in
+    let same : slice_index (credentials_of clerk code) 6 ≡ slice_index (office_credentials own) 6 = ap (λ (t : List ℕ). slice_index t 6) (sym clerks ∙ offices) in
+    omega (arith, same, clerks_seventh clerk code, offices_seventh own))
 
 entry_apart : (b : Bool) (more : Bool) (clerk : ℕ) (e : CodeEntry) (own text : List ℕ) → ((e.clerk == clerk) && bytes_eq text (credentials_of e.clerk e.code)) ≡ b
     → (b || more) ≡ true → (more ≡ true → bytes_eq text (office_credentials own) ≡ false) → bytes_eq text (office_credentials own) ≡ false

@@ -5,7 +5,7 @@ use Rattle.std.specs.Io.KnownBytes.{append_known}
 use Rattle.std.proofs.lemmas.Bool.{and_from, eq-eqb}
 use Rattle.std.proofs.lemmas.List.Elements.{filter_map-append}
 use Rattle.std.proofs.lemmas.List.Folds.{concat-append, list_all-append}
-use Rattle.codes.specs.Drawing.{AreDrawn, AreTooFew, IsDraw, IsDrawn, IsInVain, IsMadeByDraws, IsShort, IsUndrawn, IsUnmadeByDraws, IsUnwritten, is_vain, most_bytes, most_files}
+use Rattle.codes.specs.Drawing.{AreDrawn, IsDraw, IsDrawn, IsInVain, IsMadeByDraws, IsShort, IsUndrawn, IsUnmadeByDraws, IsUnwritten, is_vain, most_bytes, most_files}
 use Rattle.codes.specs.Files.{file_in}
 use Rattle.codes.specs.Making.{is_file_for, letter_of, letters_drawn, letters_with, text_with}
 use Rattle.codes.specs.declared.fault.CodesFault.TheVariants.{BadRandom, NoRandom}

@@ -1,10 +1,10 @@
 -- A file that was read again.
-use Rattle.std.proofs.Common.{◌≡◌, ◌∙◌, ◌+◌, ◌==◌, ◌||◌, Bool, true, false, List, [], ◌∷◌, Ok, Option, None, Some, Err, Result, ap, arith, length, refl, sym, ℕ}
+use Rattle.std.proofs.Common.{◌≡◌, ◌+◌, ◌==◌, Bool, true, false, List, [], ◌∷◌, Ok, Option, None, Some, Err, Result, ap, arith, length, refl, ℕ}
 use Rattle.std.specs.Prelude.{bytes_eq}
 use Rattle.std.specs.List.{list_all, list_any}
 use Rattle.std.proofs.lemmas.Bool.{and_parts}
 use Rattle.std.proofs.lemmas.Slice.Eq.{bytes_eq-Decides}
-use Rattle.codes.specs.Files.{CodeEntry, FileEntry, clerks_by, codes_in, file_in, office_by, office_in}
+use Rattle.codes.specs.Files.{CodeEntry, FileEntry, clerks_by, file_in, office_by}
 use Rattle.codes.specs.Making.{IsMadeFor, IsMadeWithOffice, are_from, clerks_of, is_file_for, is_made, is_made_at, is_made_for_office}
 use Rattle.codes.specs.declared.fault.CodesFault.{CodesFault}
 use Rattle.codes.specs.declared.range.ClerkRange.{ClerkRange}
@@ -20,8 +20,8 @@ unlike : (a b : List ℕ) → length a ≡ 14 → length b ≡ 19 → bytes_eq a
 unlike a b short long =
     not_true (bytes_eq a b)
     (λ same.
-      let lengths : length a ≡ length b = ap (λ (xs : List ℕ). length xs) ((bytes_eq-Decides a b).0 same) in
-      omega (arith, short, long, lengths))
+    let lengths : length a ≡ length b = ap (λ (xs : List ℕ). length xs) ((bytes_eq-Decides a b).0 same) in
+    omega (arith, short, long, lengths))
 
 clerks_apart : (code : List ℕ) (entries : List CodeEntry) → length code ≡ 19 → list_all (λ (e : CodeEntry). is_made e.code) entries ≡ true
     → list_any (λ (e : CodeEntry). bytes_eq e.code code) entries ≡ false

@@ -1,12 +1,11 @@
 -- Files of codes, computed: what is read of them, who is let in, and which file is made.
-use Rattle.std.proofs.Common.{◌≡◌, ℕ, true, false, List, [], ◌∷◌, ◌++◌, codes, None, Some, Ok, Err, Result, refl}
+use Rattle.std.proofs.Common.{◌≡◌, ℕ, true, false, List, [], ◌∷◌, codes, None, Some, Ok, Err, refl}
 use Rattle.std.specs.Fmt.{digits}
 use Rattle.base64.specs.Rfc4648.{encode_symbols}
 use Rattle.codes.specs.Codes.{is_of, is_office}
-use Rattle.codes.specs.Files.{FileEntry, file_in, holders_by, office_held, office_in}
+use Rattle.codes.specs.Files.{file_in, holders_by, office_held, office_in}
 use Rattle.codes.specs.Making.{is_file_for, letters_drawn, text_with}
 use Rattle.codes.specs.declared.fault.CodeFlaw.TheVariants.{BadCode, CodeTwice, NoEntry, OfficeTwice, ShortOffice}
-use Rattle.codes.specs.declared.fault.CodesFault.{CodesFault}
 use Rattle.codes.specs.declared.fault.CodesFault.TheVariants.{Line}
 use Rattle.codes.specs.declared.range.ClerkRange.{ClerkRange}
 

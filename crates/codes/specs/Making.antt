@@ -1,6 +1,6 @@
 -- New codes, and for whom they are made: some clerks, and the office or not.
 use Rattle.std.specs.Prelude.{◌≡◌, ◌∷◌, ◌++◌, ◌+◌, ◌-◌, ◌*◌, ◌==◌, ◌&&◌, ◌%◌, Bool, true, false, zero, suc, List, [], Option, Some, None, Result, Ok, Err}
-use Rattle.std.specs.Prelude.{bytes_eq, codes, decimal, drop, if◌then◌else◌, is_none, length, map, nat_le, nat_lt, not, slice_index, slice_range, take, ℕ}
+use Rattle.std.specs.Prelude.{bytes_eq, codes, decimal, drop, if◌then◌else◌, is_none, length, map, nat_le, nat_lt, slice_index, slice_range, take, ℕ}
 use Rattle.std.specs.List.{filter_map, list_all, list_any, prefix_len}
 use Rattle.codes.specs.Codes.{office_name}
 use Rattle.codes.specs.Files.{CodeEntry, FileEntry, clerk_in, codes_in, is_no_hyphen, office_in}

@@ -112,9 +112,11 @@ fn is_made_for(
 {
     let lines = lines_of(alloc, text)?;
     match entries_of(alloc, lines.as_slice()) {
-        Ok(found) => Ok(are_of(found.clerks.as_slice(), clerks)
-            && all_made(found.clerks.as_slice())
-            && is_made_at(office, found.office)),
+        Ok(found) => Ok(
+            are_of(found.clerks.as_slice(), clerks)
+                && all_made(found.clerks.as_slice())
+                && is_made_at(office, found.office),
+        ),
         Err(CodesError::Fault(_)) => Ok(false),
         Err(CodesError::Memory) => Err(CodesError::Memory),
     }

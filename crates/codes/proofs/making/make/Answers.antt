@@ -1,9 +1,6 @@
 -- Why `make` keeps its promise.
-use Rattle.std.proofs.Common.{◌≡◌, String, false, true, string_bytes}
-use Rattle.std.specs.Io.KnownBytes.{append_known}
+use Rattle.std.proofs.Common.{false, string_bytes}
 use Rattle.std.proofs.lemmas.Result.{IfOk-weaker}
-use Rattle.codes.specs.Files.{file_in}
-use Rattle.codes.specs.Making.{IsMadeFor, clerks_of, is_file_for}
 use Rattle.codes.proofs.MakingLemmas.{file_for}
 use Rattle.codes.proofs.making.make.Goals as goal
 

@@ -1,5 +1,5 @@
 -- Why `entry_behind` keeps its promise.
-use Rattle.std.proofs.Common.{◌≡◌, ◌∙◌, ◌==◌, List, ap, map, sym}
+use Rattle.std.proofs.Common.{◌∙◌, ◌==◌, List, ap, map, sym}
 use Rattle.std.specs.List.{list_any}
 use Rattle.codes.specs.Files.{CodeEntry, code_entry, file_entry}
 use Rattle.codes.specs.declared.reading.CodeLine.{CodeLine}
