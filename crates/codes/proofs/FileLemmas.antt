@@ -1,8 +1,8 @@
 -- Lines after others, and files without a line of the office.
-use Rattle.std.proofs.Common.{◌≡◌, ◌==◌, ◌+◌, ◌++◌, ◌∷◌, ◌||◌, Bool, true, false, List, [], Err, None, Ok, Result, if◌then◌else◌, length, refl, ℕ}
+use Rattle.std.proofs.Common.{◌≡◌, ◌∙◌, ◌==◌, ◌+◌, ◌++◌, ◌∷◌, ◌||◌, Bool, true, false, List, [], Err, None, Ok, Result, ap, if◌then◌else◌, length, refl, ℕ}
 use Rattle.std.specs.Prelude.{bytes_eq}
 use Rattle.std.specs.List.{list_any}
-use Rattle.codes.specs.Files.{CodeEntry, FileEntry, entry_behind, entry_in, file_by, file_from, has_code, is_office_line, with_clerk, with_line, without_return}
+use Rattle.codes.specs.Files.{CodeEntry, FileEntry, clerks_by, codes_in, entry_behind, entry_in, file_by, file_from, has_code, is_office_line, lines_from, office_by, office_in, with_clerk, with_line, without_return}
 use Rattle.codes.specs.declared.fault.CodeFlaw.{CodeFlaw}
 use Rattle.codes.specs.declared.fault.CodeFlaw.TheVariants.{ClerkTwice, CodeTwice}
 use Rattle.codes.specs.declared.fault.CodesFault.{CodesFault}
@@ -76,11 +76,25 @@ line_alone true others alone number before line other more = more before
 line_alone false others alone number before line other more =
     rw (other, behind_alone before (entry_in line)) (by_alone others alone number before (alone_behind before (entry_in line)) more)
 
--- without a line of the office, a file has what its clerks' lines have alone, and is wrong where they are
-pub lines_alone : (number : ℕ) (before : List CodeEntry) (lines : List (List ℕ)) → list_any (λ (line : List ℕ). is_office_line (without_return line)) lines ≡ false
+lines_alone : (number : ℕ) (before : List CodeEntry) (lines : List (List ℕ)) → list_any (λ (line : List ℕ). is_office_line (without_return line)) lines ≡ false
     → file_from number (clerks_alone before) lines ≡ file_alone (alone_from number before lines)
 lines_alone number before [] none = refl
 lines_alone number before (line ∷ lines) none =
     let parts = or_parts (is_office_line (without_return line)) (list_any (λ (l : List ℕ). is_office_line (without_return l)) lines) none in
     line_alone (length (without_return line) == 0) (λ all. file_from (number + 1) all lines) (λ all. alone_from (number + 1) all lines) number before (without_return line) parts.0
     (λ all. lines_alone (number + 1) all lines parts.1)
+
+clerks_of_alone : (found : Result (List CodeEntry) CodesFault) → clerks_by (file_alone found) ≡ found
+clerks_of_alone (Err fault) = refl
+clerks_of_alone (Ok entries) = refl
+
+office_of_alone : (found : Result (List CodeEntry) CodesFault) → office_by (file_alone found) ≡ None
+office_of_alone (Err fault) = refl
+office_of_alone (Ok entries) = refl
+
+-- without a line of the office, a file has what its clerks' lines have alone, and is wrong where they are; and the office has no code
+pub text_alone : (text : List ℕ) → list_any (λ (line : List ℕ). is_office_line (without_return line)) (lines_from [] text) ≡ false
+    → (codes_in text ≡ alone_from 1 [] (lines_from [] text)) × (office_in text ≡ None)
+text_alone text none =
+    let alone = lines_alone 1 [] (lines_from [] text) none in
+    (ap clerks_by alone ∙ clerks_of_alone (alone_from 1 [] (lines_from [] text)), ap office_by alone ∙ office_of_alone (alone_from 1 [] (lines_from [] text)))
