@@ -1,5 +1,6 @@
 -- What a clerk sends isn't what the office sends: a clerk's name begins with a digit, the office's with a letter, and the seventh byte shows which.
-use Rattle.std.proofs.Common.{◌≡◌, ◌∙◌, ◌<◌, ◌≤◌, ◌+◌, ◌-◌, ◌/◌, ◌%◌, ◌==◌, ◌&&◌, ◌||◌, ◌++◌, ◌∷◌, Bool, true, false, zero, suc, List, [], None, Option, Some, ap, arith, codes, decimal, if◌then◌else◌, nat_lt, refl, subst, sym, ℕ}
+use Rattle.std.proofs.Common.{◌≡◌, ◌∙◌, ◌<◌, ◌≤◌, ◌+◌, ◌-◌, ◌/◌, ◌%◌, ◌==◌, ◌&&◌, ◌||◌, ◌++◌, ◌∷◌, Bool, true, false}
+use Rattle.std.proofs.Common.{zero, suc, List, [], None, Option, Some, ap, arith, codes, decimal, if◌then◌else◌, nat_lt, refl, subst, sym, ℕ}
 use Rattle.std.specs.Fmt.{digit_glyph, digits, digits_onto}
 use Rattle.std.specs.Prelude.{bytes_eq, slice_index}
 use Rattle.std.proofs.lemmas.Bool.{and_parts}

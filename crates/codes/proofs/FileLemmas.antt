@@ -1,14 +1,23 @@
 -- Lines after others, and files without a line of the office.
-use Rattle.std.proofs.Common.{◌≡◌, ◌∙◌, ◌==◌, ◌+◌, ◌++◌, ◌∷◌, ◌||◌, Bool, true, false, List, [], Err, None, Ok, Result, ap, if◌then◌else◌, length, refl, ℕ}
+use Rattle.std.proofs.Common.{◌≡◌, ◌∙◌, ◌==◌, ◌+◌, ◌++◌, ◌∷◌, ◌||◌, Bool, true, false, List, [], Err, None, Ok, Result, ap, if◌then◌else◌, length, map, refl, sym, ℕ}
 use Rattle.std.specs.Prelude.{bytes_eq}
 use Rattle.std.specs.List.{list_any}
-use Rattle.codes.specs.Files.{CodeEntry, FileEntry, clerks_by, codes_in, entry_behind, entry_in, file_by, file_from, has_code, is_office_line, lines_from, office_by, office_in, with_clerk, with_line, without_return}
+use Rattle.codes.specs.Files.{CodeEntry, FileEntry, clerks_by, code_entry, codes_in, entry_behind, entry_in, file_by, file_from, has_code, is_office_line, lines_from}
+use Rattle.codes.specs.Files.{office_by, office_in, with_clerk, with_line, without_return}
 use Rattle.codes.specs.declared.fault.CodeFlaw.{CodeFlaw}
 use Rattle.codes.specs.declared.fault.CodeFlaw.TheVariants.{ClerkTwice, CodeTwice}
 use Rattle.codes.specs.declared.fault.CodesFault.{CodesFault}
 use Rattle.codes.specs.declared.fault.CodesFault.TheVariants as fault
+use Rattle.codes.specs.declared.reading.CodeLine.{CodeLine}
 
 -- ---- a clerk's line after others
+
+-- what was found among the lines, or wasn't, is so of the same lines
+pub clerk_among : (lines before : List CodeLine) (clerk : ℕ) (found b : Bool) → lines ≡ before
+    → found ≡ list_any (λ (other : CodeEntry). other.clerk == clerk) (map code_entry lines) → found ≡ b
+    → list_any (λ (other : CodeEntry). other.clerk == clerk) (map code_entry before) ≡ b
+clerk_among lines before clerk found b same is test =
+    ap (λ (ls : List CodeLine). list_any (λ (other : CodeEntry). other.clerk == clerk) (map code_entry ls)) (sym same) ∙ sym is ∙ test
 
 pub clerk_twice : (before : FileEntry) (entry : CodeEntry) (read : Result CodeEntry CodeFlaw) → read ≡ Ok entry
     → list_any (λ (other : CodeEntry). other.clerk == entry.clerk) before.clerks ≡ true → entry_behind before read ≡ Err ClerkTwice

@@ -44,7 +44,8 @@ of_clerks clerks office text file same is =
       made = (and_parts (list_all (λ (e : CodeEntry). is_made e.code) file.clerks) (is_made_at office file.office) parts.1).0;
     }
 
-read_for : (clerks : ClerkRange) (office : Bool) (text : List ℕ) (found : Result FileEntry CodesFault) → file_in text ≡ found → is_file_for clerks office found ≡ true → IsMadeFor (clerks_of clerks) text
+read_for : (clerks : ClerkRange) (office : Bool) (text : List ℕ) (found : Result FileEntry CodesFault)
+    → file_in text ≡ found → is_file_for clerks office found ≡ true → IsMadeFor (clerks_of clerks) text
 read_for clerks office text (Err fault) same is = let no : false ≡ true = is in absurd (cc)
 read_for clerks office text (Ok file) same is = of_clerks clerks office text file same is
 
@@ -71,7 +72,8 @@ with_code clerks text entries (Some code) same is =
       own = clerks_apart code entries long others.0;
     }
 
-read_with : (clerks : ClerkRange) (text : List ℕ) (found : Result FileEntry CodesFault) → file_in text ≡ found → is_file_for clerks true found ≡ true → IsMadeWithOffice (clerks_of clerks) text
+read_with : (clerks : ClerkRange) (text : List ℕ) (found : Result FileEntry CodesFault)
+    → file_in text ≡ found → is_file_for clerks true found ≡ true → IsMadeWithOffice (clerks_of clerks) text
 read_with clerks text (Err fault) same is = let no : false ≡ true = is in absurd (cc)
 read_with clerks text (Ok file) same is = with_code clerks text file.clerks file.office same is
 

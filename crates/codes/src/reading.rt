@@ -1,13 +1,13 @@
 //! The text of a file of codes, read line by line.
 
 ghost use Rattle.std.specs.Prelude.{◌≡◌, ◌≤◌, ◌⊎◌, ◌*◌, ◌+◌, ◌==◌, [], IfErr, IfOk, IfSome, List, Ok, Err, bytes_eq, length, map, option_and_then, option_map, ℕ};
-ghost use Rattle.std.specs.List.{list_all, list_any, prefix_len};
+ghost use Rattle.std.specs.List.{count_by, list_all, list_any, prefix_len};
 ghost use Rattle.codes.specs.Codes.{AreApart, holders_of, office_of};
-ghost use Rattle.codes.specs.Files.{CodeEntry, FileEntry, clerk_in, code_entry, codes_in, digit_in, entry_behind, entry_in, file_entry, file_from, front_of, has_code, holders_by, is_code, is_for_office, is_no_blank};
-ghost use Rattle.codes.specs.Files.{is_no_hyphen, is_office_line, is_offices, is_strong, is_visible, lines_from, no_codes, office_behind, office_held, office_in, rest_of, weak_clerks, with_line, without_return};
+ghost use Rattle.codes.specs.Files.{CodeEntry, FileEntry, clerk_in, code_entry, codes_in, digit_in, entry_behind, entry_in, file_entry, file_from, front_of, has_code, holders_by, is_code};
+ghost use Rattle.codes.specs.Files.{is_for_office, is_no_blank, is_no_hyphen, is_office_line, is_offices, is_strong, is_visible, lines_from, no_codes, office_behind, office_held, office_in};
+ghost use Rattle.codes.specs.Files.{rest_of, weak_clerks, with_line, without_return};
 ghost use Rattle.codes.specs.declared.fault.CodeFlaw.{CodeFlaw};
 ghost use Rattle.codes.specs.declared.fault.CodesFault.TheVariants.{Line};
-ghost use Rattle.std.specs.List.{count_by};
 ghost use Rattle.codes.specs.declared.fault.CodesError.TheVariants as read_error;
 
 use crate::fault::{CodeFlaw, CodesError, CodesFault};

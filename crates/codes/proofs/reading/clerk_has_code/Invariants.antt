@@ -6,4 +6,6 @@ use Rattle.codes.specs.Files.{CodeEntry, code_entry}
 use Rattle.codes.proofs.reading.clerk_has_code.Given as goal
 
 abbrev pub invariant-loop-other : goal.invariant-loop-other
-invariant-loop-other l = list_any (λ (other : CodeEntry). bytes_eq other.code l.code) (map code_entry (drop l.other-index l.before)) ≡ list_any (λ (other : CodeEntry). bytes_eq other.code l.code) (map code_entry l.before)
+invariant-loop-other l =
+    list_any (λ (other : CodeEntry). bytes_eq other.code l.code) (map code_entry (drop l.other-index l.before))
+    ≡ list_any (λ (other : CodeEntry). bytes_eq other.code l.code) (map code_entry l.before)
