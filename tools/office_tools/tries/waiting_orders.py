@@ -94,9 +94,11 @@ def crowd(port):
     keeper = threading.Thread(target=keep, daemon=True)
     keeper.start()
     time.sleep(3)
-    yield
-    ends.set()
-    keeper.join()
+    try:
+        yield
+    finally:
+        ends.set()
+        keeper.join()
 
 
 class Waits:
