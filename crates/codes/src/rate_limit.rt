@@ -3,15 +3,16 @@
 ghost use Rattle.std.specs.Prelude.{◌≡◌};
 ghost use Rattle.codes.specs.RateLimits.{counted, is_current, is_reached, limit_entry, none_wrong};
 
-/// The number of wrong codes within a minute at which the limit is reached: 100 a second, far more than tellers mistype.
+/// The most wrong codes in a minute, 100 a second: many more than tellers can mistype.
 const MOST_WRONG: u32 = 6_000;
 
 /// A minute, in milliseconds.
 const MINUTE: u64 = 60_000;
 
-/// The wrong codes of a minute, from any client: when it began, in milliseconds of a clock, and how many were sent since.
+/// How many wrong codes were sent in the current minute, by all clients together. `since` is when the minute began, in milliseconds
+/// of a clock.
 ///
-/// The limit concerns wrong codes alone. A request with the right code is let in, however many wrong ones were sent.
+/// Only wrong codes are limited. A request with the right code is let in, however many wrong ones were sent.
 #[derive(Clone, Copy)]
 pub struct RateLimit {
     pub since: u64,
@@ -19,15 +20,15 @@ pub struct RateLimit {
 }
 
 impl RateLimit {
-    /// Returns a limit under which no wrong code was sent yet.
+    /// Returns a limit before any wrong code was sent.
     pub fn new() -> RateLimit
         ensures { limit_entry result ≡ none_wrong }
     {
         RateLimit { since: 0, count: 0 }
     }
 
-    /// Returns whether the minute isn't over. A clock that was set back lengthens it, which does no harm: no right code
-    /// waits for its end.
+    /// Returns whether the minute isn't over. If the clock is set back, the minute lasts longer. That does no harm, since the right
+    /// code never has to wait.
     fn is_current(&self, now: u64) -> bool
         ensures { result ≡ is_current (limit_entry self.now) now }
     {

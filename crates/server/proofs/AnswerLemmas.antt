@@ -142,7 +142,7 @@ module _ {S : Type 0} (settings : HttpSettingsEntry) (state_of : Held S → Stat
     clean = has.clean;
   }
 
-  -- memory ran out to read what he asks, and nothing is kept any more
+  -- memory ran out while the request was read, and the cache is empty
   pub served_none : (office : OfficeValue S) (kept later : MemoryEntry) (number moment : ℕ) (got answer : List ℕ) → later.reads ≡ [] → EndsIn answer (IsServed (IsWritten (fault_response 101)))
       → ServesClient settings state_of (served_office office kept) (record { listener = Clients; number = number; moment = moment; got = got; answer = answer }) (served_office office later)
   served_none office kept later number moment got answer none (served, it) = record {

@@ -34,8 +34,8 @@ use std::alloc::Global;
 use streams::Broken;
 use wire::{
     Completeness, HttpRequest, HttpSettings, MAX_HEAD_BYTES, Parsed, Resource, Response, Routes,
-    Served, answer_keying, parse, respond, tell_no_memory, write_gone_response, write_response,
-    write_wait_response,
+    Served, answer_keying, parse, respond, write_gone_response, write_no_memory_response,
+    write_response, write_wait_response,
 };
 
 /// The status of a response with a fault, which isn't cached.
@@ -81,7 +81,7 @@ fn receive_body<L: Stream>(
 }
 
 /// Receives the request of a client. Returns its parsed head once the request is complete, or the client sends no more.
-fn hear_request<L: Stream>(
+fn receive_request<L: Stream>(
     client: &mut Client<L>,
     settings: HttpSettings<'_>,
     routes: &Routes,
@@ -196,7 +196,7 @@ fn answer_request<S: Alter>(
 {
     let Ok(asked) = parsed.asked(kept.alloc, settings, got) else {
         kept.reads.empty();
-        return to_no_memory(kept.alloc);
+        return no_memory_response(kept.alloc);
     };
     match asked {
         HttpRequest::Resource(what) => answer_reading(what, office, kept),
@@ -243,12 +243,12 @@ fn gone_response(alloc: Global) -> PendingResponse
 }
 
 /// Returns the response if an allocation for a request failed; nothing of it was sent yet.
-fn to_no_memory(alloc: Global) -> PendingResponse
+fn no_memory_response(alloc: Global) -> PendingResponse
     ensures told { EndsIn result.bytes.items (IsServed (IsWritten (fault_response 101))) }
     ensures untold { result.sent ≡ 0 }
 {
     let mut writer = VecSink::new(alloc);
-    let _ = tell_no_memory(&mut writer);
+    let _ = write_no_memory_response(&mut writer);
     PendingResponse {
         bytes: writer.into_bytes(),
         sent: 0,
@@ -366,7 +366,7 @@ fn begin_answer<L: Stream>(
 }
 
 /// Services an order without a response: receives its message and, once that is complete, processes it.
-fn attend_order<L: Stream, A: SideJobs, S: Alter>(
+fn service_order<L: Stream, A: SideJobs, S: Alter>(
     server_settings: ServerSettings<'_, A>,
     now: u64,
     client: Client<L>,
@@ -442,9 +442,9 @@ pub fn service<L: Stream, A: SideJobs, S: Alter>(
         return (client, told);
     }
     let Listener::Clients = client.listener else {
-        return attend_order(server_settings, now, client, office, kept);
+        return service_order(server_settings, now, client, office, kept);
     };
-    match hear_request(&mut client, server_settings.http, &kept.routes) {
+    match receive_request(&mut client, server_settings.http, &kept.routes) {
         Ok(Some(parsed)) => {
             let got = client.got.as_slice();
             let unread = parsed.body_to_come(got.len());

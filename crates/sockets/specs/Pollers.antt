@@ -1,5 +1,5 @@
 -- What is polled.
-use Rattle.std.specs.Prelude.{◌≡◌, ◌||◌, ⊤, Bool, true, false, Option, Some, None}
+use Rattle.std.specs.Prelude.{◌≡◌, ◌||◌, ◌==◌, if◌then◌else◌, ℕ, ⊤, Bool, true, false, Option, Some, None}
 use Rattle.mio.specs.declared.net.uds.listener.UnixListener.{UnixListener}
 use Rattle.connections.specs.declared.client.Listener.{Listener}
 use Rattle.connections.specs.declared.client.Listener.TheVariants as listeners
@@ -78,6 +78,13 @@ known_everywhere known = record { ipv4 = known; ipv6 = known; orders = known }
 abbrev pub known_at : Pending → Address → Waiting
 known_at pending Ipv4 = pending.ipv4
 known_at pending Ipv6 = pending.ipv6
+
+-- what is known once an event has reported the listener with this token: 0 is that at 127.0.0.1, 1 that at [::1], any other that of orders
+abbrev pub reported : ℕ → Pending → Pending
+reported token pending =
+    if token == 0 then record { ipv4 = waiting.Somebody; ipv6 = pending.ipv6; orders = pending.orders }
+    else (if token == 1 then record { ipv4 = pending.ipv4; ipv6 = waiting.Somebody; orders = pending.orders }
+    else record { ipv4 = pending.ipv4; ipv6 = pending.ipv6; orders = waiting.Somebody })
 
 -- a connection may be pending at some listener
 abbrev pub may_be_pending : Pending → Bool

@@ -5,7 +5,7 @@ ghost use Rattle.connections.specs.declared.client.Listener.{Listener};
 ghost use Rattle.connections.specs.declared.network.AcceptOutcome.{AcceptOutcome};
 ghost use Rattle.connections.specs.Tables.{IsWanted};
 ghost use Rattle.sockets.specs.Pollers.{ComesByListener, IsAtListener, IsWatched, clients_of, has_pending, orders_of, other_address};
-ghost use Rattle.sockets.specs.Pollers.{is_known_waiting, is_reported, known_after, known_at, known_everywhere, may_be_pending};
+ghost use Rattle.sockets.specs.Pollers.{is_known_waiting, is_reported, known_after, known_at, known_everywhere, may_be_pending, reported};
 ghost use Rattle.sockets.specs.declared.poller.Waiting.{Waiting};
 
 use crate::accept_error::outcome_of_error;
@@ -122,7 +122,9 @@ impl Pending {
     }
 
     /// Notes that an event reported the listener with this token.
-    fn report(&mut self, token: usize) {
+    fn report(&mut self, token: usize)
+        ensures { self.new ≡ reported token self.old }
+    {
         match token {
             IPV4 => self.ipv4 = Waiting::Somebody,
             IPV6 => self.ipv6 = Waiting::Somebody,

@@ -295,7 +295,7 @@ read_of gate (Ok (target.Leave clerk)) size behind what is = absurd (cc is)
 read_of gate (Ok (target.Resource there)) size behind what is = let same : there ≡ what = cc is in ap Some same
 read_of gate (Err why) size behind what is = absurd (cc is)
 
--- whoever reads something, a parsed head says so
+-- if a request reads a resource, its parsed head says which
 pub reads_each : (settings : HttpSettingsEntry) (got : List ℕ) (head : Head) (what : Resource) → IsHeadOf settings got head → Asks settings got (reading what) → read_in head.wanted ≡ Some what
 reads_each settings got head what is asks =
     let asked = asked_of settings.gate head.wanted head.body is.behind in

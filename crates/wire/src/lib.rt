@@ -65,7 +65,7 @@ pub use request::{HttpRequest, Keying, read_request};
 pub use request_error::{RequestError, Verb};
 pub use response::Response;
 pub use serving::{
-    Served, respond, serve_one, tell_no_memory, write_gone_response, write_response,
+    Served, respond, serve_one, write_gone_response, write_no_memory_response, write_response,
     write_wait_response,
 };
 pub use settings::{Gate, HttpSettings, Page, Show};

@@ -243,8 +243,8 @@ impl Parsed {
         }
     }
 
-    /// Returns how many bytes are still to come of the body, of a request of which so many bytes came. They are as many as its head says,
-    /// and at most 1 MiB, also if it says more, or nothing that is understood. If there is no whole head, it is 0.
+    /// Returns how many bytes of the body are still to come, after so many bytes of the request. That is what the head says of the
+    /// body's length, or 1 MiB if that length isn't accepted. Without a complete head it is 0.
     ///
     /// The server reads that many bytes more before it closes the connection. Otherwise the system would reset the connection,
     /// and a proxy would report that instead of the response.

@@ -33,9 +33,9 @@ pub struct Keying {
 /// What a request asks.
 #[derive(Drop)]
 pub enum HttpRequest<'a> {
-    /// Nothing: the request is rejected before the office is asked.
+    /// Nothing. The request is rejected, and the office isn't asked.
     Denied(RequestError),
-    /// To show a clerk something that doesn't depend on the office's state.
+    /// To show a clerk the keying page, which is the same at every state of the office.
     Shown(u32, Show<'a>),
     /// To keep a clerk's keying.
     Keying(Keying),
@@ -93,7 +93,7 @@ impl Target {
     }
 }
 
-/// Returns what a target names, if that is served with this gate or without one.
+/// Returns what a target names, if it is served with this gate, or without a gate.
 pub(crate) fn served_at(gate: Option<Gate<'_>>, routes: &Routes, target: &[u8]) -> Option<Target>
     ensures { result ≡ served_at (option_map gate_entry gate.entry) (named_by target.now) }
 {

@@ -74,7 +74,7 @@ pub fn write_gone_response<W: Sink>(writer: &mut W) -> Served
 /// Writes that an allocation failed (101).
 ///
 /// `WriteFailed` comes only from the writer, which counts one failure more: a beginning of the response was written.
-pub fn tell_no_memory<W: Sink>(writer: &mut W) -> Served
+pub fn write_no_memory_response<W: Sink>(writer: &mut W) -> Served
     requires { W.failed writer.old < 2 ^ 64 - 1 }
     ensures told { IsServed (IsWritten (fault_response 101)) (W.taken writer.old) (W.taken writer.new) result }
     ensures answered { OnAnswered result (W.failed writer.new ≡ W.failed writer.old) }
@@ -142,7 +142,7 @@ pub fn serve_one<R: Source, W: Sink, S: Alter>(
 {
     match read_request(alloc, settings, reader) {
         Ok(asked) => respond(alloc, asked, writer, office),
-        Err(ReadFailure::Memory) => tell_no_memory(writer),
+        Err(ReadFailure::Memory) => write_no_memory_response(writer),
         Err(ReadFailure::Broken) => Served::ReadFailed,
     }
 }

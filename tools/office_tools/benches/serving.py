@@ -26,8 +26,8 @@ from office_tools.wards_timed import (
 from office_tools.web import HERE
 
 CLERKS, SILENT, CROWD, HALF = range(1, 21), 300, 512, 524288
-# How often programs that are compared serve, and the papers of their batches.
-TURNS, COMPARED = 5, (5, BATCH)
+# How often programs that are compared serve, the papers of their batches, and how many `ab` run side by side.
+TURNS, COMPARED, LOADS = 5, (5, BATCH), 3
 WORK = "/clerks/1/work"
 
 
@@ -121,15 +121,23 @@ def requests_a_second(serving, clients, seconds):
 
 
 def counted_by_ab(port, clients, seconds):
-    """Returns what `ab` of apache2-utils counts a second, if it is there; none of its requests may fail."""
+    """Returns what `ab` of apache2-utils counts a second, if it is there; none of its requests may fail.
+
+    One `ab` has one thread, and is slower than `serve`: with many clients, several of them share these.
+    """
     if not shutil.which("ab"):
         return None
-    words = ["ab", "-q", "-t", str(seconds), "-n", "1000000", "-c", str(clients), f"http://{HERE}:{port}{WORK}"]
-    told = subprocess.run(words, capture_output=True, text=True, check=False).stdout
-    found = dict(line.split(":", 1) for line in told.splitlines() if ":" in line)
-    if found.get("Failed requests", "").strip() != "0" or "Non-2xx responses" in found:
-        raise Wrong(f"ab: {told}")
-    return float(found["Requests per second"].split()[0])
+
+    def count(part):
+        words = ["ab", "-q", "-t", str(seconds), "-n", "1000000", "-c", str(len(part)), f"http://{HERE}:{port}{WORK}"]
+        told = subprocess.run(words, capture_output=True, text=True, check=False).stdout
+        found = dict(line.split(":", 1) for line in told.splitlines() if ":" in line)
+        if found.get("Failed requests", "").strip() != "0" or "Non-2xx responses" in found:
+            raise Wrong(f"ab: {told}")
+        return float(found["Requests per second"].split()[0])
+    parts = [range(first, clients, LOADS) for first in range(min(LOADS, clients))]
+    with ThreadPoolExecutor(len(parts)) as pool:
+        return sum(pool.map(count, parts))
 
 
 def print_requests(folder, sizes):

@@ -13,8 +13,8 @@ use Rattle.server.proofs.servicing.answer_request.Goals as goal
 pub returns-in_default-clause-served : goal.returns-in_default-clause-served
 returns-in_default-clause-served g c = λ number moment.
     served_none (settings_entry c.args.settings) (state g.S.Store) c.args.office.now (memory_entry c.args.kept.now)
-    (record { reads = reads_in c.empty.new.self; limit = limit_entry c.args.kept.now.limit }) number moment c.args.got.now c.to_no_memory.result.bytes.items
-    c.empty.ensures c.to_no_memory.ensures.told
+    (record { reads = reads_in c.empty.new.self; limit = limit_entry c.args.kept.now.limit }) number moment c.args.got.now c.no_memory_response.result.bytes.items
+    c.empty.ensures c.no_memory_response.ensures.told
 
 pub returns-in-Resource-clause-served : goal.returns-in-Resource-clause-served
 returns-in-Resource-clause-served g c = λ number moment.

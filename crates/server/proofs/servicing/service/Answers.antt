@@ -21,14 +21,14 @@ returns-then-is_some-clause-turn g c =
     (state g.S.Store) c.args.now c.send_more-told.result c.args.client c.send_more-told.new.client
     (served_office c.args.office.now (memory_entry c.args.kept.now)) (served_office c.args.office.now (memory_entry c.args.kept.now)) c.send_more-told.ensures.apart refl c.send_more-told.ensures.his
 
-pub attend_order-requires-clause-unanswered : goal.attend_order-requires-clause-unanswered
-attend_order-requires-clause-unanswered g c = none_from c.args.client.answer (sym c.is_some.ensures ∙ c.if-is_some.false)
+pub service_order-requires-clause-unanswered : goal.service_order-requires-clause-unanswered
+service_order-requires-clause-unanswered g c = none_from c.args.client.answer (sym c.is_some.ensures ∙ c.if-is_some.false)
 
-pub attend_order-requires-clause-fresh : goal.attend_order-requires-clause-fresh
-attend_order-requires-clause-fresh g c = c.requires.untold (none_from c.args.client.answer (sym c.is_some.ensures ∙ c.if-is_some.false))
+pub service_order-requires-clause-fresh : goal.service_order-requires-clause-fresh
+service_order-requires-clause-fresh g c = c.requires.untold (none_from c.args.client.answer (sym c.is_some.ensures ∙ c.if-is_some.false))
 
-pub hear_request-requires : goal.hear_request-requires
-hear_request-requires g c = none_from c.args.client.answer (sym c.is_some.ensures ∙ c.if-is_some.false)
+pub receive_request-requires : goal.receive_request-requires
+receive_request-requires g c = none_from c.args.client.answer (sym c.is_some.ensures ∙ c.if-is_some.false)
 
 -- what was parsed are the bytes that came
 pub answer_client-answer-requires : goal.answer_client-answer-requires
@@ -37,7 +37,7 @@ answer_client-answer-requires g c =
 
 pub begin_answer-requires : goal.begin_answer-requires
 begin_answer-requires g c =
-    told_zero (stream_of g.L.Stream.held g.L.Stream.taken g.L.Stream.failed) c.hear_request.new.client.stream c.answer_client-answer.result.bytes.items
+    told_zero (stream_of g.L.Stream.held g.L.Stream.taken g.L.Stream.failed) c.receive_request.new.client.stream c.answer_client-answer.result.bytes.items
     c.answer_client-answer.result.sent c.answer_client-answer.ensures.untold
     (subst (λ (t : Option (List ℕ)). HasTaken t []) (sym c.in-Ok-Some.ensures.receives.untold) (c.requires.untold (none_from c.args.client.answer (sym c.is_some.ensures ∙ c.if-is_some.false))))
 
@@ -49,7 +49,7 @@ returns-in-Ok-Some-clause-turn g c =
     let received = c.in-Ok-Some.ensures in
     let settings = settings_in g.A.SideJobs.whole c.args.server_settings in
     let stream = stream_of g.L.Stream.held g.L.Stream.taken g.L.Stream.failed in
-    let mid = c.hear_request.new.client in
+    let mid = c.receive_request.new.client in
     let answered = c.answer_client-answer in
     let new = c.begin_answer.result.0 in
     let at = served_office c.args.office.now (memory_entry c.args.kept.now) in
@@ -71,6 +71,6 @@ returns-in-Ok-Some-clause-turn g c =
 
 pub returns-in-Err-clause-leaves : goal.returns-in-Err-clause-leaves
 returns-in-Err-clause-leaves g c = λ why is.
-    let received = c.hear_request.ensures in
-    ends_lost (stream_of g.L.Stream.held g.L.Stream.taken g.L.Stream.failed) c.hear_request.result why c.hear_request.new.client
+    let received = c.receive_request.ensures in
+    ends_lost (stream_of g.L.Stream.held g.L.Stream.taken g.L.Stream.failed) c.receive_request.result why c.receive_request.new.client
     (c.in-Err.is ∙ ap Err (left_as c.in-Err.why why is)) received.lost received.broken received.same.1

@@ -33,10 +33,10 @@ returns-in-Ok-clause-closed_served g c = λ closed.
 pub returns-in-Err-Memory-clause-served : goal.returns-in-Err-Memory-clause-served
 returns-in-Err-Memory-clause-served g c = λ clean open_before s at.
     Serves-memory (settings_entry c.args.settings) (g.R.Source.held c.args.reader.now) (g.W.Sink.taken c.args.writer.now)
-    (g.W.Sink.taken c.tell_no_memory.new.writer) s c.tell_no_memory.result c.args.office.now.closed
-    (state g.S.Store c.args.office.now.held) (record { is_open = open_before; at = at }) c.tell_no_memory.ensures.told
+    (g.W.Sink.taken c.write_no_memory_response.new.writer) s c.write_no_memory_response.result c.args.office.now.closed
+    (state g.S.Store c.args.office.now.held) (record { is_open = open_before; at = at }) c.write_no_memory_response.ensures.told
 
 pub returns-in-Err-Memory-clause-closed_served : goal.returns-in-Err-Memory-clause-closed_served
 returns-in-Err-Memory-clause-closed_served g c = λ closed.
     ServesClosed-memory (settings_entry c.args.settings) (g.R.Source.held c.args.reader.now) (g.W.Sink.taken c.args.writer.now)
-    (g.W.Sink.taken c.tell_no_memory.new.writer) c.tell_no_memory.result c.tell_no_memory.ensures.told
+    (g.W.Sink.taken c.write_no_memory_response.new.writer) c.write_no_memory_response.result c.write_no_memory_response.ensures.told

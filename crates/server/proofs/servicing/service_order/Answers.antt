@@ -1,4 +1,4 @@
--- Why `attend_order` keeps its promise.
+-- Why `service_order` keeps its promise.
 use Rattle.std.proofs.Common.{◌∙◌, Err, List, Ok, Option, [], ap, refl, subst, sym, ℕ}
 use Rattle.sqlite.specs.Held.{state}
 use Rattle.connections.specs.Streams.{HasTaken, stream_of}
@@ -10,7 +10,7 @@ use Rattle.server.specs.Reads.{served_office, memory_entry, reads_in}
 use Rattle.server.specs.Settings.{settings_in}
 use Rattle.server.specs.Servicing.{HasComeAt}
 use Rattle.server.proofs.ServicingLemmas.{attends_turn, ends_lost, has_turn, left_as}
-use Rattle.server.proofs.servicing.attend_order.Goals as goal
+use Rattle.server.proofs.servicing.service_order.Goals as goal
 
 -- its message came whole
 pub answer_order-stream-requires-clause-whole : goal.answer_order-stream-requires-clause-whole

@@ -1,6 +1,6 @@
--- Why `tell_no_memory` keeps its promise.
+-- Why `write_no_memory_response` keeps its promise.
 use Rattle.wire.proofs.ServingLemmas.{IsServed-put}
-use Rattle.wire.proofs.serving.tell_no_memory.Goals as goal
+use Rattle.wire.proofs.serving.write_no_memory_response.Goals as goal
 
 pub returns-clause-told : goal.returns-clause-told
 returns-clause-told g c = IsServed-put _ (g.W.Sink.taken c.args.writer.now) (g.W.Sink.taken c.write_response.new.writer) c.no_memory.result

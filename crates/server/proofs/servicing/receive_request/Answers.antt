@@ -1,9 +1,9 @@
--- Why `hear_request` keeps its promise.
+-- Why `receive_request` keeps its promise.
 use Rattle.std.proofs.Common.{List, Ok, ap, length, subst, ℕ}
 use Rattle.wire.specs.Gates.{settings_entry}
 use Rattle.wire.specs.Parsing.{IsParsed}
 use Rattle.server.proofs.ServicingLemmas.{come_ended, come_whole, lasts_for}
-use Rattle.server.proofs.servicing.hear_request.Goals as goal
+use Rattle.server.proofs.servicing.receive_request.Goals as goal
 
 pub returns-in-Complete-clause-come : goal.returns-in-Complete-clause-come
 returns-in-Complete-clause-come g c =
