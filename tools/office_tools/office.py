@@ -22,6 +22,8 @@ SECONDS = 60
 CONNECTIONS = 1000000
 STORE, NO_OFFICE = "fault 102: store\n", "fault 105: wrong database\n"
 PORTS = itertools.count()
+# Debian's packages of commands that have another name.
+PACKAGES = {"node": "nodejs", "ab": "apache2-utils", "chromedriver": "chromium-driver"}
 
 
 class Wrong(Exception):
@@ -49,7 +51,7 @@ def needs(*commands):
     """Raises an error if one of these commands isn't installed."""
     for command in commands:
         if not shutil.which(command):
-            raise Wrong(f"the command {command} is missing; on Debian: apt-get install {command}")
+            raise Wrong(f"the command {command} is missing; on Debian: apt-get install {PACKAGES.get(command, command)}")
 
 
 def is_free(port, host=HERE):
@@ -124,8 +126,9 @@ class Office:
         self.folder = Path(folder)
         self.folder.mkdir(parents=True, exist_ok=True)
 
-    def start(self, *words, town=TOWN, **how):
-        words = [program(), town, *map(str, words)]
+    def start(self, *words, town=TOWN, under=(), **how):
+        """Starts an order, at wish under another program, such as `strace`."""
+        words = [*under, program(), town, *map(str, words)]
         return subprocess.Popen(words, cwd=self.folder, stdout=subprocess.PIPE, stderr=subprocess.PIPE, **how)
 
     def run(self, *words, seconds=SECONDS, **how):

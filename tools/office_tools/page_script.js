@@ -1,10 +1,82 @@
-// Runs the script of the page on which clerks key, for `tools/check script`, in the small stand-in for a browser of page_dom.js. Its
-// word is the file of the page. Prints a line for each thing that isn't as it must be, and ends with status 1 then.
+// Runs the script of the page on which clerks key, for `tools/check script`, in a window of jsdom. Its word is the file of the page.
+// Prints a line for each thing that isn't as it must be, and ends with status 1 then.
 'use strict';
 
 const assert = require('node:assert/strict');
 const {readFileSync} = require('node:fs');
-const {Storage, Window, settled} = require('./page_dom.js');
+const {JSDOM, VirtualConsole} = require('jsdom');
+
+// What broke on a page outside a play.
+let broken = null;
+process.on('unhandledRejection', (error) => { broken = error; });
+const noting = new VirtualConsole();
+noting.on('jsdomError', (error) => { broken = error; });
+
+// Lets everything run that waits for nothing but its turn.
+const settled = async () => { for (let turn = 0; turn < 12; turn += 1) await new Promise(setImmediate); };
+const isShown = (element) => !element.closest('[hidden], dialog:not([open])');
+const all = (element, selector) => [...element.querySelectorAll(selector)];
+
+// A window that shows a page at an address. `office` responds to its requests: with a status and what it says, or null if the line
+// breaks. Its clock is its own, it may have the storage of another window, and what jsdom leaves out of focus and dialogs is added.
+class Window {
+  constructor(page, url, office, storage) {
+    Object.assign(this, {office, timers: [], now: 0, asked: []});
+    const words = {url, runScripts: 'dangerously', virtualConsole: noting, beforeParse: (window) => this.completed(window, storage)};
+    const {window} = new JSDOM(page.replace(/<style>[^]*<\/style>/, ''), words);
+    Object.assign(this, {window, document: window.document, storage: window.localStorage});
+  }
+
+  completed(window, storage) {
+    const {HTMLElement, HTMLDialogElement, Document} = window;
+    const {focus} = HTMLElement.prototype;
+    const active = Object.getOwnPropertyDescriptor(Document.prototype, 'activeElement').get;
+    const shown = (element) => (element && isShown(element) ? element : window.document.body);
+    HTMLElement.prototype.focus = function focusShown(...words) { if (isShown(this)) focus.apply(this, words); };
+    Object.defineProperty(Document.prototype, 'activeElement', {get() { return shown(active.call(this)); }});
+    HTMLElement.prototype.scrollIntoView = () => {};
+    HTMLDialogElement.prototype.showModal = function showModal() { this.open = true; };
+    HTMLDialogElement.prototype.close = function close() { this.open = false; this.dispatchEvent(new window.Event('close')); };
+    if (storage) Object.defineProperty(window, 'localStorage', {value: storage});
+    window.fetch = (address, options) => this.fetched(address.replace(window.location.origin, ''), options);
+    window.setTimeout = (act, wait) => (wait ? this.timers.push({act, at: this.now + wait}) : setImmediate(act));
+    window.clearTimeout = (number) => { if (number) this.timers[number - 1].at = Infinity; };
+  }
+
+  async fetched(target, {method = 'GET', body, ...rest}) {
+    this.asked.push({method, target, body, ...rest});
+    const answer = await this.office({method, target});
+    if (!answer) throw new TypeError('the line broke');
+    return {status: answer.status, json: async () => JSON.parse(JSON.stringify(answer.says))};
+  }
+
+  // Lets some seconds pass.
+  async pass(seconds) {
+    const end = this.now + 1000 * seconds;
+    for (let due; (due = this.timers.find((it) => it.at <= end));) {
+      this.now = Math.max(this.now, due.at);
+      due.at = Infinity;
+      due.act();
+      await settled();
+    }
+    this.now = end;
+  }
+
+  at(id) {
+    const found = this.document.getElementById(id);
+    if (!found) throw new Error(`the page has no ${id}`);
+    return found;
+  }
+
+  // Presses a key at whatever has the focus, with what a browser does by itself then.
+  press(key) {
+    const target = this.document.activeElement;
+    const event = new this.window.KeyboardEvent('keydown', {key, bubbles: true, cancelable: true});
+    if (!target.dispatchEvent(event)) return;
+    if (target.tagName === 'BUTTON' && key === 'Enter') target.click();
+    if (target.tagName === 'INPUT' && key.length === 1) target.value += key;
+  }
+}
 
 const HERE = 'http://127.0.0.1:8080';
 const NAMES = ['Ann', 'Bob & <b>Cy</b>', '<img src=x onerror=alert(1)>'];
@@ -45,6 +117,7 @@ const press = async (window, ...keys) => {
 };
 
 const click = async (window, element) => {
+  assert.ok(isShown(element), `${element.id || element.textContent} isn\u2019t shown`);
   element.click();
   await settled();
 };
@@ -66,7 +139,7 @@ const finished = async (page, ...answers) => {
 };
 
 const said = (window) => window.at('said').textContent;
-const listed = (window) => window.at('list').querySelectorAll('li').map(({textContent}) => textContent);
+const listed = (window) => all(window.at('list'), 'li').map(({textContent}) => textContent);
 const SENT = 'Batch 13: ward 7, round 1, 2 papers. The office has your keying.';
 const drafts = (window) => Object.values(window.storage).map((text) => JSON.parse(text));
 const sent = (window) => window.asked.filter(({method}) => method === 'POST').map(({target, body}) => ({target, ...JSON.parse(body)}));
@@ -149,7 +222,7 @@ const PLAYS = {
   'names are shown as they are, and none is markup': async (page) => {
     const window = await begun(page, officeOf());
     const [row] = window.at('heads').rows;
-    const names = row.querySelectorAll('bdi');
+    const names = all(row, 'bdi');
     assert.deepEqual(names.map(({textContent}) => textContent), NAMES);
     assert.ok(names.every(({children}) => children.length === 0));
     assert.match(window.at('which').textContent, /^Batch 12, round 1, ward 7 Old Town <i>&$/);
@@ -159,13 +232,13 @@ const PLAYS = {
   'the paper that is asked for is shown, and it is the one that is keyed': async (page) => {
     const window = await begun(page, officeOf());
     const now = () => window.at('rows').querySelector('.now');
-    const marks = () => now().querySelectorAll('input').map(({value}) => value);
+    const marks = () => all(now(), 'input').map(({value}) => value);
     const shown = () => [window.at('paper').textContent, now().querySelector('th').textContent, ...marks()];
     await press(window, ...KEYS[0], ...KEYS[1]);
     assert.deepEqual(shown(), ['Paper 3 of 3', '3', '', '', '']);
     await press(window, 'g', '1', 'Enter');
     assert.deepEqual(shown(), ['Paper 1 of 3', '1', '1', '2', '']);
-    assert.equal(window.at('rows').rows.indexOf(now()), 3, 'the current row is at the same height as ever');
+    assert.equal([...window.at('rows').rows].indexOf(now()), 3, 'the current row is at the same height as ever');
     await press(window, 'g', '2', 'Enter');
     assert.deepEqual(shown(), ['Paper 2 of 3', '2', '', '', '12']);
     await press(window, 'ArrowUp', 'Delete', '3');
@@ -239,9 +312,6 @@ const planted = (page, [found, put]) => {
   assert.equal(page.split(found).length, 2, `a planted fault needs a text that stands once in the page: ${found}`);
   return page.replace(found, () => put);
 };
-
-let broken = null;
-process.on('unhandledRejection', (error) => { broken = error; });
 
 // Why a play doesn't end well on a page, or null.
 const faultOf = async (play, page) => {

@@ -1,4 +1,4 @@
-"""Wards of many papers from a fixed generator, and how long orders on them take: for tools/bench."""
+"""A ward of many papers from a fixed generator, and how long orders on it take: for tools/bench."""
 import os
 import random
 import shutil
@@ -13,10 +13,9 @@ from office_tools.web import request, status
 CANDIDATES, SEATS, BATCH, RUNS = 10, 4, 500, 5
 COLUMNS = range(1, CANDIDATES + 1)
 WARD, QUAY, ADDED = "`ward` of another ward", "ward 9 2 Quay --id x", range(11, 21)
-SHEETS = 20
 
 
-def run(words, wanted=0):
+def run(*words, wanted=0):
     """Runs a program to its end. Returns its seconds, and its peak of memory in MB."""
     began = time.perf_counter()
     process = subprocess.Popen(list(map(str, words)), stdout=subprocess.DEVNULL, stderr=subprocess.PIPE)
@@ -39,44 +38,23 @@ def shortest(prepare, act, runs=RUNS):
     return min(seconds for seconds, _ in results), max(peak for _, peak in results)
 
 
-def copying(office, copy):
-    """Returns a function that copies the file anew."""
+def best(office, words, wanted=0, runs=RUNS, act=run):
+    """Returns the same of an order, each time on a new copy of the file."""
+    copy = office.folder / "timed.db"
+
     def copied():
         remove(copy, f"{copy}-wal")
         shutil.copyfile(office.folder / TOWN, copy)
-    return copied
+    return shortest(copied, lambda: act(program(), copy, *words, wanted=wanted), runs)
 
 
-def best(office, words, wanted=0, runs=RUNS):
-    """Returns the shortest time of several runs of an order, each on a copy of the file, and the highest peak."""
-    copy = office.folder / "timed.db"
-    return shortest(copying(office, copy), lambda: run([program(), copy, *words], wanted), runs)
-
-
-def best_of(office, act):
-    """Returns the shortest time in which the stock SQLite of Python does something with a copy of the file."""
-    copy = office.folder / "stock.db"
-
-    def acted():
-        began = time.perf_counter()
-        base = sqlite3.connect(copy)
-        with base:
-            act(base)
-        base.close()
-        return time.perf_counter() - began, 0
-    return shortest(copying(office, copy), acted)[0]
-
-
-def papers(chance, count, doubtful="D"):
+def papers(chance, count):
     """Yields marks of papers: a few preferences each, one paper in two hundred doubtful."""
     for _ in range(count):
-        if chance.random() < 0.005:
-            yield doubtful
-            continue
         marks = [""] * CANDIDATES
         for place, candidate in enumerate(chance.sample(range(CANDIDATES), chance.randint(1, 6)), 1):
             marks[candidate] = str(place)
-        yield ",".join(marks)
+        yield "D" if chance.random() < 0.005 else ",".join(marks)
 
 
 def nominated(folder, *batches):
@@ -84,55 +62,41 @@ def nominated(folder, *batches):
     return Office(folder).begin(ward_orders(*batches, candidates=[f"Candidate {c}" for c in COLUMNS], seats=SEATS))
 
 
-def keyed_batches(office, count, chance):
-    """Writes the import files of so many papers. Returns the orders by which two clerks key them, and the verdicts on doubtful ones."""
-    lines, judged = [], []
-    for batch in range(1, count // BATCH + 1):
-        texts, file = list(papers(chance, BATCH)), f"batch-{batch}.csv"
-        office.write(file, keying(texts, COLUMNS))
-        imports = (f"import-keying {clerk} {batch} 1 {office.folder / file} --id k{batch}" for clerk in (4, 9))
-        lines += [f"batch {batch} 7 {BATCH} 4 9 --id b{batch}", *imports]
-        judged += [f"judge {batch} {number} reject:3 --id v{batch}-{number}" for number, text in enumerate(texts, 1) if text == "D"]
-    return lines, judged
+def keyed_ward(folder, count):
+    """Returns an office with a ward of so many papers, keyed alike by two clerks, and the next batch, which nobody keyed; and its number.
 
-
-def keep_batches(office, batches, chance, doubtful="D", receipts=True):
-    """Adds the rows that batches keyed alike by both clerks leave, by the stock SQLite; the program judges them at each opening."""
+    The file keying.csv is a keying of that batch. The stock SQLite adds the others, since the orders would take long; the program judges
+    its rows at each opening.
+    """
+    office, chance, new = nominated(folder), random.Random(7), count // BATCH + 1
     base = sqlite3.connect(office.folder / TOWN)
     with base:
-        for batch in range(1, batches + 1):
+        for batch in range(1, new):
+            texts, receipts = list(papers(chance, BATCH)), [(0, f"b{batch}", f"batch {batch}", f"batch {batch} added")]
             base.execute("INSERT INTO batch VALUES (?, 7, ?, 4, 9, 1)", (batch, BATCH))
-            texts = list(papers(chance, BATCH, doubtful))
-            told = [(0, f"b{batch}", f"batch {batch}", f"batch {batch} added")]
             for clerk in (4, 9):
                 rows = [(batch, clerk, number, text) for number, text in enumerate(texts, 1)]
                 base.executemany("INSERT INTO keying VALUES (?, 1, ?, ?, ?)", rows)
-                told.append((clerk, f"k{batch}", f"key {batch} 1", f"batch {batch} round 1 keyed"))
-            base.executemany("INSERT INTO receipt VALUES (?, ?, ?, ?)", told if receipts else [])
+                receipts.append((clerk, f"k{batch}", f"key {batch} 1", f"batch {batch} round 1 keyed"))
+            base.executemany("INSERT INTO receipt VALUES (?, ?, ?, ?)", receipts)
     base.close()
-
-
-def keyed_ward(folder, count):
-    """Returns an office with a ward of so many papers, keyed by two clerks, and one more batch that nobody keyed; and the batch's number.
-
-    The file keying.csv is a keying of that batch. The stock SQLite adds more than 20,000 papers, since the orders would take long.
-    """
-    office, chance, new = nominated(folder), random.Random(7), count // BATCH + 1
-    if count > 20000:
-        keep_batches(office, new - 1, chance)
-    else:
-        office.replay(keyed_batches(office, count, chance)[0])
     office.do("batch", new, 7, BATCH, 4, 9, "--id", f"b{new}")
     office.write("keying.csv", keying(papers(chance, BATCH), COLUMNS))
     return office, new
 
 
+def doubtful(office):
+    """Returns the doubtful papers of the rounds that are open, with their batches, in order."""
+    base = sqlite3.connect(office.folder / TOWN)
+    papers_so = "SELECT DISTINCT batch, paper FROM keying JOIN batch USING (batch, round) WHERE marks = 'D' ORDER BY 1, 2"
+    found = base.execute(papers_so).fetchall()
+    base.close()
+    return found
+
+
 def orders_in_keying(office, new):
     """Yields (what it is called, the words, the status) of each order on such an office, which gets what they need on the way."""
-    base = sqlite3.connect(office.folder / TOWN)
-    batch, paper = base.execute("SELECT batch, paper FROM keying WHERE marks = 'D' LIMIT 1").fetchone()
-    base.close()
-    names, script, file = (office.folder / name for name in ("names.csv", "script.txt", "keying.csv"))
+    (batch, paper), file = doubtful(office)[0], office.folder / "keying.csv"
     marks = [line.split(",", 1)[1] for line in file.read_text().splitlines()[1:]]
     for name, line in (
         ("`status` 7", "status 7"), ("`wards`", "wards"), ("`batches` 7", "batches 7"), ("`doubtful` 7", "doubtful 7"),
@@ -147,7 +111,8 @@ def orders_in_keying(office, new):
     office.replay(["ward 8 2 Quay --id w8", *(f"candidate 8 {c} 'Candidate {c}' --id q{c}" for c in range(1, 4))])
     office.write("other.csv", keying(papers(random.Random(8), BATCH), COLUMNS))
     for clerk, own in ((4, "keying.csv"), (9, "other.csv")):
-        office.do("import-keying", clerk, new, 1, own, "--id", "k")
+        office.do("import-keying", clerk, new, 1, office.folder / own, "--id", "k")
+    names, script = office.folder / "names.csv", office.folder / "script.txt"
     office.write(names.name, ["ward,candidate,name", *(f"8,{c},Candidate {c}" for c in ADDED)])
     office.write(script.name, [f"candidate 8 {c} 'Candidate {c}' --id r{c}" for c in ADDED])
     for name, line in (
@@ -159,8 +124,14 @@ def orders_in_keying(office, new):
         yield name, line.split(), 0
 
 
+def agree(office, new, turn=1):
+    """Has all papers agreed in this round of the last batch, and judged, so that the ward can be sealed."""
+    office.replay([f"import-keying {clerk} {new} {turn} {office.folder}/keying.csv --id r{turn}" for clerk in (4, 9)])
+    office.replay([f"judge {batch} {paper} reject:3 --id v{batch}-{paper}" for batch, paper in doubtful(office)])
+
+
 def orders_in_count(office):
-    """Yields the same of each order on an office of agreed papers, which is counted on the way; each stage under its number."""
+    """Yields the same of each order on such an office that is agreed; it is counted on the way. The last one yielded is `result`."""
     yield "`seal`", "seal 7 --id x".split(), 0
     office.do("seal", 7, "--id", "seal")
     yield WARD + ", sealed", QUAY.split(), 0
@@ -182,11 +153,13 @@ def orders_in_count(office):
     yield "`result`", ["result", "7"], 0
 
 
-def agreed_ward(folder, count):
-    """Returns an office with a ward of so many papers, all agreed, none doubtful, in keying."""
-    office = nominated(folder)
-    keep_batches(office, count // BATCH, random.Random(7), "1" + "," * (CANDIDATES - 1), receipts=False)
-    return office
+def orders(folder, count):
+    """Yields (the office, what it is called, the words, the status) of each order on a ward of so many papers."""
+    office, new = keyed_ward(folder, count)
+    yield from ((office, *order) for order in orders_in_keying(office, new))
+    office.do("again", new, "--id", "g")
+    agree(office, new, turn=2)
+    yield from ((office, *order) for order in orders_in_count(office))
 
 
 def advance(office, stages=None, found=0):
@@ -203,18 +176,3 @@ def asked(serving, target, body=""):
     if status(text) != 200:
         raise Wrong(f"{target}: {text}")
     return seconds
-
-
-def sheet_seconds(folder, count):
-    """Returns the seconds for a sheet of three stages of so many papers over HTTP, read anew each time, and answered from memory."""
-    office = agreed_ward(folder, count)
-    office.do("seal", 7, "--id", "seal")
-    advance(office, 3)
-    with office.serve().wait() as serving:
-        anew = []
-        for _ in range(SHEETS):
-            # What is no read ends the answers from memory.
-            serving.ask(request("/nothing"))
-            anew.append(asked(serving, "/wards/7/sheet"))
-        again = [asked(serving, "/wards/7/sheet") for _ in range(SHEETS)]
-    return sum(anew) / SHEETS, sum(again) / SHEETS

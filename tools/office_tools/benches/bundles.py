@@ -17,7 +17,7 @@ LISTS, RUNS, BOOKS = 2000, 3, ("parcels", "bundles")
 
 def best(*words):
     """Returns the seconds and the peak of memory in MB of the quickest run."""
-    return min(run([PROGRAM, *words]) for _ in range(RUNS))
+    return min(run(PROGRAM, *words) for _ in range(RUNS))
 
 
 def main(*papers: int):

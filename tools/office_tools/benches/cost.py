@@ -1,33 +1,22 @@
 """Measures every order on wards of several sizes, and prints the table of docs/COST.md.
 
 The ward has 10 candidates and 4 seats, and its papers come from a fixed generator. Each order is given on a copy of the file: the
-shortest of five runs counts, with the highest peak of memory. Next to them are what the stock SQLite of Python takes to read all rows, to
-add those of a keying, and those of the first stage. Keyings over HTTP, the same by orders, and a whole election as one script are measured
-up to 10,000 papers. PAPERS are multiples of 500, by default 1000 10000 100000; --write puts the table into docs/COST.md. Take the machine
-for a quarter of an hour.
+shortest of five runs counts, with the highest peak of memory. Next to them is what the stock SQLite of Python takes to read all rows, and
+to add those of the first stage. PAPERS are multiples of 500, by default 1000 10000 100000; --write puts the table into docs/COST.md. Take
+the machine for a quarter of an hour.
 """
-import json
 import os
-import random
 import re
 import sqlite3
 import subprocess
 import time
 from pathlib import Path
 
-from office_tools.election import keying
 from office_tools.office import ROOT, TOWN, Wrong, ended, program, remove, temporary_folder
 from office_tools.tables import Table, put_into
 from office_tools.tries import older_office
-from office_tools.wards_timed import (
-    BATCH, COLUMNS, advance, agreed_ward, asked, best, best_of, keyed_batches, keyed_ward, nominated, orders_in_count, orders_in_keying,
-    papers, run, sheet_seconds, shortest)
+from office_tools.wards_timed import advance, best, orders, run, shortest
 from office_tools.web import request
-
-MOST_OVER_HTTP, STOCK = 10000, "its rows added by the stock sqlite"
-ONCE = [f"a keying of {BATCH} papers over HTTP, the office open", "the same by an order, in a ward that is keyed so",
-        "`replay` of a whole election"]
-SHEETS = ["a sheet of 3 stages over HTTP, the office open", "the same asked again, answered from memory"]
 
 
 def read_all(base):
@@ -37,45 +26,21 @@ def read_all(base):
         base.execute(f"SELECT * FROM {table} ORDER BY {key}").fetchall()
 
 
-def in_keying(folder, count):
-    """Yields (what, seconds, peak of memory) of orders on a ward that is keyed, and of those about the file."""
-    office, new = keyed_ward(folder, count)
-    rows = [(9000, number, text) for number, text in enumerate(papers(random.Random(7), BATCH), 1)]
-    yield "all rows read by the stock sqlite", best_of(office, read_all), None
-    for what, words, wanted in orders_in_keying(office, new):
-        yield what, *best(office, words, wanted)
-        if "import-keying" in what:
-            yield STOCK, best_of(office, lambda base: base.executemany("INSERT INTO keying VALUES (?, 1, 4, ?, ?)", rows)), None
-    town, made, old = (office.folder / name for name in (TOWN, "made.db", "older.db"))
-    for what, prepare, act in (
-        ("`init`", lambda: remove(made, f"{made}-wal"), lambda: run([program(), made, "init"])),
-        ("`copy`", lambda: remove(made, f"{made}-wal"), lambda: run([program(), town, "copy", made])),
-        ("`migrate`", lambda: make_older(town, old), lambda: run([program(), old, "migrate"])),
-        ("`serve`, until its first answer", lambda: None, lambda: served_once(office)),
-    ):
-        yield what, *shortest(prepare, act)
+def by_stock(act):
+    """Returns a function that times what Python's own SQLite does with a database, in the place of an order."""
+    def acted(_, path, wanted):
+        began = time.perf_counter()
+        base = sqlite3.connect(path)
+        with base:
+            act(base)
+        base.close()
+        return time.perf_counter() - began, wanted
+    return acted
 
 
-def in_count(folder, count):
-    """Yields the same of orders on a ward that is counted. The number of its stages is the last that it yields."""
-    office = agreed_ward(folder / "office", count)
-    for what, words, wanted in orders_in_count(office):
-        stage = re.match(r"`advance`, stage (\d+) of (\d+)", what)
-        if not stage:
-            yield what, *best(office, words, wanted)
-            continue
-        stages = stage[2]
-        if stage[1] == "1":
-            yield "`advance`, the first stage", *best(office, words, wanted)
-            yield STOCK, best_of(office, adding_first_stage(office, folder)), None
-        elif stage[1] == "4":
-            yield "`advance`", *best(office, words, wanted)
-    yield stages
-
-
-def adding_first_stage(office, folder):
+def adding_first_stage(office):
     """Returns a function that adds the rows of the first stage to a database."""
-    counted = office.copied(folder / "first")
+    counted = office.copied(office.folder / "first")
     advance(counted, 1)
     found = counted.rows()
 
@@ -108,54 +73,44 @@ def served_once(office):
         return time.perf_counter() - began, serving.memory()
 
 
-def keyings(folder, count):
-    """Returns the seconds of each keying of a ward over HTTP, and by an order."""
-    chance, numbers = random.Random(7), range(1, count // BATCH + 1)
-    office = nominated(folder, *((number, BATCH, 4, 9) for number in numbers))
-    texts = {number: list(papers(chance, BATCH)) for number in numbers}
-    ordered = office.copied(folder / "ordered")
-    for number in numbers:
-        ordered.write(f"{number}.csv", keying(texts[number], COLUMNS))
-    with office.serve().wait() as serving:
-        bodies = {number: json.dumps({"id": f"k{number}", "round": 1, "papers": texts[number]}) for number in numbers}
-        over_http = sum(asked(serving, f"/clerks/4/batches/{number}/keying", body) for number, body in bodies.items())
-    began = time.perf_counter()
-    for number in numbers:
-        ordered.do("import-keying", 4, number, 1, f"{number}.csv", "--id", f"k{number}")
-    return over_http / len(numbers), (time.perf_counter() - began) / len(numbers)
-
-
-def whole_election(folder, count):
-    """Returns the seconds and the memory of a script that has all orders of an election after its nominations."""
-    office = nominated(folder)
-    keyed, judged = keyed_batches(office, count, random.Random(7))
-    office.write("election.txt", [*keyed, *judged, "seal 7 --id s", "count 7 --id a", "declare 7 --id d"])
-    return best(office, ["replay", office.folder / "election.txt"])
+def of_the_file(office):
+    """Yields the times of what is done with the whole file."""
+    town, made, old = (office.folder / name for name in (TOWN, "made.db", "older.db"))
+    for what, prepare, act in (
+        ("`init`", lambda: remove(made, f"{made}-wal"), lambda: run(program(), made, "init")),
+        ("`copy`", lambda: remove(made, f"{made}-wal"), lambda: run(program(), town, "copy", made)),
+        ("`migrate`", lambda: make_older(town, old), lambda: run(program(), old, "migrate")),
+        ("`serve`, until its first answer", lambda: None, lambda: served_once(office)),
+    ):
+        yield what, *shortest(prepare, act)
 
 
 def measured(count):
-    """Returns (the lines of a ward of so many papers, the number of its stages)."""
+    """Returns ({what: (seconds, peak of memory)} on a ward of so many papers, the number of its stages)."""
+    found, stages = {}, {}
     with temporary_folder() as folder:
-        rows = list(in_keying(folder / "keying", count))
-        *counted, stages = in_count(folder / "count", count)
-        once = [(None, None)] * 3
-        if count <= MOST_OVER_HTTP:
-            once = [*((seconds, None) for seconds in keyings(folder / "http", count)), whole_election(folder / "whole", count)]
-        once += [(seconds, None) for seconds in sheet_seconds(folder / "sheets", count)]
-        return [*rows, *counted, *((what, *found) for what, found in zip(ONCE + SHEETS, once))], stages
+        for office, name, words, wanted in orders(folder, count):
+            if name == "`status` 7":
+                found["all rows read by the stock sqlite"] = best(office, [], act=by_stock(read_all))[0], None
+                found.update((what, result) for what, *result in of_the_file(office))
+            stage = re.fullmatch(r"`advance`, stage (\d+) of \d+", name)
+            (stages if stage else found)[stage[1] if stage else name] = best(office, words, wanted)
+            if stage and stage[1] == "1":
+                found["`advance`, the first stage"] = stages.pop("1")
+                found["its rows added by the stock sqlite"] = best(office, [], act=by_stock(adding_first_stage(office)))[0], None
+        found["`advance`"] = max(stages.values())
+    return found, 1 + len(stages)
 
 
 def cell(seconds, peak):
-    if seconds is None:
-        return "–"
-    return f"{seconds * 1000:.0f} ms" + (f", {peak:.0f} MB" if peak is not None else "")
+    return f"{seconds * 1000:.0f} ms" + ("" if peak is None else f", {peak:.0f} MB")
 
 
-def check_all_are_there(rows):
+def check_all_are_there(names):
     """Checks that each order of the program's help has a line."""
     helped = subprocess.run([program(), "--help"], capture_output=True, text=True, check=True).stdout
-    orders = set(re.findall(r"^  ([a-z]+(?:-[a-z]+)?)(?: \[?[A-Z]+\]?)?  +[A-Z]", helped, re.M))
-    if missing := orders - {found[1] for what, *_ in rows if (found := re.match(r"`([a-z-]+)`", what))}:
+    there = set(re.findall(r"^  ([a-z]+(?:-[a-z]+)?)(?: \[?[A-Z]+\]?)?  +[A-Z]", helped, re.M))
+    if missing := there - {found[1] for name in names if (found := re.match(r"`([a-z-]+)`", name))}:
         raise Wrong(f"no line for {', '.join(sorted(missing))}")
 
 
@@ -164,8 +119,8 @@ def main(*papers: int, write=False):
     columns = [measured(count) for count in sizes]
     check_all_are_there(columns[0][0])
     table = Table("Order", *(f"{count:,} papers, {stages} stages" for count, (_, stages) in zip(sizes, columns)))
-    for rows in zip(*(rows for rows, _ in columns)):
-        table.row(rows[0][0], *(cell(seconds, peak) for _, seconds, peak in rows))
+    for name in columns[0][0]:
+        table.row(name, *(cell(*found[name]) for found, _ in columns))
     names = re.findall(r"^model name\s*: (.*)$", Path("/proc/cpuinfo").read_text(encoding="utf-8"), re.M)
     table.show("")
     table.show(f"Measured on: {names[0] if names else 'a processor without a name'}, {os.cpu_count()} of it.")

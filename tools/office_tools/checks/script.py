@@ -1,20 +1,26 @@
 """Runs the script of the page on which clerks key, without a browser, and checks what it shows, sends and stores.
 
 A clerk is denied, lists batches, keys papers and sends them, and the office accepts the keying, refuses it, fails or doesn't answer. Then
-faults are planted in the page, one at a time: the test has to notice each. It needs `node`. FILE is a page as a program serves it; without
-one it is the page of crates/keying_page.
+faults are planted in the page, one at a time: the test has to notice each. It needs `node` and Debian's `node-jsdom`. FILE is a page as a
+program serves it; without one it is the page of crates/keying_page.
 """
+import os
 import subprocess
 import tempfile
 from pathlib import Path
 
 from office_tools.checks.page import page_of_sources
-from office_tools.office import ROOT, needs
+from office_tools.office import ROOT, Wrong, needs
+
+MODULES = Path("/usr/share/nodejs")
 
 
 def main(file: Path = None):
     needs("node")
+    if not (MODULES / "jsdom").exists():
+        raise Wrong("jsdom is missing; on Debian: apt-get install node-jsdom")
     with tempfile.NamedTemporaryFile("w", suffix=".html") as page:
         page.write(file.read_text(encoding="utf-8") if file else page_of_sources()[0])
         page.flush()
-        return subprocess.run(["node", ROOT / "tools/office_tools/page_script.js", page.name], check=False).returncode
+        words = ["node", ROOT / "tools/office_tools/page_script.js", page.name]
+        return subprocess.run(words, env=os.environ | {"NODE_PATH": str(MODULES)}, check=False).returncode

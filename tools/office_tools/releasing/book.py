@@ -3,39 +3,10 @@ import html
 import re
 import subprocess
 
+from office_tools.office import ROOT
+
 PAGES = ["INSTALLING", "ELECTION", "TELLERS", "AGENTS", "FORMATS", "ORDERS", "REFUSALS", "IMPORTS", "SHEETS", "BALLOTS", "RULES", "HTTP",
          "DATABASE", "GLOSSARY"]
-BOOK = """<!DOCTYPE html>
-<html lang="en">
-<head>
-<meta charset="utf-8">
-<meta name="viewport" content="width=device-width, initial-scale=1">
-<meta http-equiv="Content-Security-Policy" content="default-src 'none'; style-src 'unsafe-inline'">
-<title>count-office VERSION</title>
-<style>
-body { max-width: 50rem; margin: 2rem auto; padding: 0 1rem; font: 1rem/1.5 system-ui, sans-serif; color: #111; background: #fff; }
-h1 { border-top: 3px solid #333; padding-top: 1rem; margin-top: 3rem; }
-pre { overflow-x: auto; padding: .6rem; background: #f3f3f3; }
-code { font-size: .9rem; }
-table { border-collapse: collapse; display: block; overflow-x: auto; }
-th, td { border: 1px solid #767676; padding: .25rem .5rem; text-align: left; vertical-align: top; }
-nav ul { columns: 2; }
-@media (max-width: 40rem) { nav ul { columns: 1; } }
-blockquote { margin: 1rem 0; padding: .1rem 1rem; border-left: 4px solid #767676; background: #f3f3f3; }
-@media print { body { max-width: none; } pre, table { overflow: visible; } h1 { break-before: page; } h2, h3 { break-after: avoid; } }
-.l1 { font-weight: bold; } .l2 { margin-left: 1rem; }
-</style>
-</head>
-<body>
-<p>count-office, version VERSION</p>
-<nav aria-label="Contents">
-<ul>
-CONTENTS</ul>
-</nav>
-PAGES</body>
-</html>
-"""
-
 
 def slug(text):
     """Returns the name of a heading in links, as the pages use it: lower case, hyphens for blanks, no other signs."""
@@ -81,7 +52,7 @@ def book(docs, version):
         parts.append(with_links(name, page))
         headings += [found for found in own if found[0] in "12"]
     contents = "".join('<li class="l{}"><a href="#{}">{}</a></li>\n'.format(*found) for found in headings)
-    front, end = BOOK.replace("VERSION", version).split("PAGES")
+    front, end = (ROOT / "release/package/book.html").read_text(encoding="utf-8").replace("VERSION", version).split("PAGES")
     text = front.replace("CONTENTS", contents) + "".join(parts) + end
     if lost := set(re.findall(r' href="#([^"]+)"', text)) - set(re.findall(r' id="([^"]+)"', text)):
         raise SystemExit(f"links of the pages that lead nowhere: {', '.join(sorted(lost))}")

@@ -1,76 +1,18 @@
 """What a shell offers behind `count-office`, made from the program's own help."""
+import re
+
+from office_tools.office import ROOT
 from office_tools.releasing import help as helps
 
-BASH = """# What bash offers behind `count-office`: the path of an office, an order, and the order's options or files.
-_count_office() {
-    local word=${COMP_WORDS[COMP_CWORD]} options='' files=''
-    COMPREPLY=()
-    if ((COMP_CWORD == 1)); then
-        compopt -o filenames
-        mapfile -t COMPREPLY < <(compgen -f -- "$word"; compgen -W '--help --version' -- "$word")
-        return
-    fi
-    if [[ ${COMP_WORDS[1]} == - ]]; then
-        if ((COMP_CWORD == 2)); then
-            mapfile -t COMPREPLY < <(compgen -W check -- "$word")
-        else
-            compopt -o filenames
-            mapfile -t COMPREPLY < <(compgen -f -- "$word")
-        fi
-        return
-    fi
-    if ((COMP_CWORD == 2)); then
-        mapfile -t COMPREPLY < <(compgen -W '%s' -- "$word")
-        return
-    fi
-    case ${COMP_WORDS[2]} in
-%s    esac
-    if [[ $word == -* ]]; then
-        mapfile -t COMPREPLY < <(compgen -W "$options" -- "$word")
-    elif [[ -n $files ]]; then
-        compopt -o filenames
-        mapfile -t COMPREPLY < <(compgen -f -- "$word")
-    fi
-}
-complete -F _count_office count-office
-"""
-ZSH = """#compdef count-office
-# What zsh offers behind `count-office`: the path of an office, an order, and the order's options or files.
-_count_office() {
-    local -a orders
-    orders=(
-%s    )
-    if ((CURRENT == 2)); then
-        if [[ $PREFIX == -* ]]; then compadd -- --help --version; else _files; fi
-    elif [[ $words[2] == - ]]; then
-        if ((CURRENT == 3)); then compadd check; else _files; fi
-    elif ((CURRENT == 3)); then
-        _describe order orders
-    elif [[ $PREFIX == -* ]]; then
-        case $words[3] in
-%s        esac
-    else
-        case $words[3] in (%s) _files ;; esac
-    fi
-}
-_count_office "$@"
-"""
-FISH = """# What fish offers behind `count-office`: the path of an office, an order, and the order's options or files.
-function __count_office_words -d 'Whether so many words stand before the one that is typed'
-    test (count (commandline -opc)) -eq $argv[1]
-end
-function __count_office_checks -d 'Whether the checker is asked'
-    set -l words (commandline -opc)
-    test (count $words) -ge 2; and test "$words[2]" = -
-end
-function __count_office_gives -d 'Whether this order is given'
-    set -l words (commandline -opc)
-    test (count $words) -ge 3; and test "$words[2]" != -; and test "$words[3]" = $argv[1]
-end
-complete -c count-office -n '__count_office_words 1' -l help -d 'Print help'
-complete -c count-office -n '__count_office_words 1' -l version -d 'Print the version'
-complete -c count-office -n '__count_office_words 2; and __count_office_checks' -f -a check -d 'Check a sheet against its ballots'
-"""
+PARTS = ROOT / "release/package/completions"
+
+
+def filled(shell, **texts):
+    """Returns what release/package/ has for a shell, with texts in the place of their names, or of the comments that are these."""
+    found = (PARTS / f"count-office.{shell}").read_text(encoding="utf-8")
+    for name, text in texts.items():
+        found = re.sub(rf"^ *# {name}\n|\b{name}\b", lambda _: text, found, count=1, flags=re.M)
+    return found
 
 
 def options_of(order):
@@ -85,13 +27,13 @@ def quoted(text):
 def bash(orders):
     files = {True: "yes", False: ""}
     cases = (f'        {order.name}) options="{options_of(order)}" files={files[order.takes_file()]} ;;\n' for order in orders)
-    return BASH % (" ".join(order.name for order in orders), "".join(cases))
+    return filled("bash", CASES="".join(cases), ORDERS=" ".join(order.name for order in orders))
 
 
 def zsh(orders):
     names = "".join(f"        {quoted(order.name + ':' + order.about.replace(':', chr(92) + ':'))}\n" for order in orders)
     options = "".join(f"            ({order.name}) compadd -- {options_of(order)} ;;\n" for order in orders)
-    return ZSH % (names, options, "|".join(order.name for order in orders if order.takes_file()))
+    return filled("zsh", ORDERS=names, OPTIONS=options, FILES="|".join(order.name for order in orders if order.takes_file()))
 
 
 def fish(orders):
@@ -103,7 +45,7 @@ def fish(orders):
         lines.append(f"{seen} -l help -d 'Print help'")
         for option in order.long_options():
             lines.append(f"{seen} -l {option.name.split()[0][2:]} {'-x ' if '<' in option.name else ''}-d {quoted(option.text)}")
-    return FISH + "\n".join(lines) + "\n"
+    return filled("fish") + "\n".join(lines) + "\n"
 
 
 def completions(program):

@@ -1,15 +1,13 @@
 """Tries that `serve` holds its port at both loopback addresses, or serves nobody.
 
 docs/HOSTILE.md has a line for each case. The one of a machine without [::1] needs `unshare`, `ip` and `curl`, and the right to make a
-network. A machine without [::1] has the last two rows alone.
+network, and the one of a program that is kept from IPv6 needs `strace`. A machine without [::1] has the last two rows alone.
 """
 import contextlib
-import ctypes
-import platform
+import re
 import resource
 import shutil
 import socket
-import struct
 import subprocess
 import time
 
@@ -33,19 +31,6 @@ done
 kill "$server"
 exit 1
 """
-
-
-def keep_from_ipv6():
-    """Has each `socket(AF_INET6, ..)` of this process fail with EAFNOSUPPORT, as systemd's RestrictAddressFamilies does."""
-    call = {"x86_64": 41, "aarch64": 198}[platform.machine()]
-    # Instructions of a seccomp filter: load the call's number; if it is `socket`, load its first argument; if that is AF_INET6, fail.
-    fail, allow = 0x00050000 | 97, 0x7FFF0000
-    code = [(0x20, 0, 0, 0), (0x15, 0, 3, call), (0x20, 0, 0, 16), (0x15, 0, 1, V6), (0x06, 0, 0, fail), (0x06, 0, 0, allow)]
-    text = ctypes.create_string_buffer(b"".join(struct.pack("HBBI", *line) for line in code))
-    filter_ = ctypes.create_string_buffer(struct.pack("H6xQ", len(code), ctypes.addressof(text)))
-    libc = ctypes.CDLL(None, use_errno=True)
-    if libc.prctl(38, 1, 0, 0, 0) or libc.prctl(22, 2, ctypes.c_void_p(ctypes.addressof(filter_)), 0, 0):
-        raise OSError(ctypes.get_errno(), "no filter of calls")
 
 
 def few_files():
@@ -117,8 +102,11 @@ def crowded(host, others, count, **how):
 
 
 def kept_from_ipv6(office):
-    with office.serve(preexec_fn=keep_from_ipv6).wait() as serving:
-        return is_good(serving.port)
+    """Has each socket of IPv6 refused with EAFNOSUPPORT, as systemd's RestrictAddressFamilies does: the third that `serve` asks for."""
+    under = ["strace", "-D", "-o", office.folder / "trace", "-e", "trace=socket", "-e", "inject=socket:error=EAFNOSUPPORT:when=3"]
+    with office.serve(under=under).wait() as serving:
+        is_refused = re.search(r"socket\(AF_INET6, .*\(INJECTED\)", (office.folder / "trace").read_text())
+        return bool(is_refused) and is_good(serving.port)
 
 
 def without_ipv6(office):

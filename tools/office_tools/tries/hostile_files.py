@@ -6,29 +6,21 @@ log, but root's, or if others may write to DB; `serve` refuses another's codes (
 import os
 import random
 import re
-import shlex
 import shutil
 import sqlite3
 import stat
 
 from office_tools.damage import noise
-from office_tools.election import execute, keying, ward_orders
+from office_tools.election import COPYING, ELECTION, END, FILE, READS, REPLAY, REQUESTS, execute, offices
 from office_tools.office import LOG, TOWN, Office, Wrong, remove, temporary_folder
 from office_tools.tables import Table
 from office_tools.web import request, status
 
-JOURNAL, PAGE, BITS_A_PAGE, FILE = "town.db-journal", 4096, 6, "keying.csv"
-PAPERS = ["1,2,"] * 4 + ["1,,2"] * 2 + [",1,", ",,1", ",,1"]
-MADE = ["init", *ward_orders((12, len(PAPERS), 4, 9))]
-COUNTED = [f"import-keying 4 12 1 {FILE} --id k", f"import-keying 9 12 1 {FILE} --id k", "seal 7 --id s", "advance 7 --id a"]
+JOURNAL, PAGE, BITS_A_PAGE = "town.db-journal", 4096, 6
 STATUS, QUAY = "status 7", "ward 8 1 Quay --id q"
-# Every other order, each with words that it understands.
-FURTHER = [
-    "withdraw 7 2 --id x", "third 12 5 --id t", "again 12 --id g", "judge 12 1 accept:1,2, --id j", "lot 7 3 2 --id l", "declare 7 --id d",
-    f"import-candidates {FILE} --id i", STATUS, "wards", "batches 7", "doubtful 7", "differences 12", "papers 12", "receipts", "journal",
-    "next 7", "sheet 7", "ballots 7", "result 7", "page 7", "table 7", "index", f"key 9 12 1 {' '.join(PAPERS)} --id y", "count 7 --id e",
-    f"replay {FILE}", "copy copy.db", "migrate", "serve 65000 1"]
-EVERY = [shlex.split(line) for line in MADE + COUNTED + FURTHER]
+# Every order, each with words that it understands.
+EVERY = [order.words for order in (*ELECTION, REPLAY, COPYING, *(order for _, order in READS))] + [
+    line.split() for line in ("ballots 7", "page 7", "table 7", "index", "migrate", "serve 65000 1")]
 # The longest log that `init` begins before it writes the first page of the file.
 BEGUN, FRAME = 41, 24 + PAGE
 LENGTHS = [0, 1, 31, 32, BEGUN, BEGUN + 1, 55, 56, 511, 512, 567, 568, FRAME + 31, FRAME + 32, 3 * PAGE]
@@ -41,14 +33,6 @@ FAULT_105 = (3, "", "fault 105: wrong database\n")
 STRANGER = 65534
 FOREIGN_LOG = (3, "", "fault 102: store\ntown.db-wal belongs to another account than town.db, and isn't read\n")
 NO_SOCKET = "no socket for orders beside the database: the database belongs to another account\n"
-
-
-def small_office(folder, orders):
-    office = Office(folder)
-    office.write(FILE, keying(PAPERS, range(1, 4)))
-    for line in orders:
-        office.do(*shlex.split(line))
-    return office
 
 
 def changed(folder, town, statement):
@@ -134,12 +118,10 @@ def tried(folder, what, town, log=None):
     return found[0]
 
 
-def killed_log(folder):
+def killed_log(office):
     """Returns the log of an office that was killed while it served, which holds what it answered."""
-    office = small_office(folder / "killed", MADE)
-    body = '{"id":"k","round":1,"papers":[%s]}' % ",".join(f'"{marks}"' for marks in PAPERS)
-    with office.serve(connections=9) as serving:
-        answer = serving.ask(request("/clerks/4/batches/12/keying", body=body))
+    with office.serve() as serving:
+        answer = serving.ask(REQUESTS[1][1].sends)
     log = (office.folder / LOG).read_bytes()
     if status(answer) != 200 or len(log) < 32 + FRAME:
         raise Wrong(f"the office that is killed: {answer}, a log of {len(log)} bytes")
@@ -175,12 +157,12 @@ def tried_beside(folder, town, name, content, words):
     raise Wrong(f"{words} beside {name}: {printed}; {len(before)} files before")
 
 
-def print_beside(folder, chance):
+def print_beside(folder, keyed, chance):
     """Prints the table of what is next to the place of DB."""
     made = "`init` makes an office"
     heads = ("DB missing: fault 105", "DB of 0 bytes: fault 105", made, "DB of 1 byte: fault 105", made)
     table = Table(f"What stands beside the place of DB ({len(EVERY)} orders each)", *heads)
-    for what, name, contents in beside(chance, killed_log(folder)):
+    for what, name, contents in beside(chance, killed_log(keyed)):
         cells = []
         for town in (None, b"", b"\0"):
             found = [tried_beside(folder, town, name, content, words) for content in contents for words in EVERY]
@@ -250,10 +232,11 @@ def print_foreign(folder, town):
 def main(seed=7):
     columns = ["opens", "101", "102", "103", "105", "106"]
     with temporary_folder() as folder:
-        town = (small_office(folder / "office", MADE + COUNTED).folder / TOWN).read_bytes()
+        before = offices(folder)
+        town = (before[END].folder / TOWN).read_bytes()
         table = Table(f"The file ({len(town) // PAGE} pages, seed {seed})", "files", *columns)
         for what, files in kinds(folder, town, random.Random(seed)):
             found = [tried(folder, what, *contents) for contents in zip(*files)]
             table.row(what, len(found), *map(found.count, columns))
-        print_beside(folder, random.Random(seed))
+        print_beside(folder, before[REQUESTS[1][0]], random.Random(seed))
         print_foreign(folder, town)

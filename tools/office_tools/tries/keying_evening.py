@@ -3,8 +3,8 @@
 Two browsers log in as clerks 4 and 9, and each keys the same batch of 50 papers. One leaves a paper out and puts it in, and mends another.
 A page is loaded again in mid-batch, the server is killed and started again, and a line breaks after a keying was kept. At the end the rows
 are those that were typed, each keyed once. Then a clerk keys in the browser of another, a new round comes, wrong codes come under a clerk's
-number, names that would be markup are shown, and pages from elsewhere try what they can in the browser of a clerk who is logged in.
-Pictures at 1024 and 400 pixels go into the folder PICTURES. It needs the program `chromium`.
+number, and names that would be markup are shown.
+Pictures at 1024 and 400 pixels go into the folder PICTURES. It needs `chromium`, `chromium-driver` and `python3-selenium`.
 """
 import json
 import random
@@ -14,9 +14,9 @@ import statistics
 import time
 from pathlib import Path
 
-from office_tools.browser import LOOSE, PLACES, Browser, is_of_office, tries
+from office_tools.browser import Browser
 from office_tools.election import CODES, SMALL, evening_office
-from office_tools.office import Wrong, free_port, needs, remove, temporary_folder
+from office_tools.office import Wrong, free_port, remove, temporary_folder
 from office_tools.tables import Table
 from office_tools.web import HERE, Proxy, ask, basic, request, status
 
@@ -58,11 +58,11 @@ class Teller:
 
     def __init__(self, evening, clerk):
         self.evening, self.clerk = evening, clerk
-        self.browser = Browser(evening.folder, str(clerk), CODES[clerk], LOOSE)
+        self.browser = Browser()
         self.keys, self.seconds = 0, []
 
     def open(self):
-        self.browser.open(self.evening.address(self.clerk))
+        self.evening.log_in(self.browser, self.clerk)
         self.browser.until(LISTED)
 
     def list(self):
@@ -146,14 +146,19 @@ class Evening:
     def rows(self, batch, clerk):
         return self.asked("SELECT marks FROM keying WHERE batch = ? AND round = 1 AND clerk = ? ORDER BY paper", batch, clerk)
 
-    def address(self, clerk):
-        return f"http://{HERE}:{self.line.port}/clerks/{clerk}/"
+    def address(self, clerk, login=""):
+        return f"http://{login}{HERE}:{self.line.port}/clerks/{clerk}/"
+
+    def log_in(self, browser, clerk):
+        """Opens a clerk's page. The browser has its login from then on, as if it had been typed when the browser asked for it."""
+        browser.open(self.address(clerk, f"{clerk}:{CODES[clerk]}@"))
+        browser.open(self.address(clerk))
 
     def picture(self, teller, name):
         """Writes pictures of a window, if they are asked for."""
         for width, height in ((400, 800), (1024, 768)) if self.pictures else ():
             teller.browser.resize(width, height)
-            teller.browser.wait(0.1)
+            time.sleep(0.1)
             (self.pictures / f"{name}-{width}.png").write_bytes(teller.browser.picture())
 
     def play(self):
@@ -166,7 +171,6 @@ class Evening:
                 self.in_one_browser(four)
                 self.wrong_codes(nine)
                 self.quiet(four, nine)
-                self.elsewhere(four)
                 self.left(four)
             finally:
                 self.kill()
@@ -267,14 +271,12 @@ class Evening:
         made = browser.value("document.querySelectorAll('#papers img, #papers b b').length")
         if made or browser.value("document.title") != "Clerk 4: keying":
             raise Wrong("a name is markup")
-        browser.name, browser.code = "9", CODES[9]
-        browser.open(self.address(9))
+        self.log_in(browser, 9)
         browser.until(LISTED)
         text = browser.text()
         four.begin(13)
         if "here" in text or "clerk 4" in text or "clerk 9" not in text or any(browser.value(FIELDS)):
             raise Wrong(f"clerk 9 sees {text!r}, or what clerk 4 keyed")
-        browser.name, browser.code = "4", CODES[4]
         browser.open(self.address(4) + "#13")
         four.shows("papers")
         four.at(3)
@@ -327,37 +329,18 @@ class Evening:
         four.begin(14)
         self.picture(four, "round-2")
         strange = [line for line in self.line.asked if not ASKED.fullmatch(line)]
-        said = [line for teller in (four, nine) for line in teller.browser.said if "ERR_" not in line]
+        said = [line for teller in (four, nine) for line in teller.browser.said() if "ERR_" not in line]
         if strange or said or "differ" in seen.lower():
             raise Wrong(f"the page asked {strange}, its console has {said}, clerk 9 sees {seen!r}")
 
-    def elsewhere(self, four):
-        """Pages from elsewhere try what they can in the browser of clerk 4, who is logged in: nothing is read, and nothing kept."""
-        table = Table("A page of", "tries", "reads")
-        places = ("another port", "another name, at this machine", "another name, at that name")
-        with Proxy() as pages:
-            for where, (page, office) in zip(places, PLACES):
-                window = four.browser.another()
-                window.open(f"http://{page}:{pages.port}/page")
-                for what, _, text in tries(window, f"http://{office}:{self.line.port}", 15, step=0, turns=1):
-                    table.row(where, what, "read" if is_of_office(text) else "-")
-                    if is_of_office(text):
-                        raise Wrong(f"{what}, a page of {page} at {office}: it reads {text!r}")
-                window.close()
-        four.browser.reload()
-        four.browser.until("document.activeElement.tagName === 'BUTTON'")
-        if self.rows(15, 4):
-            raise Wrong("a page from elsewhere keyed")
-
     def left(self, four):
         """Whoever leaves his place is asked for his code again."""
-        browser, asked = four.browser, four.browser.logins
+        browser = four.browser
         browser.value("document.getElementById('go-away').click()")
         browser.until("document.body.innerText.includes('Clerk 4 has left')")
         self.picture(four, "left")
-        browser.name = ""
-        browser.reload()
-        if browser.logins == asked or "unauthorized" not in browser.text():
+        browser.open(self.address(4))
+        if not any("status of 401" in line for line in browser.said()) or "lerk" in browser.text():
             raise Wrong(f"clerk 4 has left, and the page shows {browser.text()!r}")
 
 
@@ -373,7 +356,6 @@ def print_keys(papers, keys, seconds):
 
 
 def main(pictures: Path = None):
-    needs("chromium")
     if pictures:
         pictures.mkdir(parents=True, exist_ok=True)
     with temporary_folder() as folder:

@@ -1,31 +1,22 @@
 """Kills `serve` at random moments while clients are answered, and sees that nothing is lost.
 
-One client sends a request, at once or in pieces. Then twenty clerks key at once, next to silent clients, and ten orders are handed
-over. docs/HOSTILE.md says what must hold after each kill.
+Twenty clerks key at once, half of them in pieces, next to silent clients, and ten orders are handed over. docs/HOSTILE.md says what must
+hold after each kill.
 """
 import collections
 import random
 import socket
-import statistics
 import time
 from concurrent.futures import ThreadPoolExecutor
 
-from office_tools.election import REQUESTS, offices, ward_orders
+from office_tools.election import ward_orders
 from office_tools.office import SECONDS, STORE, Office, Wrong, temporary_folder
 from office_tools.tables import Table
-from office_tools.trials import Trial
 from office_tools.web import BROKEN, HERE, is_whole, request
 
 PIECES = 8
 CLERKS, SILENT, PAPERS, WARDS = range(1, 21), 10, 2, range(11, 21)
-AT_ONCE, IN_PIECES, AFTER = "at once", "in pieces", "killed after the answer"
 KEYING = '{"id":"k","round":1,"papers":["1,2,","D"]}'
-
-
-def cut(sends, chance):
-    """Returns a request in pieces."""
-    places = sorted(chance.sample(range(1, len(sends)), PIECES))
-    return [sends[begin:end] for begin, end in zip([0, *places], [*places, len(sends)])]
 
 
 def exchanged(line, parts, pauses):
@@ -41,38 +32,6 @@ def exchanged(line, parts, pauses):
     except BROKEN:
         pass
     return text
-
-
-class OneClient:
-    """A request on the office before it, and how long its answer takes."""
-
-    def __init__(self, folder, office, order):
-        self.trial, self.sends, self.seconds = Trial(folder, office, order), order.sends, 0
-        self.seconds = statistics.median(self.served([self.sends])[0] for _ in range(5))
-
-    def served(self, parts, wait=None):
-        """Returns (seconds, the office, what the client had) of a `serve` that is killed after so many seconds, or after the answer."""
-        here = self.trial.office.copied(self.trial.folder / "run")
-        with here.serve(connections=2) as serving, serving.connect() as line:
-            began = time.perf_counter()
-            killer = serving.killed_after(wait)
-            text = exchanged(line, parts, [self.seconds / PIECES] * (len(parts) - 1))
-            seconds = time.perf_counter() - began
-            killer.join()
-        return seconds, here, text
-
-    def killed(self, how, chance):
-        """Returns (whether the client had the whole answer, whether the rows are those after the request)."""
-        parts = cut(self.sends, chance) if how == IN_PIECES else [self.sends]
-        longest = self.seconds * (2.4 if how == IN_PIECES else 1.2)
-        _, here, text = self.served(parts, None if how == AFTER else chance.uniform(0, longest))
-        states, found = self.trial.states, (here.rows(), None)
-        if found not in states:
-            raise Wrong(f"{self.trial.order.name} left other rows")
-        if is_whole(text) and (found != states[-1] or text.decode() != self.trial.printed.out):
-            raise Wrong(f"{self.trial.order.name} was answered {text} and is lost")
-        self.trial.check_again(here, text, 0)
-        return is_whole(text), found == states[-1] != states[0]
 
 
 class Crowd:
@@ -152,18 +111,11 @@ class Crowd:
 
 def main(runs=200, seed=7):
     chance = random.Random(seed)
-    table = Table(f"The request ({runs} runs each, seed {seed})", "sent", "the whole answer had", "rows before it found", "rows after it")
     with temporary_folder() as folder:
-        before = offices(folder)
-        for number, order in (REQUESTS[place] for place in (1, 0, 2)):
-            for how in (AT_ONCE, IN_PIECES, AFTER):
-                client = OneClient(folder / "client", before[number], order)
-                found = [client.killed(how, chance) for _ in range(runs)]
-                new = sum(is_new for _, is_new in found)
-                table.row(f"`{order.name}`", how, sum(had for had, _ in found), runs - new, new)
         crowd = Crowd(folder)
         found = list(zip(*(crowd.killed(chance) for _ in range(runs))))
-    table = Table("Twenty clerks at once, and ten orders", "runs", "answered", "found", "runs with some of them, and not all")
+    heads = ("runs", "answered", "found", "runs with some of them, and not all")
+    table = Table(f"Twenty clerks at once, and ten orders (seed {seed})", *heads)
     kinds = (("each clerk keys a batch", found[:2], len(CLERKS)), ("the office adds ten wards", found[2:], len(WARDS)))
     for what, (answered, kept), most in kinds:
         table.row(what, runs, sum(answered), sum(kept), sum(0 < count < most for count in kept))

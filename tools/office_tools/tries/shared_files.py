@@ -1,13 +1,15 @@
 """Gives two orders at one file at once, takes files away, and looks at the rights of what is made.
 
-docs/HOSTILE.md says what the orders may print, and what the files hold afterwards. The last table is of orders that wait before each
-call on the file that they make, and of `serve`: all that is there must be its owner's alone.
+docs/HOSTILE.md says what the orders may print, and what the files hold afterwards. One table is of orders that wait before each
+call on the file that they make. By `strace` the last one looks at the rights with which files are made; all must be their owner's alone.
 """
+import contextlib
 import ctypes
 import functools
 import itertools
 import os
 import random
+import re
 import resource
 import shutil
 import signal
@@ -16,7 +18,7 @@ import time
 from pathlib import Path
 
 from office_tools.election import COPY, COPYING, ELECTION, FILE, REPLAY, REQUESTS, SCRIPTED, Order, offices
-from office_tools.office import LOG, NO_OFFICE, SECONDS, STORE, TOWN, Office, Wrong, ended, remove, temporary_folder, timed, waited
+from office_tools.office import LOG, NO_OFFICE, SECONDS, STORE, TOWN, Office, Wrong, ended, needs, remove, temporary_folder, timed, waited
 from office_tools.tables import Table
 from office_tools.trials import NOT_WRITTEN, left, library
 
@@ -321,63 +323,43 @@ def print_gaps(folder, made, before):
         table.row(what, coming, len(found), *map(found.count, ("answered", "102", "105")))
 
 
-def private(office, folder):
-    """Returns a copy of an office, its owner's alone."""
-    here = office.copied(folder)
-    for path in here.folder.iterdir():
-        path.chmod(0o600)
-    return here
+# A file that is made, and the rights that it is made with.
+CREATED = re.compile(r'openat\(AT_FDCWD, "([^"]*)", [A-Z_|]*O_CREAT[A-Z_|]*, (0\d*)\) = \d')
 
 
-def open_to_others(office):
-    """Returns the files of an office, of its copy and its socket, that others than their owner have rights to."""
-    paths = [office.folder / (name + ending) for name in (TOWN, COPY) for ending in ("", "-wal", "-journal", "-serve")]
-    return [path.name for path in paths if path.exists() and path.stat().st_mode & 0o077]
+def open_to_others(office, trace):
+    """Returns the files of an office that others than their owner have rights to, or had as they were made."""
+    there = [path.name for path in office.folder.iterdir() if path != trace and path.stat().st_mode & 0o077]
+    return there + [found[1] for found in CREATED.finditer(trace.read_text()) if int(found[2], 8) & 0o077]
 
 
-def rights(folder, made, office, first, name):
-    """Lets an order wait before each of its calls on the file that it makes, and looks at the rights. Returns how many calls there were."""
-    for call in itertools.count(1):
-        here = private(office, folder / "rights")
-        making = Waiting(made, here, first, name, call)
-        found = open_to_others(here)
-        printed = making.ended()
-        if found or open_to_others(here) or printed.status:
-            raise Wrong(f"{first.words}, before call {call}: others have rights to {found}; then {open_to_others(here)}; {printed}")
-        if not making.waits:
-            return call
-
-
-def rights_served(folder, office):
-    """Looks at the rights of what is there while `serve` runs, and after a copy that it made."""
-    here = private(office, folder / "rights")
-    with here.serve(connections=2) as serving:
-        serving.ask(REQUESTS[0][1].sends)
-        printed = COPYING.done(here)
-        if open_to_others(here) or printed.status or not (here.folder / (TOWN + "-serve")).exists():
-            raise Wrong(f"while served others have rights to {open_to_others(here)}; {printed}")
-    return 1
-
-
-def print_rights(folder, made, before):
-    table = Table("What is made, under masks 0, 022 and 077", "its rights looked at, of their owner alone")
-    kinds = [(what, functools.partial(rights, folder, made, before[number], first, name)) for what, number, first, name in MAKING]
-    kinds.append(("a socket, and a copy of an office that is served", functools.partial(rights_served, folder, before[KEYINGS + 1])))
-    for what, look in kinds:
-        looks = 0
+def print_rights(folder, before):
+    """Prints the table of what is made under each mask, and by which calls: all of it has to be its owner's alone."""
+    table = Table("What is made, under masks 0, 022 and 077", "made for its owner alone")
+    for what, number, order in (("`init`", 0, INIT), ("a copy", KEYINGS, COPYING), ("an order while it is served", KEYINGS, QUAY)):
         for mask in (0o000, 0o022, 0o077):
-            own = os.umask(mask)
-            looks += look()
+            here, own = before[number].copied(folder / "rights"), os.umask(mask)
+            for path in here.folder.iterdir():
+                path.chmod(0o600)
+            trace, made = here.folder / "trace", []
+            under = ["strace", "-D", "-f", "-e", "trace=openat", "-o", trace]
+            with here.serve(under=under) if order is QUAY else contextlib.nullcontext() as serving:
+                waited(lambda: not serving or (here.folder / (TOWN + "-serve")).exists())
+                printed = order.done(here, **({} if serving else {"under": under}))
+                made = sorted(set(os.listdir(here.folder)) - {trace.name})
+                found = open_to_others(here, trace)
             os.umask(own)
-        table.row(what, looks)
+            if printed.status or found:
+                raise Wrong(f"{what}, mask {mask:o}: others have rights to {found}; {printed}")
+        table.row(what, ", ".join(made))
 
 
 def main(runs=100, seed=7):
+    needs("strace")
     chance = random.Random(seed)
     with temporary_folder() as folder:
         before = offices(folder)
         print_pairs(folder, before, runs, chance)
         Meddling(folder, before, chance).show(runs, seed)
-        made = library(folder)
-        print_gaps(folder, made, before)
-        print_rights(folder, made, before)
+        print_gaps(folder, library(folder), before)
+        print_rights(folder, before)
