@@ -30,7 +30,7 @@ def allowed(trial, names):
 
 
 def refusals(trial, way, names, step):
-    """Yields each failure: its name, and how the order is given. Each order begins with another call, so that not all miss the same ones."""
+    """Yields each failure: its name, and how the order is given. Each order begins with another call, so not all miss the same."""
     how, trace = {"names": names, "faults": allowed(trial, names)}, trial.traced(names)[-1]
     if way == ROOM:
         for room in sorted({int(place) + int(length) // 2 for length, place in WRITE.findall(trace)})[trial.number % step::step]:

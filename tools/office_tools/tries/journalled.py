@@ -24,8 +24,9 @@ NAMES = (
 # What an id begins with, before a number.
 IDS = ("k", "-", "--", "---", "-x", "--id", "--help-", "7", "0", "z" * 32)
 # Orders that are always refused.
-REFUSALS = ("seal 100", "close 0", "ward 7 0 Harbour", "candidate 7 31 Ann", "withdraw 7 31", "judge 10000 1 reject:5", "judge 1 1 reject:9",
-            "lot 7 2 30", "lot 7 32 1", "third 10000 4", "batch 1 7 0 4 4", "key 1000 1 1 D", "key 4 10000 1 D")
+REFUSALS = (
+    "seal 100", "close 0", "ward 7 0 Harbour", "candidate 7 31 Ann", "withdraw 7 31", "judge 10000 1 reject:5", "judge 1 1 reject:9",
+    "lot 7 2 30", "lot 7 32 1", "third 10000 4", "batch 1 7 0 4 4", "key 1000 1 1 D", "key 4 10000 1 D")
 
 
 def replayed(office, text):
@@ -66,7 +67,7 @@ class Evening:
 
     def order(self, *words, name=None, is_used=False):
         """Returns the words of an order with its id, one in forty of something else. A name comes last, and may look like an option."""
-        given = self.ids[words[1] if "key" in words[0] else 0]
+        given = self.ids[str(words[1]) if "key" in words[0] else ""]
         if not (given and (is_used or self.chosen(0.025))):
             given.append(self.chance.choice(IDS) + str(len(given)))
         return [*map(str, words), f"--id={self.chance.choice(given) if is_used else given[-1]}", *(["--", name] if name else [])]
@@ -102,8 +103,8 @@ class Evening:
             names = [chance.choice(NAMES).replace('"', '""') for _ in numbers]
             lines = [f'{ward},{number},"{name}"' for number, name in zip(numbers, names)]
             self.office.write(f"names{ward}.csv", ["ward,candidate,name", *lines])
-            yield [self.order("import-candidates", f"names{ward}.csv")]
-            standing.update(numbers)
+            (refusal,) = yield [self.order("import-candidates", f"names{ward}.csv")]
+            standing.update(() if refusal else numbers)
         for number in [*numbers, *(chance.choice(numbers) for _ in range(chance.choice((0, 0, 1, 3, 6))))]:
             is_there = number in standing
             words = self.order("withdraw", ward, number) if is_there else self.order("candidate", ward, number, name=chance.choice(NAMES))
@@ -141,7 +142,7 @@ class Evening:
         return self.order("import-keying", clerk, batch, turn, name)
 
     def batch(self, ward, columns):
-        """Plays a batch, keyed in rounds of which each is tried to the end, or left before, and its verdicts."""
+        """Plays a batch, keyed in rounds until two clerks agree, or left before, and the verdicts."""
         batch, (first, second, third) = self.batches.pop(), self.chance.sample(CLERKS, 3)
         papers = [self.marks(columns) for _ in range(self.chance.choice((1, 2, 3, 5, 8)))]
         yield [self.order("batch", batch, ward, len(papers), first, second)]

@@ -39,7 +39,7 @@ class Crowd:
         return added
 
     def served(self, here, wait=None):
-        """Returns (the seconds of clerks and orders, the answers, the wards) of a `serve` that is killed after some seconds, or at the end."""
+        """Returns (seconds of clerks and of orders, answers, wards) of a `serve` that is killed after some seconds, or at the end."""
         with here.serve().wait() as serving, ThreadPoolExecutor(len(CLERKS) + 1) as pool:
             def key_all():
                 return list(pool.map(lambda n: serving.ask(request(f"/clerks/{n}/batches/{n}/keying", body=KEYING)), CLERKS))
