@@ -9,6 +9,8 @@ from office_tools.election import (
 from office_tools.office import LOG, NO_OFFICE, SCRIPT, TOWN, Wrong, needs, remove
 
 NOT_WRITTEN = "fault 110: copy not written"
+# What `serve` prints besides, if it can't make its socket. Clients are served all the same.
+NO_SOCKET = "no socket for orders beside the database: it can't be made\n"
 RESULTS = ("rows before it found", "rows after it", "some records")
 ON_FILES = ("openat", "statx", "readlink", "pread64", "read", "pwrite64", "write", "fsync", "fdatasync", "ftruncate", "fcntl", "lseek",
             "flock", "unlink", "fchmod", "fchown")
@@ -66,7 +68,7 @@ class Trial:
                 # The client was disconnected: there was no memory for what it sends, or for its answer.
                 return any("memory" in fault for fault in faults)
             answered = re.fullmatch(r'HTTP/1\.1 503 Service Unavailable\r\n.*\r\n\r\n\{"fault":(\d+)\}', out, re.DOTALL)
-            return not err and bool(answered) and any(fault.startswith(f"fault {answered[1]}: ") for fault in faults)
+            return bool(answered) and any(fault.startswith(f"fault {answered[1]}: ") and err in ("", fault + "\n") for fault in faults)
         has_parts = len(self.states) > 2 or self.is_copy or self.order.words[0] == "count"
         whole_lines = out == "" or (has_parts and out.endswith("\n") and self.printed.out.startswith(out))
         return status == 3 and whole_lines and any(re.fullmatch(fault + "\n", err) for fault in self.allowed(out, faults))
@@ -111,6 +113,7 @@ class Trial:
     def refused(self, faults, keeps=False, **how):
         """Gives the order with a refusal, judges, and gives it again. Returns (whether it was a fault, the state), or None."""
         here, printed, trace = self.traced(**how)
+        printed = printed._replace(err=printed.err.removeprefix(NO_SOCKET))
         self.check_beside(here, printed, keeps)
         found = left(here, printed.status)
         place, replies = self.place_of(printed, found), self.order.replies(printed.out)

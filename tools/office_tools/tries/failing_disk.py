@@ -10,7 +10,7 @@ from office_tools.office import LOG, SCRIPT, TOWN, Wrong, temporary_folder
 from office_tools.tables import Table, added
 from office_tools.trials import CALL, NOT_WRITTEN, ON_FILES, RESULTS, side_by_side, trials
 
-FAULT, READ = "fault 102: store", r"file fault 8 at record \d+: read failed"
+FAULT, GONE_FILE, READ = "fault 102: store", "fault 113: file gone or replaced", r"file fault 8 at record \d+: read failed"
 COPIED, EVERY = [COPY, COPY_LOG], [TOWN, LOG, COPY, COPY_LOG, "."]
 ONCE, GONE, ROOM = "a call fails once", "all calls fail from one on", "no room past a length, which cuts a write"
 KINDS = [
@@ -21,11 +21,11 @@ WRITE = re.compile(r" pwrite64\(.*, (\d+), (\d+)\) = ")
 
 
 def allowed(trial, names):
-    """Returns what the program may report: that a copy can't be written if its own files fail, or else that too."""
+    """Returns what the program may report. A copy reports its own files as its own; `serve` takes a file that it can't see for gone."""
     if names in ([FILE], [SCRIPT]):
         return [READ]
     if not trial.is_copy:
-        return [FAULT]
+        return [FAULT, GONE_FILE] if trial.order.sends else [FAULT]
     return [NOT_WRITTEN] if set(names) <= set(COPIED) else [FAULT, NOT_WRITTEN]
 
 
