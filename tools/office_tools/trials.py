@@ -6,7 +6,7 @@ from pathlib import Path
 
 from office_tools.election import (
     COPY, COPY_LOG, COPYING, ELECTION, FILE, MADE, READS, REPLAY, REQUESTS, SCRIPTED, Order, earlier_office, offices)
-from office_tools.office import LOG, NO_OFFICE, SCRIPT, TOWN, Wrong, needs, remove
+from office_tools.office import LOG, NO_OFFICE, SCRIPT, TOWN, Wrong, remove
 
 NOT_WRITTEN = "fault 110: copy not written"
 # What `serve` prints besides, if it can't make its socket. Clients are served all the same.
@@ -146,7 +146,6 @@ class Trial:
 
 def trials(folder, name="", orders=None):
     """Returns the trials of the election, or those of the orders of one name, each on the office before its order."""
-    needs("strace")
     folder, is_small, orders = Path(folder), orders is None, orders or ELECTION
     before = offices(folder, orders)
     wanted = list(zip(before, orders)) + [(earlier_office(folder / "older"), Order(["migrate"]))]

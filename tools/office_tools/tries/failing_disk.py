@@ -6,7 +6,7 @@ import collections
 import re
 
 from office_tools.election import COPY, COPY_LOG, FILE
-from office_tools.office import LOG, SCRIPT, TOWN, Wrong, temporary_folder
+from office_tools.office import LOG, SCRIPT, TOWN, Wrong, needs, temporary_folder
 from office_tools.tables import Table, added
 from office_tools.trials import CALL, NOT_WRITTEN, ON_FILES, RESULTS, side_by_side, trials
 
@@ -44,6 +44,7 @@ def refusals(trial, way, names, step):
 
 
 def main(step=1, order=""):
+    needs("strace")
     totals = [[0] * 6 for _ in KINDS]
     with temporary_folder() as folder:
         tried = [trial for trial in trials(folder, order) if len(trial.states) > 1]

@@ -3,7 +3,7 @@
 docs/HOSTILE.md says what must hold in each run. Every growth of every order takes hours; STEP tries every STEPth, ORDER the orders of one
 name alone.
 """
-from office_tools.office import Wrong, temporary_folder
+from office_tools.office import Wrong, needs, temporary_folder
 from office_tools.tables import Table, added
 from office_tools.trials import CALL, RESULTS, side_by_side, trials
 
@@ -24,6 +24,7 @@ def refusals(trial, step):
 
 
 def main(step=1, order=""):
+    needs("strace")
     title, totals = f"Order (every {step}th growth)" if step > 1 else "Order", [0] * 6
     table = Table(title, "growths refused", "fault 101", "answered all the same", *RESULTS)
     with temporary_folder() as folder:
