@@ -12,7 +12,7 @@ import signal
 import time
 
 from office_tools.election import COPY, COPYING, ELECTION, FILE, REPLAY, REQUESTS, SCRIPTED, Order, offices
-from office_tools.office import LOG, NO_OFFICE, STORE, TOWN, Office, Wrong, ended, needs, remove, temporary_folder, timed, waited
+from office_tools.office import LOG, NO_OFFICE, SECONDS, STORE, TOWN, Office, Wrong, ended, needs, remove, temporary_folder, timed, waited
 from office_tools.tables import Table
 from office_tools.trials import CALL, NOT_WRITTEN, left, strace
 
@@ -199,35 +199,39 @@ NO_ROOM = ["prlimit", "--fsize=40960"]
 class Stopping:
     """An order that stops after one of its calls on a file and its log, drawn at random."""
 
-    def __init__(self, folder, order, under=()):
-        self.folder, self.order, self.under, self.trace = folder, order, under, folder / f"trace-{len(under)}"
+    def __init__(self, folder, name, order, under=()):
+        self.folder, self.names, self.order, self.under = folder, (name, name + "-wal"), order, under
+        self.trace = folder / f"trace-{len(under)}"
 
     def start(self, here, *changes):
-        words = strace(self.trace, here.folder, (self.order.town, self.order.town + "-wal"), *changes)
-        return self.order.started(here, under=[*words, *self.under], restore_signals=False)
+        words = [*strace(self.trace, here.folder, self.names, *changes), *self.under]
+        return self.order.started(here, under=words, restore_signals=False)
 
     def calls(self, office):
         """Returns its calls, if it is alone."""
         ended(self.start(office.copied(self.folder / "alone")))
         return CALL.findall(self.trace.read_text(errors="replace"))
 
-    def begin(self, here, calls, number):
-        """Begins it, and returns whether it stops after a call of this number."""
+    def begin(self, here, calls, number, seconds=SECONDS):
+        """Begins it, and returns whether it stops within these seconds after a call of this number."""
         remove(self.trace)
-        self.process = self.start(here, f"{calls[number]}:signal=STOP:when={calls[:number + 1].count(calls[number])}")
-        waited(lambda: self.is_stopped() or self.process.poll() is not None, STUCK)
-        return self.is_stopped()
+        self.goes_on, place = False, calls[:number + 1].count(calls[number])
+        self.process = self.start(here, f"{calls[number]}:signal=STOP:when={place}")
+        return waited(lambda: self.is_stopped() or self.process.poll() is not None, seconds) and self.is_stopped()
 
     def is_stopped(self):
         return self.trace.exists() and "--- stopped by SIGSTOP ---" in self.trace.read_text(errors="replace")
 
-    def end(self, seconds=None):
-        """Lets it go on, and returns what it prints; None if it doesn't end within these seconds."""
-        if self.process.poll() is None:
+    def is_ended(self):
+        """Lets it go on once it has stopped, and returns whether it ended."""
+        if self.is_stopped() and not self.goes_on:
             self.process.send_signal(signal.SIGCONT)
-        if seconds and not waited(lambda: self.process.poll() is not None, seconds):
-            return None
-        return ended(self.process)
+            self.goes_on = True
+        return self.process.poll() is not None
+
+    def end(self, seconds=SECONDS):
+        """Lets it go on, and returns what it prints; None if it doesn't end within these seconds."""
+        return ended(self.process) if waited(self.is_ended, seconds) else None
 
 
 def check_made(here, name, printed, before):
@@ -249,16 +253,17 @@ def print_gaps(folder, before, runs, chance):
     for what, number, first, name in (("`init`", 0, INIT, TOWN), ("a copy", KEYINGS, Order(["copy", COPY]), COPY)):
         for other in (INIT, QUAY):
             office, found, both = before[number], [], 0
-            making, coming = Stopping(folder, first, NO_ROOM), Stopping(folder, Order(other.words, town=name))
-            of_making, of_coming = making.calls(office), coming.calls(office)
+            making, coming = Stopping(folder, name, first, NO_ROOM), Stopping(folder, name, Order(other.words, town=name))
+            of_making, of_coming = making.calls(office), Stopping(folder, TOWN, other).calls(before[KEYINGS if other is QUAY else 0])
             for _ in range(runs):
                 here = office.copied(folder / "gap")
                 is_stopped = making.begin(here, of_making, chance.randrange(len(of_making)))
-                both += coming.begin(here, of_coming, chance.randrange(min(FIRST_CALLS, len(of_coming)))) and is_stopped
+                both += coming.begin(here, of_coming, chance.randrange(min(FIRST_CALLS, len(of_coming))), STUCK) and is_stopped
                 made = making.end(STUCK)
                 printed = coming.end()
-                if (made or making.end()).status != 3:
-                    raise Wrong(f"{first.words} without room: {made}")
+                made = made or making.end()
+                if not made or not printed or made.status != 3:
+                    raise Wrong(f"{first.words} without room: {made}; another order: {printed}")
                 check_made(here, name, printed, office)
                 found.append(kind(printed))
             stops += both
