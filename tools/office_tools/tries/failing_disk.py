@@ -1,6 +1,6 @@
 """Fails each call on the disk of each order that writes, and sees that nothing is lost.
 
-docs/HOSTILE.md says what must hold in each run. STEP tries every STEPth call, ORDER the orders of one name alone.
+docs/HOSTILE.md says what must hold in each run. STEP tries one call in STEP, ORDER the orders of one name alone.
 """
 import collections
 import re
@@ -50,7 +50,7 @@ def main(step=1, order=""):
         tried = [trial for trial in trials(folder, order) if len(trial.states) > 1]
         for found in side_by_side(lambda one: [one.runs(refusals(one, way, names, step)) for way, _, names in KINDS], tried):
             totals = [added(total, counts) for total, counts in zip(totals, found)]
-    title = (f"`{order}`" if order else f"{len(tried)} orders") + (f", every {step}th call" if step > 1 else "")
+    title = (f"`{order}`" if order else f"{len(tried)} orders") + (f", one call in {step}" if step > 1 else "")
     table = Table(f"The disk ({title})", "of", "runs", "a fault reported", "answered all the same", *RESULTS)
     for (way, what, _), counts in zip(KINDS, totals):
         if counts[0]:

@@ -1,6 +1,6 @@
 """Refuses each growth of memory of each order in turn, and sees that nothing is lost.
 
-docs/HOSTILE.md says what must hold in each run. Every growth of every order takes hours; STEP tries every STEPth, ORDER the orders of one
+docs/HOSTILE.md says what must hold in each run. Every growth of every order takes hours; STEP tries one in STEP, ORDER the orders of one
 name alone.
 """
 from office_tools.office import Wrong, needs, temporary_folder
@@ -25,7 +25,7 @@ def refusals(trial, step):
 
 def main(step=1, order=""):
     needs("strace")
-    title, totals = f"Order (every {step}th growth)" if step > 1 else "Order", [0] * 6
+    title, totals = f"Order (one growth in {step})" if step > 1 else "Order", [0] * 6
     table = Table(title, "growths refused", "fault 101", "answered all the same", *RESULTS)
     with temporary_folder() as folder:
         tried = trials(folder, order)
