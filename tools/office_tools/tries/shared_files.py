@@ -150,25 +150,21 @@ class Taking:
             raise Wrong(f"{names} taken from an order: {printed}, or other rows")
         return printed
 
-    def from_serve(self, names, is_replaced, order, result):
-        """Takes files that `serve` has open. If none is taken, an order that is handed over and a client's keying are done."""
+    def from_serve(self, names, is_replaced, result, order=HILL):
+        """Takes files that `serve` has open: it says so, and keeps nothing more, neither an order nor a client's keying."""
         here, files = self.begun(self.keyed)
         with here.serve(connections=2) as serving:
             serving.ask(REQUESTS[0][1].sends)
             self.take(here, names, is_replaced)
             printed, client = order.done(here), serving.ask(REQUESTS[1][1].sends).decode()
             said = serving.ended()
-        after, bare = (self.keyed.copied(self.folder / name) for name in ("after", "bare"))
-        there = self.other.copied(self.folder / "there")
-        if not names:
-            order.done(after)
-        answered = GONE_SENT if names else REQUESTS[1][1].done(after).out
-        if result == "answered":
+        there = (self.other if is_replaced else self.keyed).copied(self.folder / "there")
+        if not is_replaced:
+            remove(*(there.folder / name for name in names))
+        elif result == "answered":
             order.done(there)
-        remove(*(bare.folder / name for name in names))
-        at = left(after) if not names else left(there) if is_replaced else left(bare)
-        is_right = said == (0, "", GONE if names else "") and client == answered and self.held_rows(files) == after.rows()
-        if not is_right or kind(printed) != result or left(here) != at:
+        is_right = said == (0, "", GONE) and client == GONE_SENT and self.held_rows(files) == self.keyed.rows()
+        if not is_right or kind(printed) != result or left(here) != left(there):
             raise Wrong(f"{names} taken from serve, which prints {said}; the order {printed}, the client {client}")
         return printed
 
@@ -181,12 +177,10 @@ def print_taken(taking, runs):
             ("its log removed while an order runs", runs, taking.from_order, [LOG], False),
             ("the file replaced while an order runs", runs, taking.from_order, [TOWN], True),
             ("both replaced while an order runs", runs, taking.from_order, both, True),
-            ("nothing, and `serve` has them open", 1, taking.from_serve, [], False, HILL, "answered"),
-            ("nothing, and `serve` has them open while a copy is made", 1, taking.from_serve, [], False, COPYING, "answered"),
-            ("both removed, and `serve` has them open", 1, taking.from_serve, both, False, HILL, "105"),
-            ("the file replaced, and `serve` has them open", 1, taking.from_serve, [TOWN], True, HILL, "102"),
-            ("both replaced, and `serve` has them open", 1, taking.from_serve, both, True, HILL, "answered"),
-            ("its log removed, and `serve` has them open", 1, taking.from_serve, [LOG], False, HILL, "113")):
+            ("both removed, and `serve` has them open", 1, taking.from_serve, both, False, "105"),
+            ("the file replaced, and `serve` has them open", 1, taking.from_serve, [TOWN], True, "102"),
+            ("both replaced, and `serve` has them open", 1, taking.from_serve, both, True, "answered"),
+            ("its log removed, and `serve` has them open", 1, taking.from_serve, [LOG], False, "113")):
         found = [kind(act(*words)) for _ in range(times)]
         table.row(what, times, *map(found.count, ("answered", *FAULTS)))
 
