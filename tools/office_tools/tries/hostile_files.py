@@ -7,10 +7,9 @@ import os
 import random
 import re
 import shutil
-import sqlite3
 
 from office_tools.damage import noise
-from office_tools.election import COPYING, ELECTION, END, FILE, READS, REPLAY, REQUESTS, offices
+from office_tools.election import COPYING, ELECTION, END, FILE, READS, REPLAY, REQUESTS, execute, offices
 from office_tools.office import LOG, TOWN, Office, Wrong, remove, temporary_folder
 from office_tools.tables import Table
 from office_tools.web import request, status
@@ -23,13 +22,23 @@ EVERY = [order.words for order in (*ELECTION, REPLAY, COPYING, *(order for _, or
 # The longest log that `init` begins before it writes the first page of the file.
 BEGUN, FRAME = 41, 24 + PAGE
 LENGTHS = [0, 1, 31, 32, BEGUN, BEGUN + 1, 55, 56, 511, 512, 567, 568, FRAME + 31, FRAME + 32, 3 * PAGE]
+OTHERS = (
+    "CREATE TABLE other (x)", "CREATE VIEW seen AS SELECT * FROM ward", "CREATE INDEX by_name ON ward (name)",
+    "CREATE TRIGGER t AFTER INSERT ON ward BEGIN DELETE FROM candidate; END", "CREATE TABLE child (x INT REFERENCES ward (ward))")
 FAULT_105 = (3, "", "fault 105: wrong database\n")
 STRANGER = 65534
 FOREIGN_LOG = (3, "", "fault 102: store\ntown.db-wal belongs to another account than town.db, and isn't read\n")
 NO_SOCKET = "no socket for orders beside the database: the database belongs to another account\n"
 
 
-def kinds(town, chance):
+def changed(path, town, statement):
+    """Returns the bytes of a database after a statement."""
+    path.write_bytes(town)
+    execute(path, statement)
+    return path.read_bytes()
+
+
+def kinds(folder, town, chance):
     """Returns [(what, the files' bytes)]."""
     def turned(place):
         return town[:place] + bytes([town[place] ^ 1 << chance.randrange(8)]) + town[place + 1:]
@@ -44,7 +53,8 @@ def kinds(town, chance):
         ("cut before and within each page", [town[:place + more] for place in pages for more in (0, chance.randrange(1, PAGE))]),
         ("a page of zeros", [town[:place] + bytes(PAGE) + town[place + PAGE:] for place in pages]),
         ("one bit turned in each page", [turned(place + chance.randrange(PAGE)) for place in pages for _ in range(BITS_A_PAGE)]),
-        ("two pages of each other's", [swapped(*sorted(chance.sample(pages, 2))) for _ in range(20)])]
+        ("two pages of each other's", [swapped(*sorted(chance.sample(pages, 2))) for _ in range(20)]),
+        ("an office with other things beside", [changed(folder / "changed.db", town, text) for text in OTHERS])]
 
 
 def put(folder, **contents):
@@ -65,13 +75,6 @@ def seen(office):
             for path in office.folder.iterdir()}
 
 
-def is_whole(office):
-    base = sqlite3.connect(office.folder / TOWN)
-    found = base.execute("PRAGMA integrity_check").fetchall()
-    base.close()
-    return found == [("ok",)]
-
-
 def tried(folder, what, town, log=None):
     """Returns 'opens', or the number of the fault."""
     found = []
@@ -84,8 +87,8 @@ def tried(folder, what, town, log=None):
             raise Wrong(f"{what}: {line}: {printed}")
         if fault and (seen(office) != before or office.run(*line.split()).err != printed.err):
             raise Wrong(f"{what}: {line}: a fault, and a file changed, or not the same fault again")
-        if not fault and line is QUAY and not is_whole(office):
-            raise Wrong(f"{what}: a ward was added, and the file isn't whole")
+        if not fault and line is QUAY and not office.rows():
+            raise Wrong(f"{what}: a ward was added, and no office is there")
         found.append(fault[1] if fault else "opens")
     if found[0] != found[1]:
         raise Wrong(f"{what}: {found}")
@@ -112,7 +115,7 @@ def tried_beside(folder, town, name, content, words):
     if printed == FAULT_105 and seen(office) == before:
         return "105"
     is_begun = town is not None and name == LOG and isinstance(content, bytes) and len(content) <= BEGUN
-    if words == ["init"] and is_begun and printed == (0, "office ready\n", "") and office.run("wards").status == 0 and is_whole(office):
+    if words == ["init"] and is_begun and printed == (0, "office ready\n", "") and office.run("wards").status == 0 and office.rows():
         return "made"
     raise Wrong(f"{words} beside {name}: {printed}; {len(before)} files before")
 
@@ -200,7 +203,7 @@ def main(seed=7):
         before = offices(folder)
         town = (before[END].folder / TOWN).read_bytes()
         table = Table(f"The file ({len(town) // PAGE} pages, seed {seed})", "files", *columns)
-        for what, files in kinds(town, chance):
+        for what, files in kinds(folder, town, chance):
             found = [tried(folder, what, content) for content in files]
             table.row(what, len(found), *map(found.count, columns))
         found = [tried(folder, "a log of random bytes", town, noise(chance, length)) for length in LENGTHS]
