@@ -111,29 +111,27 @@ class Trial:
         return here, printed, trace.read_text(errors="replace")
 
     def refused(self, faults, keeps=False, **how):
-        """Gives the order with a refusal, judges, and gives it again. Returns (whether it was a fault, the state), or None."""
+        """Gives the order with a refusal, judges, and gives it again. Returns (whether a fault was reported, the number of the state that
+        was found), or None if it met no refusal."""
         here, printed, trace = self.traced(**how)
         printed = printed._replace(err=printed.err.removeprefix(NO_SOCKET))
         self.check_beside(here, printed, keeps)
         found = left(here, printed.status)
         place, replies = self.place_of(printed, found), self.order.replies(printed.out)
-        is_fault = printed != self.printed
-        if is_fault and not (self.is_fault(printed, faults) and replies <= place <= replies + 1):
+        differs, is_met = printed != self.printed, REFUSED.search(trace)
+        if differs and not (is_met and self.is_fault(printed, faults) and replies <= place <= replies + 1):
             raise Wrong(f"printed {printed}, and {place} of {len(self.states) - 1} records are found")
         self.check_again(here, printed, place)
-        if is_fault and not REFUSED.search(trace):
-            raise Wrong(f"nothing was refused: {printed}")
-        return (is_fault, place) if REFUSED.search(trace) else None
+        return (differs, place) if is_met else None
 
     def runs(self, refusals):
         """Gives the order with each refusal. Returns [how many met one, reported a fault, and were answered, and what they found]."""
         found = []
         for which, how in refusals:
             try:
-                found.append(self.refused(**how))
+                found += filter(None, [self.refused(**how)])
             except Wrong as error:
                 raise Wrong(f"{self.order.name}: {which}: {error}") from error
-        found = [what for what in found if what]
         faults = sum(is_fault for is_fault, _ in found)
         return [len(found), faults, len(found) - faults, *self.places([place for _, place in found])]
 
