@@ -92,8 +92,9 @@ def missing_of_text(line, clauses, words):
 
 def faults_of(crates):
     """Yields what the pages that are written by hand name and the sources don't have."""
-    texts = [text for crate in crates for text in (*crate.texts.values(), *(path.read_text() for path in crate.folder.glob("specs/**/*.antt")))]
-    words = set(re.findall(r"\w+", "\n".join([(ROOT / "crates.txt").read_text(), *texts]))).union(*(crate.edits for crate in crates))
+    specs = [path.read_text() for crate in crates for path in crate.folder.glob("specs/**/*.antt")]
+    texts = [(ROOT / "crates.txt").read_text(), *specs, *(text for crate in crates for text in crate.texts.values())]
+    words = set(re.findall(r"\w+", "\n".join(texts))).union(*(crate.edits for crate in crates))
     clauses = clauses_of(crates)
     for page in [HAND, *DEFINED]:
         for number, line in enumerate(page.read_text().splitlines(), 1):

@@ -62,6 +62,7 @@ def main():
     for crate in sources.crates():
         for function in self_calls(crate):
             bound = BOUND.search(" ".join(function.comment.split()))
-            print(f"crates/{crate.name}/{function.path}:{function.line}: {function.title} calls itself: {bound[0] if bound else 'no bound'}")
+            place = f"crates/{crate.name}/{function.path}:{function.line}"
+            print(f"{place}: {function.title} calls itself: {bound[0] if bound else 'no bound is stated'}")
             status = status if bound else 1
     return status
