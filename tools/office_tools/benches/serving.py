@@ -1,12 +1,12 @@
 """Times clients that are served side by side, and prints the tables of docs/COST.md. It needs `ab` of apache2-utils.
 
 Twenty clerks key batches of 500 papers next to 300 silent connections, as fast as they are answered, or with a pause of a second on
-average; before it one at a time. 1, 20 and 200 clients ask again and again for a clerk's work, as `ab` counts. Memory is that of `serve`
-at its start, and with 512 connections that have each sent half of a body of 1 MiB. ROUNDS is how many batches each clerk keys at a time,
-and how many seconds the clients ask: with 1 all is done quickly, to see that it works. With --write the tables go into docs/COST.md.
+average; before it one at a time. Then, in turns, each program that --program A --program B names serves a few times, or the one alone
+that is set: what it answers a second is the middle of its turns, and a part of the first one's. Reads are requests for a clerk's work, as
+`ab` counts. Memory is that of `serve` after all this, and with 512 connections that have each sent half of a body of 1 MiB.
 
-With --program A --program B, or more of them, it compares these programs alone: each serves in turn, a few times, and the table has how
-many reads and how many keyings each answers a second, the middle of its turns.
+ROUNDS is how many batches each clerk keys at a time, and how many seconds `ab` asks: with 1 all is done quickly, to see that it works.
+With --write the tables go into docs/COST.md.
 """
 import contextlib
 import json
@@ -17,14 +17,15 @@ import subprocess
 import time
 from concurrent.futures import ThreadPoolExecutor
 
+from office_tools import office
 from office_tools.benches.cost import BATCH, nominated, papers
-from office_tools.office import ROOT, Wrong, needs, program, temporary_folder, timed
+from office_tools.office import ROOT, Wrong, needs, temporary_folder, timed
 from office_tools.tables import Table, put_into
 from office_tools.web import HERE, request, status
 
-CLERKS, SILENT, CROWD, HALF = range(1, 21), 300, 512, 524288
-# How often programs that are compared serve, the papers of their batches, and how many `ab` run side by side.
-TURNS, COMPARED, LOADS = 5, (5, BATCH), 3
+CLERKS, CLIENTS, SILENT, CROWD, HALF = range(1, 21), (1, 20, 200), 300, 512, b" " * 524288
+# How often each program serves, and how many `ab` run side by side: one has one thread, and is slower than `serve`.
+TURNS, LOADS = 5, 3
 WORK = "/clerks/1/work"
 
 
@@ -39,21 +40,16 @@ def office_to_key(folder, rounds, size=BATCH):
     return nominated(folder, *batches), requests
 
 
-def asked(serving, sends):
-    """Returns the seconds that an answer with status 200 takes."""
-    text, seconds = timed(serving.ask, sends)
-    if status(text) != 200:
-        raise Wrong(f"{sends[:200]}: {text}")
-    return seconds
-
-
 def keyed(serving, requests, pause=0):
     """Has clerks key at once. Returns how long each keying took, sorted."""
     def key(clerk):
         chance, times = random.Random(clerk), []
         for sends in requests[clerk]:
             time.sleep(pause * 2 * chance.random())
-            times.append(asked(serving, sends))
+            text, seconds = timed(serving.ask, sends)
+            if status(text) != 200:
+                raise Wrong(f"{sends[:200]}: {text}")
+            times.append(seconds)
         return times
     with ThreadPoolExecutor(len(requests)) as pool:
         return sorted(took for times in pool.map(key, requests) for took in times)
@@ -73,10 +69,10 @@ def closed(lines):
 
 
 def print_keyings(folder, rounds):
-    office, requests = office_to_key(folder, 3 * rounds)
+    made, requests = office_to_key(folder, 3 * rounds)
     heads = ("keyings", "the middle one, ms", "the slowest, ms", "beside the slowest of one clerk", "a second")
     table, lone = Table(f"Keyings of {BATCH} papers", *heads), None
-    with office.serve().wait() as serving:
+    with made.serve().wait() as serving:
         for turn, (what, silent, pause) in enumerate((
                 ("one clerk at a time", 0, 0), (f"{len(CLERKS)} clerks beside {SILENT} silent connections", SILENT, 0),
                 ("the same, each with a pause of a second on average", SILENT, 1))):
@@ -87,16 +83,13 @@ def print_keyings(folder, rounds):
             seconds, lone = time.perf_counter() - began, lone or times[-1]
             if closed(lines):
                 raise Wrong("a silent connection was disconnected")
-            middle, slowest = (f"{1000 * took:.1f}" for took in (statistics.median_high(times), times[-1]))
+            middle, slowest = (f"{1000 * took:.1f}" for took in (statistics.median(times), times[-1]))
             table.row(what, len(times), middle, slowest, f"{times[-1] / lone:.1f} times", f"{len(times) / seconds:.0f}")
-    return table
+    return table.lines
 
 
 def reads_a_second(port, clients, seconds):
-    """Returns how many requests for a clerk's work are answered a second, as `ab` counts them; none may fail.
-
-    One `ab` has one thread, and is slower than `serve`: with many clients, several of them share these.
-    """
+    """Returns how many requests for a clerk's work are answered a second, as `ab` counts them; none may fail."""
     def count(part):
         words = ["ab", "-q", "-t", str(seconds), "-n", "1000000", "-c", str(len(part)), f"http://{HERE}:{port}{WORK}"]
         told = subprocess.run(words, capture_output=True, text=True, check=False).stdout
@@ -109,69 +102,51 @@ def reads_a_second(port, clients, seconds):
         return sum(pool.map(count, parts))
 
 
-def print_reads(folder, rounds):
-    table = Table("Clients who ask for a clerk's work", "answers a second")
-    with office_to_key(folder, 1)[0].serve().wait() as serving:
-        for clients in (1, 20, 200):
-            table.row(clients, f"{reads_a_second(serving.port, clients, rounds):,.0f}")
-    return table
-
-
-def print_memory(folder, _):
-    with office_to_key(folder, 1)[0].serve().wait() as serving:
-        asked(serving, request(WORK))
-        alone, lines = serving.memory(), []
-        for _ in range(CROWD):
-            lines.append(serving.connect(1))
-            # If more bytes are held than may be, a connection is closed.
-            with contextlib.suppress(OSError):
-                lines[-1].sendall(b"POST /clerks/1/batches/1/keying HTTP/1.1\r\nContent-Length: 1048576\r\n\r\n" + b" " * HALF)
-        # What was sent may still be in the sockets.
-        time.sleep(5)
-        asked(serving, request(WORK))
-        peak, gone = serving.memory(), closed(lines)
-    table = Table("The memory of `serve`", "at most, MB")
-    table.row("once the office is open", f"{alone:.0f}")
-    table.row(f"with {CROWD} connections, each of which has sent half of a body of 1 MiB; {gone} are let go", f"{peak:.0f}")
-    return table
-
-
-def in_turn(folder, rounds):
-    """Returns what the program that is set answers a second: reads, and keyings of batches of each size."""
-    found = []
-    for size in COMPARED:
-        office, requests = office_to_key(folder / f"batches-of-{size}", 3 * rounds, size)
-        with office.serve().wait() as serving:
-            if not found:
-                found.append(reads_a_second(serving.port, len(CLERKS), rounds))
+def figures(folder, rounds):
+    """Returns what the program that is set answers a second, and its memory in MB: {what: the number}."""
+    found = {}
+    for size in (5, BATCH):
+        made, requests = office_to_key(folder / str(size), 3 * rounds, size)
+        with made.serve().wait() as serving:
             times, seconds = timed(keyed, serving, requests)
-        found.append(len(times) / seconds)
+            found[f"keyings of {size} papers, {len(CLERKS)} clerks"] = len(times) / seconds
+            if size < BATCH:
+                continue
+            found.update({f"reads, {clients} clients": reads_a_second(serving.port, clients, rounds) for clients in CLIENTS})
+            found["memory after these, MB"], lines = serving.memory(), []
+            for _ in range(CROWD):
+                lines.append(serving.connect(1))
+                # If more bytes are held than may be, a connection is closed.
+                with contextlib.suppress(OSError):
+                    lines[-1].sendall(b"POST /clerks/1/batches/1/keying HTTP/1.1\r\nContent-Length: 1048576\r\n\r\n" + HALF)
+            # What was sent may still be in the sockets.
+            time.sleep(2)
+            if status(serving.ask(request(WORK))) != 200:
+                raise Wrong("no answer beside half bodies")
+            found[f"memory with {CROWD} half bodies, MB"], found["of these are let go"] = serving.memory(), closed(lines)
     return found
 
 
 def compare(programs, rounds):
-    """Has programs serve in turns, and prints what each answers a second, and that as a part of the first one's."""
+    """Has programs serve in turns, and prints the middle of each figure, and that as a part of the first one's."""
     found = {path: [] for path in programs}
     for _ in range(TURNS):
         for path, results in found.items():
             os.environ["COUNT_OFFICE"] = path
-            program.cache_clear()
+            office.program.cache_clear()
             with temporary_folder() as folder:
-                results.append(in_turn(folder, rounds))
-    middle = {path: [statistics.median(column) for column in zip(*results)] for path, results in found.items()}
-    heads = ("reads", *(f"keyings of {size} papers" for size in COMPARED))
-    table = Table(f"Answers a second, {len(CLERKS)} clients, the middle of {TURNS} turns", *heads)
-    for path, counts in middle.items():
-        table.row(path, *(f"{count:,.0f} ({count / first:.2f})" for count, first in zip(counts, middle[programs[0]])))
+                results.append(figures(folder, rounds))
+    table = Table(f"Answers a second, the middle of {TURNS} turns", *programs)
+    for what in found[programs[0]][0]:
+        middle = [statistics.median(result[what] for result in results) for results in found.values()]
+        table.row(what, *(f"{count:,.0f} ({count / max(1, middle[0]):.2f})" for count in middle))
+    return table.lines
 
 
 def main(rounds=5, *, write=False, program: list = ()):
     needs("ab")
-    if program:
-        return compare(program, rounds)
-    lines = []
-    for part in (print_keyings, print_reads, print_memory):
-        with temporary_folder() as folder:
-            lines += [*part(folder / "office", rounds).lines, ""]
+    with temporary_folder() as folder:
+        lines = [] if program else [*print_keyings(folder / "office", rounds), ""]
+    lines += compare(program or [office.program()], rounds)
     if write:
-        put_into(ROOT / "docs/COST.md", "serving", lines[:-1])
+        put_into(ROOT / "docs/COST.md", "serving", lines)
