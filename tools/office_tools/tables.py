@@ -8,8 +8,7 @@ class Table:
 
     def __init__(self, *heads):
         print(end="\n" * (Table.printed > 0))
-        Table.printed += 1
-        self.lines = []
+        Table.printed, self.lines = Table.printed + 1, []
         self.row(*heads)
         self.show("|---" * len(heads) + "|")
 
@@ -17,7 +16,6 @@ class Table:
         self.show("| " + " | ".join(map(str, cells)) + " |")
 
     def show(self, line):
-        """Prints a line of the table, and keeps it."""
         self.lines.append(line)
         print(line, flush=True)
 
