@@ -13,11 +13,9 @@ import itertools
 import random
 import re
 import sys
-import tempfile
-from dataclasses import dataclass, field
 from pathlib import Path
 
-from office_tools.office import Wrong
+from office_tools.office import Wrong, temporary_folder
 from office_tools.tables import Table
 from office_tools.wards import Ward, sealed_office
 
@@ -130,17 +128,13 @@ def written(lines):
     return "".join(f"{line}\n" for line in lines).encode("utf-8", "surrogateescape")
 
 
-@dataclass(eq=False)
 class Candidate:
     """A candidate, the parcels that lie before him, and his votes, now and at the end of each stage."""
 
-    number: int
-    name: str
-    parcels: list = field(default_factory=list)
-    votes: int = 0
-    figures: list = field(default_factory=list)
-    # As on the sheet: - while he continues, E at the stage at which he is elected and e after it, x once he is excluded.
-    letter: str = "-"
+    def __init__(self, number, name):
+        self.number, self.name, self.parcels, self.votes, self.figures = number, name, [], 0, []
+        # As on the sheet: - while he continues, E at the stage at which he is elected and e after it, x once he is excluded.
+        self.letter = "-"
 
     def receives(self, parcel):
         """Lays a parcel before him: he is credited with the values of its papers."""
@@ -179,11 +173,20 @@ class Count:
     def next_stage(self):
         """Transfers the highest surplus; if there is none, excludes the continuing candidate with the fewest votes."""
         surpluses = [candidate for candidate in self.those("Ee") if candidate.votes > self.quota]
-        chosen = self.foremost(surpluses, max) if surpluses else self.foremost(self.those("-"), min)
-        if chosen and surpluses:
-            self.transfer_surplus(chosen)
-        elif chosen:
-            self.exclude(chosen)
+        giver = self.foremost(surpluses, max) if surpluses else self.foremost(self.those("-"), min)
+        if giver and surpluses:
+            # All his papers are handed on, each at its part of his surplus, and he keeps the quota. What they don't take with them, since
+            # their values are cut down, is lost.
+            surplus, credited = giver.votes - self.quota, giver.votes
+            self.lost += surplus - self.hand_on(giver, lambda received: surplus * received // credited)
+            giver.votes = self.quota
+            self.end_stage(f"surplus of {giver.number}")
+        elif giver:
+            # His papers are handed on at the values at which he received them. If all the others are elected now, his votes stay.
+            giver.letter = "x"
+            is_last = len(self.those("-")) == self.vacancies()
+            giver.votes -= 0 if is_last else self.hand_on(giver, lambda received: received)
+            self.end_stage(f"exclusion of {giver.number}" + ", last vacancies" * is_last)
 
     def foremost(self, candidates, most):
         """Returns the candidate with the most votes, or the fewest; None if a lot has to be drawn for that."""
@@ -200,25 +203,6 @@ class Count:
             return self.candidates[self.lots.pop(due)]
         self.waits = due, numbers
         return None
-
-    def transfer_surplus(self, giver):
-        """Hands on all papers of an elected candidate, each at its part of his surplus; he keeps the quota."""
-        surplus, credited = giver.votes - self.quota, giver.votes
-        handed_on = self.hand_on(giver, lambda received: surplus * received // credited)
-        giver.votes = self.quota
-        # What his papers didn't take with them, since their values are cut down.
-        self.lost += surplus - handed_on
-        self.end_stage(f"surplus of {giver.number}")
-
-    def exclude(self, giver):
-        """Excludes a candidate, and hands on his papers at the values at which he received them."""
-        giver.letter = "x"
-        if len(self.those("-")) == self.vacancies():
-            # All the others are elected now, so that no paper has to be handed on, and his votes stay.
-            self.end_stage(f"exclusion of {giver.number}, last vacancies")
-        else:
-            giver.votes -= self.hand_on(giver, lambda received: received)
-            self.end_stage(f"exclusion of {giver.number}")
 
     def hand_on(self, giver, value_of):
         """Hands on each parcel of a candidate, at the value that comes of the one at which he received it. Returns the worth of all."""
@@ -305,23 +289,18 @@ def play(ward, folder):
 
 
 def play_wards(wards, seed):
-    totals, differences = collections.Counter(), 0
+    totals = collections.Counter()
     for place in range(1, wards + 1):
         ward = Ward(random.Random(f"{seed} {place}"))
-        totals["contested" if ward.is_contested else "uncontested"] += 1
-        with tempfile.TemporaryDirectory() as folder:
+        with temporary_folder() as folder:
             try:
                 count = play(ward, folder)
             except Wrong as error:
-                differences += 1
-                print(f"recount: seed {seed}, ward {place}: {error}", file=sys.stderr, flush=True)
-            else:
-                totals.update({"stages compared": len(count.stages), "lots drawn": len(count.ballots.lots)})
+                raise Wrong(f"seed {seed}, ward {place}: {error}") from error
+        totals.update({"contested": ward.is_contested, "stages compared": len(count.stages), "lots drawn": len(count.ballots.lots)})
     table = Table(f"Made-up wards, seed {seed}", wards)
-    for what in ("uncontested", "contested", "stages compared", "lots drawn"):
-        table.row(what, totals[what])
-    if differences:
-        raise Wrong(f"{differences} wards aren't counted alike")
+    for what, number in totals.items():
+        table.row(what, number)
 
 
 def main(ballots: Path = None, *, wards=0, seed=1):
