@@ -21,12 +21,9 @@ COLUMNS = range(1, CANDIDATES + 1)
 # last one, which nobody has keyed yet, and {doubtful} a doubtful paper of an earlier one.
 WALK = """
 status 7
-wards
-batches 7
 doubtful 7
 receipts
 papers 1                                                | of a batch
-index
 journal
 copy {folder}/timed/made.db
 ward 9 2 Quay --id x                                    | of another ward
@@ -40,9 +37,6 @@ again 1 --id x                                          | (refused)
 candidate 8 2 Bob --id x
 import-candidates {folder}/names.csv --id x             | of 10 candidates
 replay {folder}/script.txt                              | of 10 orders
-withdraw 8 1 --id x
-close 8 --id x
-next 7
 + import-keying 4 {new} 1 {folder}/{new}.csv --id k
 + import-keying 9 {new} 1 {folder}/1.csv --id k
 differences {new}
@@ -63,8 +57,6 @@ sheet 7                                                 |, 3 stages
 + count 7 --id c
 sheet 7                                                 |, all stages
 ballots 7
-page 7
-table 7
 declare 7 --id x
 + declare 7 --id d
 result 7
