@@ -1,10 +1,10 @@
-"""Counts the long sentences of each page; with --comments those in the comments of each crate.
+"""Counts the long sentences of each page, and those in the comments of each crate.
 
 It reads README.md, CHANGELOG.md, CONTRIBUTING.md and each page of docs/, but the table that a script makes. A sentence ends at a full
 stop, a question mark or an exclamation mark before a blank; so does the cell of a table, an item of a list, and a heading. Sentences of
 fewer than 4 words aren't counted, as most cells and headings. Code in fences isn't read, and what is in backticks counts as one word.
-Each page has a share that it may have, in a hundred. No sentence of a comment in src/ and specs/ may have more than 40 words. --show N
-prints the N longest sentences of each.
+Each page has a share of sentences of more than 30 words that it may have, in a hundred. No sentence of a comment in src/ and specs/ may
+have more than 40. The long sentences of a page that has too many are printed.
 """
 import itertools
 import re
@@ -40,23 +40,20 @@ def comments_of(text):
             yield "\n".join(found[1] or "" for found in run)
 
 
-def shown(what, texts, most, allowed, number):
-    """Prints how many sentences are long, and the longest ones. Returns whether these are too many."""
-    found = [it for text in texts for it in sentences(text)]
+def is_over(what, texts, most, allowed):
+    """Prints how many sentences are long, and returns whether these are too many."""
+    found = [sentence for text in texts for sentence in sentences(text)]
     long = sorted((it for it in found if it[0] > most), reverse=True)
     share = 100 * len(long) / max(1, len(found))
     print(f"{what}: {len(long)} of {len(found)} sentences have more than {most} words, {share:.1f} in a hundred; {allowed} may be")
-    for count, sentence in long[:number]:
-        print(f"    {count}: {sentence[:300]}")
+    print(*(f"    {count}: {sentence[:300]}\n" for count, sentence in long * (share > allowed)), sep="", end="")
     return share > allowed
 
 
-def main(*, show=0, comments=False):
-    if not comments:
-        read = [page for page in pages() if page.name != "PROOFS-TABLE.md"]
-        return max(shown(page.relative_to(ROOT), [page.read_text()], MOST, ALLOWED.get(page.stem, OTHERS), show) for page in read)
-    found = {}
+def main():
+    read = [page for page in pages() if page.name != "PROOFS-TABLE.md"]
+    found = [is_over(page.relative_to(ROOT), [page.read_text()], MOST, ALLOWED.get(page.stem, OTHERS)) for page in read]
     for crate in sorted((ROOT / "crates").iterdir()):
-        sources = sorted(crate.glob("src/**/*.rt")) + sorted(crate.glob("specs/**/*.antt"))
-        found[crate.name] = [text for path in sources for text in comments_of(path.read_text())]
-    return max(shown(name, texts, MOST_IN_COMMENTS, 0, show) for name, texts in found.items())
+        sources = [*crate.glob("src/**/*.rt"), *crate.glob("specs/**/*.antt")]
+        found.append(is_over(crate.name, [text for path in sources for text in comments_of(path.read_text())], MOST_IN_COMMENTS, 0))
+    return any(found)
