@@ -1,18 +1,17 @@
 """Measures the orders on wards of several sizes, alone and while the office is served, and prints the table of docs/COST.md.
 
 The ward has 10 candidates and 4 seats, and its papers come from a fixed generator. Each order is given on a copy of the file: the
-shortest of five runs counts, with the highest peak of memory. The first line is what the stock SQLite of Python takes to read all rows.
-PAPERS are multiples of 500, by default 1000 10000 100000. --write puts the table into docs/COST.md. Take the machine for half an hour.
+shortest of five runs counts. The first line is what the stock SQLite of Python takes to read all rows, and the last one the highest peak
+of memory, which is that of `journal`. PAPERS are multiples of 500, by default 1000 10000 100000. --write puts the table into
+docs/COST.md. Take the machine for half an hour.
 """
 import contextlib
-import os
 import random
+import resource
 import sqlite3
-import subprocess
-import time
 
 from office_tools.election import keying, ward_orders
-from office_tools.office import ROOT, TOWN, Office, Wrong, program, temporary_folder, timed
+from office_tools.office import ROOT, TOWN, Office, Wrong, temporary_folder, timed
 from office_tools.tables import Table, put_into
 
 CANDIDATES, SEATS, BATCH, RUNS = 10, 4, 500, 5
@@ -95,28 +94,17 @@ def keyed_ward(folder, count):
     return office, {"new": new, "next": new + 1, "folder": office.folder, "doubtful": doubtful[0], "marks": " ".join(keyed[new])}
 
 
-def run(words, wanted):
-    """Runs a program to its end. Returns its seconds, and its peak of memory in MB."""
-    began = time.perf_counter()
-    process = subprocess.Popen(words, stdout=subprocess.DEVNULL, stderr=subprocess.PIPE)
-    errors = process.stderr.read()
-    _, code, usage = os.wait4(process.pid, 0)
-    seconds = time.perf_counter() - began
-    process.stderr.close()
-    process.returncode = os.waitstatus_to_exitcode(code)
-    if process.returncode != wanted:
-        raise Wrong(f"{words}: status {process.returncode}, {errors.decode()}")
-    return seconds, usage.ru_maxrss / 1024
-
-
 def best(office, words, wanted=0, is_served=False):
-    """Returns the shortest time of an order in ms, and its highest peak of memory, each time on a new copy of the file."""
-    results = []
+    """Returns the shortest time of an order in ms, each time on a new copy of the file."""
+    found = []
     for _ in range(RUNS):
         copy = office.copied(office.folder / "timed")
         with copy.serve().wait() if is_served else contextlib.nullcontext():
-            results.append(run([program(), copy.folder / TOWN, *words], wanted))
-    return 1000 * min(seconds for seconds, _ in results), max(peak for _, peak in results)
+            printed, seconds = timed(copy.run, *words)
+        if printed.status != wanted:
+            raise Wrong(f"{words}: {printed}")
+        found.append(1000 * seconds)
+    return min(found)
 
 
 def read_all(office):
@@ -130,22 +118,22 @@ def measured(count):
     """Returns {what: its cell} on a ward of so many papers."""
     with temporary_folder() as folder:
         office, stands_for = keyed_ward(folder / "ward", count)
-        found = {"all rows read by the stock sqlite": f"{1000 * min(timed(read_all, office)[1] for _ in range(RUNS)):.0f} ms"}
-        found["`init`"] = "{:.0f} ms, {:.0f} MB".format(*best(Office(folder / "empty"), ["init"]))
+        found = {"all rows read by the stock sqlite": f"{1000 * min(timed(read_all, office)[1] for _ in range(RUNS)):.0f} ms",
+                 "`init`": f"{best(Office(folder / 'empty'), ['init']):.0f} ms"}
         for line in WALK.strip().splitlines():
             order, _, what = line.partition("|")
             words = order.removeprefix("+ ").format(**stands_for).split()
             if order.startswith("+ "):
                 office.do(*words)
-                continue
-            wanted = int(what == " (refused)")
-            (alone, peak), (served, _) = best(office, words, wanted), best(office, words, wanted, is_served=True)
-            found[f"`{words[0]}`{what}"] = f"{alone:.0f} ms, {peak:.0f} MB; {served:.0f} ms"
+            else:
+                alone, served = (best(office, words, int(what == " (refused)"), is_served) for is_served in (False, True))
+                found[f"`{words[0]}`{what}"] = f"{alone:.0f} ms; {served:.0f} ms"
+    found["the most memory so far"] = f"{resource.getrusage(resource.RUSAGE_CHILDREN).ru_maxrss / 1024:.0f} MB"
     return found
 
 
 def main(*papers: int, write=False):
-    sizes = papers or (1000, 10000, 100000)
+    sizes = sorted(papers) or (1000, 10000, 100000)
     columns = [measured(count) for count in sizes]
     table = Table("Order, alone; while it is served", *(f"{count:,} papers" for count in sizes))
     for name in columns[0]:

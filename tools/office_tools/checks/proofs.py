@@ -56,15 +56,6 @@ def missing_of_row(crates, name, where):
             yield from (f"no clause {it} of {function} in {name}" for it in quoted(names) if it not in clauses.get(function, [it]))
 
 
-def is_defined(crate, path):
-    """Returns whether a path below a crate's specs/ is that of a file, or of a definition in one."""
-    below = ROOT / "crates" / crate / "specs" / path.replace(".", "/")
-    if below.with_suffix(".antt").is_file():
-        return True
-    file = below.parent.with_suffix(".antt")
-    return file.is_file() and re.search(rf"^(?:\w+ )?pub (?:\w+ )?{below.name}\b", file.read_text(), re.M) is not None
-
-
 def missing_messages():
     """Yields the refusals, file faults and faults whose headings are missing, and the headings that none has."""
     headings, wanted = re.findall(r"^### `(.*)`$", MESSAGES.read_text(), re.M), []
@@ -83,18 +74,20 @@ def missing_of_text(line, clauses, words):
         for function in quoted(functions):
             yield from (f"no clause {clause} of {function}" for clause in quoted(names) if clause not in clauses.get(function, [clause]))
     for name in quoted(line):
-        if path := re.fullmatch(r"Rattle\.(\w+)\.specs\.([\w.]+)", name):
-            if not is_defined(*path.groups()):
-                yield f"no file or definition of {name}"
-        elif re.fullmatch(r"[\w:.]+", name) and not set(re.findall(r"\w+", name)) <= words:
+        parts = {name} if name.startswith("Rattle.") else set(re.findall(r"\w+", name))
+        if re.fullmatch(r"[\w:.]+", name) and not parts <= words:
             yield f"no {name} in the sources"
 
 
 def faults_of(crates):
     """Yields what the pages that are written by hand name and the sources don't have."""
-    specs = [path.read_text() for crate in crates for path in crate.folder.glob("specs/**/*.antt")]
-    texts = [(ROOT / "crates.txt").read_text(), *specs, *(text for crate in crates for text in crate.texts.values())]
-    words = set(re.findall(r"\w+", "\n".join(texts))).union(*(crate.edits for crate in crates))
+    words = set(re.findall(r"\w+", (ROOT / "crates.txt").read_text()))
+    for crate in crates:
+        words.update(crate.edits, *(re.findall(r"\w+", text) for text in crate.texts.values()))
+        for path in crate.folder.glob("specs/**/*.antt"):
+            text, name = path.read_text(), ".".join(["Rattle", crate.name, *path.relative_to(crate.folder).with_suffix("").parts])
+            defined = re.findall(r"^(?:\w+ )?pub (?:\w+ )?(\w+)", text, re.M)
+            words.update(re.findall(r"\w+", text), [name], (f"{name}.{own}" for own in defined))
     clauses = clauses_of(crates)
     for page in [HAND, *DEFINED]:
         for number, line in enumerate(page.read_text().splitlines(), 1):
