@@ -1,108 +1,61 @@
-"""Measures the orders on wards of several sizes, alone and while the office is served, and prints the table of docs/COST.md.
+"""Measures each order, alone and while the office is served, in offices of several sizes, and prints a table for docs/COST.md.
 
-The ward has 10 candidates and 4 seats, and its papers come from a fixed generator. Each order is given on a copy of the file: the
-shortest of five runs counts. The first line is what the stock SQLite of Python takes to read all rows, and the last one the highest peak
-of memory, which is that of `journal`. PAPERS are multiples of 500, by default 1000 10000 100000. --write puts the table into
-docs/COST.md. Take the machine for half an hour.
+An office has a ward of PAPERS papers, by default 1000 10000 100000, which come from a fixed generator; it has 10 candidates and 4 seats,
+and two clerks keyed it alike, in batches of 500. Beside it the small election of tools/try is played, and each of its orders is timed on a
+copy of the file: the shortest of five runs counts. Then the large ward is counted. The first line is what the stock SQLite of Python takes
+to read all rows, and the last one the highest peak of memory, which is that of `journal`. Take the machine for half an hour.
 """
 import contextlib
 import random
 import resource
 import sqlite3
 
-from office_tools.election import keying, ward_orders
-from office_tools.office import ROOT, TOWN, Office, Wrong, temporary_folder, timed
-from office_tools.tables import Table, put_into
+from office_tools.election import COPYING, ELECTION, END, READS, REPLAY, SCRIPTED, Order, keying, ward_orders
+from office_tools.office import TOWN, Office, Wrong, temporary_folder, timed
+from office_tools.tables import Table
 
 CANDIDATES, SEATS, BATCH, RUNS = 10, 4, 500, 5
-COLUMNS = range(1, CANDIDATES + 1)
-# The orders in turn, and what is said of each in the table. After + one isn't timed: the office goes on with it. Batch {new} is the
-# last one, which nobody has keyed yet, and {doubtful} a doubtful paper of an earlier one.
-WALK = """
-status 7
-doubtful 7
-receipts
-papers 1                                                | of a batch
-journal
-copy {folder}/timed/made.db
-ward 9 2 Quay --id x                                    | of another ward
-batch {next} 7 500 4 9 --id x
-import-keying 4 {new} 1 {folder}/{new}.csv --id x      | of 500 papers
-key 4 {new} 1 --id x {marks}                            | of 500 papers
-judge {doubtful} reject:3 --id x
-again 1 --id x                                          | (refused)
-+ ward 8 2 Quay --id w8
-+ candidate 8 1 Ann --id q1
-candidate 8 2 Bob --id x
-import-candidates {folder}/names.csv --id x             | of 10 candidates
-replay {folder}/script.txt                              | of 10 orders
-+ import-keying 4 {new} 1 {folder}/{new}.csv --id k
-+ import-keying 9 {new} 1 {folder}/1.csv --id k
-differences {new}
-again {new} --id x
-third {new} 5 --id x
-+ again {new} --id again
-+ replay {folder}/agreed.txt
-seal 7 --id x
-+ seal 7 --id seal
-advance 7 --id x                                        |, the first stage
-+ advance 7 --id s1
-count 7 --id x                                          |, up to a lot or the end
-+ advance 7 --id s2
-+ advance 7 --id s3
-advance 7 --id x                                        |, the fourth stage
-lot 7 5 1 --id x                                        | (refused)
-sheet 7                                                 |, 3 stages
-+ count 7 --id c
-sheet 7                                                 |, all stages
-ballots 7
-declare 7 --id x
-+ declare 7 --id d
-result 7
-"""
+LARGE = [Order(line.split()) for line in (
+    "batches 8", "seal 8 --id seal", "advance 8 --id first", "advance 8 --id second", "count 8 --id count", "sheet 8", "ballots 8",
+    "declare 8 --id declare", "result 8")]
 
 
 def papers(chance, count):
-    """Returns the marks of papers: a few preferences each, one paper in two hundred doubtful."""
+    """Returns the marks of papers: a few preferences each."""
     found = []
     for _ in range(count):
         marks = [""] * CANDIDATES
         for place, candidate in enumerate(chance.sample(range(CANDIDATES), chance.randint(1, 6)), 1):
             marks[candidate] = str(place)
-        found.append("D" if chance.random() < 0.005 else ",".join(marks))
+        found.append(",".join(marks))
     return found
 
 
 def nominated(folder, *batches):
-    """Returns an office with a ward in keying, with these batches."""
-    return Office(folder).begin(ward_orders(*batches, candidates=[f"Candidate {c}" for c in COLUMNS], seats=SEATS))
+    """Returns an office with ward 8 in keying, with these batches."""
+    candidates = [f"Candidate {c}" for c in range(1, CANDIDATES + 1)]
+    return Office(folder).begin(ward_orders(*batches, candidates=candidates, seats=SEATS, ward=8, name="Quay"))
 
 
 def keyed_ward(folder, count):
-    """Returns an office with so many papers, keyed alike by two clerks, and a batch to key; and what the words of the walk stand for."""
-    chance, new = random.Random(7), count // BATCH + 1
-    keyed = {batch: papers(chance, BATCH) for batch in range(1, new + 1)}
-    doubtful = [f"{batch} {paper}" for batch, marks in keyed.items() for paper, text in enumerate(marks, 1) if text == "D"]
-    office = nominated(folder, *((batch, BATCH, 4, 9) for batch in keyed))
-    for batch, marks in keyed.items():
-        office.write(f"{batch}.csv", keying(marks, COLUMNS))
-    office.replay([f"import-keying {clerk} {batch} 1 {batch}.csv --id k{batch}" for batch in range(1, new) for clerk in (4, 9)])
-    agreed = [f"import-keying {clerk} {new} 2 {new}.csv --id again" for clerk in (4, 9)]
-    office.write("agreed.txt", agreed + [f"judge {paper} reject:3 --id {paper.replace(' ', '-')}" for paper in doubtful])
-    office.write("names.csv", ["ward,candidate,name", *(f"8,{c},Candidate {c}" for c in range(11, 21))])
-    office.write("script.txt", [f"candidate 8 {c} 'Candidate {c}' --id r{c}" for c in range(11, 21)])
-    return office, {"new": new, "next": new + 1, "folder": office.folder, "doubtful": doubtful[0], "marks": " ".join(keyed[new])}
+    """Returns an office with so many papers in ward 8, keyed alike by two clerks."""
+    chance, batches = random.Random(7), range(100, 100 + count // BATCH)
+    office = nominated(folder, *((batch, BATCH, 4, 9) for batch in batches))
+    for batch in batches:
+        office.write(f"{batch}.csv", keying(papers(chance, BATCH), range(1, CANDIDATES + 1)))
+    office.replay([f"import-keying {clerk} {batch} 1 {batch}.csv --id k{batch}" for batch in batches for clerk in (4, 9)])
+    return office
 
 
-def best(office, words, wanted=0, is_served=False):
+def best(office, order, is_served=False):
     """Returns the shortest time of an order in ms, each time on a new copy of the file."""
     found = []
     for _ in range(RUNS):
         copy = office.copied(office.folder / "timed")
         with copy.serve().wait() if is_served else contextlib.nullcontext():
-            printed, seconds = timed(copy.run, *words)
-        if printed.status != wanted:
-            raise Wrong(f"{words}: {printed}")
+            printed, seconds = timed(order.done, copy)
+        if printed.status and not printed.err.startswith("refused"):
+            raise Wrong(f"{order.name[:80]}: {printed}")
         found.append(1000 * seconds)
     return min(found)
 
@@ -115,28 +68,24 @@ def read_all(office):
 
 
 def measured(count):
-    """Returns {what: its cell} on a ward of so many papers."""
+    """Returns {what: its cell} in an office with so many papers."""
+    reads = [*READS, (SCRIPTED[0], REPLAY), (END, COPYING)]
     with temporary_folder() as folder:
-        office, stands_for = keyed_ward(folder / "ward", count)
+        office = keyed_ward(folder / "town", count)
         found = {"all rows read by the stock sqlite": f"{1000 * min(timed(read_all, office)[1] for _ in range(RUNS)):.0f} ms",
-                 "`init`": f"{best(Office(folder / 'empty'), ['init']):.0f} ms"}
-        for line in WALK.strip().splitlines():
-            order, _, what = line.partition("|")
-            words = order.removeprefix("+ ").format(**stands_for).split()
-            if order.startswith("+ "):
-                office.do(*words)
-            else:
-                alone, served = (best(office, words, int(what == " (refused)"), is_served) for is_served in (False, True))
-                found[f"`{words[0]}`{what}"] = f"{alone:.0f} ms; {served:.0f} ms"
+                 "`init`": f"{best(Office(folder / 'empty'), ELECTION[0]):.0f} ms"}
+        for number, order in enumerate([*ELECTION[1:], *LARGE], 1):
+            for one in (*(read for place, read in reads if place == number), order):
+                found[f"`{one.name[:32].strip()}`"] = f"{best(office, one):.0f} ms; {best(office, one, is_served=True):.0f} ms"
+            order.put_files(office)
+            office.do(*order.words)
     found["the most memory so far"] = f"{resource.getrusage(resource.RUSAGE_CHILDREN).ru_maxrss / 1024:.0f} MB"
     return found
 
 
-def main(*papers: int, write=False):
+def main(*papers: int):
     sizes = sorted(papers) or (1000, 10000, 100000)
     columns = [measured(count) for count in sizes]
     table = Table("Order, alone; while it is served", *(f"{count:,} papers" for count in sizes))
     for name in columns[0]:
         table.row(name, *(found[name] for found in columns))
-    if write:
-        put_into(ROOT / "docs/COST.md", "cost", table.lines)

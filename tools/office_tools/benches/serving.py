@@ -1,10 +1,10 @@
-"""Times clients that are served side by side, and prints a table of docs/COST.md. It needs `ab` of apache2-utils.
+"""Times clients that are served side by side, and prints a table for docs/COST.md. It needs `ab` of apache2-utils.
 
 Each program that --program A --program B names serves a few times, in turns, or the one alone that is set: the table has the middle of
 its turns, and what part that is of the first one's. Next to 300 silent connections one clerk keys, and then 19 at once, all as fast as they
 are answered. Reads are requests for a clerk's work, as `ab` counts. Memory is that of `serve` after all this, and with 512
 connections that have each sent half of a body of 1 MiB. ROUNDS is how many batches each clerk keys, and how many seconds `ab` asks: with
-1 all is done quickly, to see that it works. With --write the table goes into docs/COST.md.
+1 all is done quickly, to see that it works.
 """
 import contextlib
 import json
@@ -17,8 +17,8 @@ from concurrent.futures import ThreadPoolExecutor
 
 from office_tools import office
 from office_tools.benches.cost import BATCH, nominated, papers
-from office_tools.office import ROOT, Wrong, needs, temporary_folder, timed
-from office_tools.tables import Table, put_into
+from office_tools.office import Wrong, needs, temporary_folder, timed
+from office_tools.tables import Table
 from office_tools.web import HERE, request, status
 
 CLERKS, CLIENTS, SILENT, CROWD, HALF = range(1, 21), (1, 20, 200), 300, 512, b" " * 524288
@@ -117,7 +117,7 @@ def figures(folder, rounds):
     return found
 
 
-def main(rounds=5, *, write=False, program: list = ()):
+def main(rounds=5, *, program: list = ()):
     needs("ab")
     found = {path: [] for path in program or [office.program()]}
     for _ in range(TURNS):
@@ -130,5 +130,3 @@ def main(rounds=5, *, write=False, program: list = ()):
     for what in results[0]:
         middle = [statistics.median(result[what] for result in results) for results in found.values()]
         table.row(what, *(f"{count:,.0f} ({count / max(1, middle[0]):.2f})" for count in middle))
-    if write:
-        put_into(ROOT / "docs/COST.md", "serving", table.lines)
