@@ -3,7 +3,7 @@
 Each program that --program A --program B names serves a few times, in turns, or the one alone that is set: the table has the middle of
 its turns, and what part that is of the first one's. Next to 300 silent connections one clerk keys, and then 19 at once, all as fast as they
 are answered. Reads are requests for a clerk's work, as `ab` counts. Memory is that of `serve` after all this, and with 512
-connections that have each sent half of a body of 1 MiB. ROUNDS is how many batches each clerk keys, and how many seconds `ab` asks: with
+connections that have each sent half of a body of 1 MiB. ROUNDS is a third of the batches that each clerk keys, and how many seconds `ab` asks: with
 1 all is done quickly, to see that it works.
 """
 import contextlib
@@ -103,7 +103,7 @@ def figures(folder, rounds):
     """Returns what the program that is set answers a second, and its memory: {what: the number}."""
     found = {}
     for size in (5, BATCH):
-        made, requests = office_to_key(folder / str(size), rounds, size)
+        made, requests = office_to_key(folder / str(size), 3 * rounds, size)
         with made.serve().wait() as serving:
             alone, *others = requests.values()
             silent = [serving.connect() for _ in range(SILENT)]

@@ -102,32 +102,22 @@ def shared(lines, chance):
 
 
 def changed(sheet, chance):
-    """Returns a sheet with a byte, a figure or a line that is another, missing or moved."""
-    way, lines = chance.randrange(4), sheet.splitlines(keepends=True)
-    if way == 0:
-        at = chance.randrange(len(sheet))
-        return sheet[:at] + bytes([sheet[at] ^ (1 << chance.randrange(8))]) + sheet[at + 1:]
-    if way == 1:
-        at = chance.choice([m.start() for m in re.finditer(rb"[0-9]", sheet)])
-        return sheet[:at] + b"%d" % ((sheet[at] - 48 + 1) % 10) + sheet[at + 1:]
-    line = lines.pop(chance.randrange(len(lines)))
-    if way == 2:
-        lines.insert(chance.randrange(len(lines) + 1), line)
-    return b"".join(lines)
+    """Returns a sheet with a byte or a line that is another, missing or moved."""
+    at, lines = chance.randrange(len(sheet)), sheet.splitlines(keepends=True)
+    line, place = lines.pop(chance.randrange(len(lines))), chance.randrange(len(lines))
+    moved = lines[:place] + [line] * chance.randrange(2) + lines[place:]
+    return chance.choice((b"".join(moved), sheet[:at] + bytes([sheet[at] ^ (1 << chance.randrange(8))]) + sheet[at + 1:]))
 
 
 EXTREME = {
     "an empty file": b"",
-    "20,000,000 bytes 00": b"\0" * 20_000_000,
     "a word of 20,000,000 digits": b"9" * 20_000_000,
     "10,000,000 empty lines": b"\n" * 10_000_000,
     "a name of 20,000,000 bytes that isn't closed": b'1 1\n0\n"' + b"a" * 20_000_000,
-    "10,000,000 backslashes in a name": b'1 1\n0\n"' + b"\\" * 10_000_000,
     "5,000,000 comments": b"# Lot\n" * 5_000_000,
     "a line of 5,000,000 candidates": b"30 1\n1" + b" 1" * 5_000_000 + b" 0\n",
     "5,000,000 shared ranks": b"30 1\n1 1 2=3" + b" 2=3" * 5_000_000 + b"\n",
-    "300 lots of one stage each": b"".join(b"# Lot at stage %d: 1\n" % stage for stage in range(300)),
-    "no line after the papers": b"2 1\n" + b"1 1 0\n" * 2_000_000,
+    "2,000,000 lines of papers without an end": b"2 1\n" + b"1 1 0\n" * 2_000_000,
     "more papers than a ward has": b"2 1\n" + b"4000000 1 0\n" * 2 + b"0\n",
 }
 
@@ -142,11 +132,6 @@ def checked(folder, what, ballots, text, right, pattern):
     if ended.returncode not in right or not re.match(pattern, told) or STEERS.search(told.decode("utf-8", "replace")):
         raise Wrong(f"{what}: status {ended.returncode}, {told[:200]!r} of {ballots[:2000]!r} and {text[:2000]!r}")
     return ended.returncode
-
-
-def first_line_that_differs(text, sheet, declaration):
-    like = max((sheet, declaration), key=lambda other: len(os.path.commonprefix([text, other])))
-    return os.path.commonprefix([text, like]).count(b"\n") + 1
 
 
 def as_recounted(lines, chance):
@@ -178,8 +163,10 @@ def cases(chance):
     for _ in range(5):
         while (text := changed(sheet, chance)) in (sheet, declaration):
             pass
-        differs = b"line %d differs" % first_line_that_differs(text, sheet, declaration)
-        yield "sheets with a byte, a figure or a line that is another, missing or moved", ballots, text, [1], differs
+        # It is compared with the one that it is like for longer.
+        same = max((os.path.commonprefix([text, other]) for other in (sheet, declaration)), key=len)
+        differs = b"line %d differs" % (same.count(b"\n") + 1)
+        yield "sheets with a byte or a line that is another, missing or moved", ballots, text, [1], differs
 
 
 def main(wards=100, seed=1):
