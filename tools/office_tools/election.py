@@ -2,7 +2,7 @@
 import os
 import shlex
 import sqlite3
-from dataclasses import dataclass, field
+from dataclasses import dataclass
 
 from office_tools.office import NO_OFFICE, SCRIPT, TOWN, Office, ended
 from office_tools.tries import older_office
@@ -34,10 +34,10 @@ class Order:
     lines: list = None
     sends: bytes = b""
     town: str = TOWN
-    name: str = field(init=False)
 
-    def __post_init__(self):
-        self.name = self.words[0] if self.sends else " ".join(self.words)
+    @property
+    def name(self):
+        return self.words[0] if self.sends else " ".join(self.words)
 
     def put_files(self, office):
         """Writes the files that the order names."""

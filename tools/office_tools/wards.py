@@ -5,7 +5,7 @@ from office_tools.election import keying
 from office_tools.office import Office
 
 PIECES = ["Ann", "O'Neill", 'Bob "jr"', "back\\slash", "\\", '"', "Zoë", "李小龙", "🗳", "a, b", " two  blanks ", "#7", "-Hyphen", "withdrawn",
-          "\u0085", "0", "long" * 20]
+          "\u0085", "0", "long" * 14 + "er"]
 # The least and the most candidates of a ward, papers of it, and kinds of papers.
 SMALL, MIDDLING = [(2, 6), (0, 24), (1, 4)], [(5, 14), (20, 90), (10, 60)]
 CROWDED, LARGE = [(4, 30), (0, 120), (4, 120)], [(30, 30), (300, 900), (20, 900)]
@@ -32,14 +32,10 @@ class Ward:
     def __init__(self, chance):
         size, papers, kinds = (chance.randint(*limits) for limits in chance.choice(SHAPES))
         self.chance, self.number, self.seats = chance, chance.randint(1, 99), chance.randint(1, min(size, chance.choice([4, 15])))
-        self.name, *names = (self.made_up_name() for _ in range(size + 1))
+        self.name, *names = (" ".join(chance.choices(PIECES, k=chance.randint(1, 2))) for _ in range(size + 1))
         self.names = dict(zip(sorted(chance.sample(range(1, 31), size)), names))
         self.is_contested, self.is_neat = size > self.seats, chance.randrange(2) == 0
         self.papers = [self.paper(preferences) for preferences in self.voted(papers, kinds)] if self.is_contested else []
-
-    def made_up_name(self):
-        pieces = [self.chance.choice(PIECES) for _ in range(self.chance.randint(1, 4))]
-        return " ".join(pieces).encode()[:120].decode(errors="ignore")
 
     def voted(self, papers, kinds):
         """Returns the preferences of about so many papers, of about so many kinds: many are equal, so that many candidates tie."""

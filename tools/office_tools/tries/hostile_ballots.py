@@ -64,8 +64,7 @@ def as_others_write(lines, chance):
         papers += [f"{part}\t{named}{chance.choice(('', ' # so many'))}" for part in (share, int(number) - share) if part]
     chance.shuffle(papers)
     comments = [line for line in lines if line.startswith("# ")]
-    front = ["", "# made up"] + comments + lines[:start]
-    text = front + papers + lines[end:len(lines) - len(comments)]
+    text = ["", "# made up", *comments, *lines[:start], *papers, *lines[end:len(lines) - len(comments)]]
     return b"\xef\xbb\xbf" + "".join(f"{chance.choice(('', ' '))}{line}\r\n" for line in text).encode()
 
 
@@ -76,11 +75,8 @@ def commented(lines, chance):
         lines.remove(chance.choice([line for line in lines if line.startswith("# ")]))
     words = re.sub("N", lambda _: str(chance.choice((0, 1, 2, 7, 255, 256))), chance.choice(OURS + NEAR))
     comment = chance.choice(["# "] * 5 + SIGNS) + chance.choice((str, str, str.lower, str.upper))(words)
-    at = chance.randrange(len(lines))
-    if chance.random() < 0.5:
-        lines.insert(at, chance.choice(("", " ")) + comment)
-    else:
-        lines[at] += chance.choice(("", " ")) + comment
+    at, comment = chance.randrange(len(lines)), chance.choice(("", " ")) + comment
+    lines[at:at + 1] = chance.choice(([comment, lines[at]], [lines[at] + comment]))
     return lines
 
 

@@ -242,13 +242,12 @@ class Count:
         lines.append(f"   {votes_text(self.lost):>13} lost by fractions")
         self.stages.append(written(lines))
 
-    def sheet(self, done=None):
-        """Returns the stage sheet: with so many stages, or with all."""
+    def sheet(self):
         lines = [f"Ward {self.ballots.ward} {self.ballots.ward_name}", f"Seats {self.ballots.seats}, uncontested"]
         if self.is_contested:
             lines[1] = f"Seats {self.ballots.seats}, valid {self.valid}, quota {votes_text(self.quota)}"
             lines.append("Rejected " + ", ".join(f"{code}: {papers}" for code, papers in zip(CODES, self.ballots.rejected)))
-        return written(lines) + b"".join(self.stages[:done])
+        return written(lines) + b"".join(self.stages)
 
     def declaration(self):
         elected = self.those("Ee" if self.is_contested else "-")
