@@ -18,12 +18,9 @@ def add_word(parser, word):
     default = None if word.default is word.empty else word.default
     kind = word.annotation if word.annotation is not word.empty else str if default is None else type(default)
     shown = f"default {default}" if default else None
-    if kind is bool:
-        parser.add_argument(f"--{word.name}", action="store_true")
-    elif kind is list:
-        parser.add_argument(f"--{word.name}", action="append", default=[])
-    elif word.kind is word.KEYWORD_ONLY:
-        parser.add_argument(f"--{word.name}", type=kind, default=default, help=shown)
+    if word.kind is word.KEYWORD_ONLY:
+        taken = {bool: {"action": "store_true"}, list: {"action": "append", "default": []}}.get(kind, {"type": kind, "default": default})
+        parser.add_argument(f"--{word.name}", help=shown, **taken)
     else:
         count = "*" if word.kind is word.VAR_POSITIONAL else "?" if word.default is not word.empty else None
         parser.add_argument(word.name, type=kind, nargs=count, default=default, metavar=word.name.upper(), help=shown)

@@ -1,4 +1,5 @@
 """Small elections: one, order by order, for tools that make its orders fail; one ward, as others begin it; and an evening with codes."""
+import contextlib
 import os
 import shlex
 import sqlite3
@@ -122,11 +123,9 @@ def earlier_office(folder):
 
 def execute(path, *statements):
     """Executes statements on a database."""
-    base = sqlite3.connect(path)
-    with base:
+    with contextlib.closing(sqlite3.connect(path)) as base, base:
         for statement in statements:
             base.execute(statement)
-    base.close()
 
 
 CODES = {4: "kf7m-2wxt-h4dn", 9: "w3hd-4psn-7kfr"}

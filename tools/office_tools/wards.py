@@ -5,7 +5,7 @@ from office_tools.election import keying
 from office_tools.office import Office
 
 PIECES = ["Ann", "O'Neill", 'Bob "jr"', "back\\slash", "\\", '"', "Zoë", "李小龙", "🗳", "a, b", " two  blanks ", "#7", "-Hyphen", "withdrawn",
-          "\u0085", "0", "long" * 14 + "er"]
+          "\u0085", "0", "long" * 14]
 # The least and the most candidates of a ward, papers of it, and kinds of papers.
 SMALL, MIDDLING = [(2, 6), (0, 24), (1, 4)], [(5, 14), (20, 90), (10, 60)]
 CROWDED, LARGE = [(4, 30), (0, 120), (4, 120)], [(30, 30), (300, 900), (20, 900)]

@@ -1,9 +1,8 @@
 """Compares what names the orders of the program with the program's own help.
 
-The program tells its orders by `--help`, and the words of each by `ORDER --help`. By these are compared: what `--help` tells of the words
-of orders, and their examples; the tables of orders and of words, with their ranges, in docs/ORDERS.md; the orders that a script may
-have, in docs/IMPORTS.md; the orders that examples/help.sh plays; and the election of tools/try, which has each order that a
-script may have. Which these are, the program tells of a script of one line.
+These are what `--help` tells of the words of orders, and their examples; the tables of orders and of words, with their ranges, in
+docs/ORDERS.md; the orders that a script may have, in docs/IMPORTS.md; the orders that examples/help.sh plays; and the election of
+tools/try, which has each order that a script may have. Which these are, the program tells of a script of one line.
 """
 import re
 import shlex

@@ -1,12 +1,10 @@
 """Counts the long sentences of each page, and those in the comments of each crate.
 
-It reads README.md, CHANGELOG.md, CONTRIBUTING.md and each page of docs/, but the table that a script makes. A sentence ends at a full
-stop, a question mark or an exclamation mark before a blank; so does the cell of a table, an item of a list, and a heading. Sentences of
-fewer than 4 words aren't counted, as most cells and headings. Code in fences isn't read, and what is in backticks counts as one word.
-Each page has a share of sentences of more than 30 words that it may have, in a hundred. No sentence of a comment in src/ and specs/ may
-have more than 40. The long sentences of a page that has too many are printed.
+A sentence ends at a full stop, a question mark or an exclamation mark before a blank; so does the cell of a table, an item of a list, and
+a heading. Those of fewer than 4 words aren't counted. Code in fences isn't read, and what is in backticks counts as one word. Each page
+has a share of sentences of more than 30 words that it may have, in a hundred, but docs/PROOFS-TABLE.md. No sentence of a comment in src/
+and specs/ may have more than 40. Of a page that has too many they are printed.
 """
-import itertools
 import re
 
 from office_tools.checks.links import FENCED, pages
@@ -16,7 +14,9 @@ MOST, LEAST, MOST_IN_COMMENTS = 30, 4, 40
 OFFICERS, ENGINEERS, OTHERS = 5, 10, 15
 ALLOWED = {"README": OFFICERS, "PROOFS": 20, **dict.fromkeys(("FORMATS", "ORDERS", "IMPORTS", "SHEETS", "BALLOTS", "HTTP"), ENGINEERS),
            **dict.fromkeys(("ELECTION", "TELLERS", "AGENTS", "RULES", "REFUSALS", "GLOSSARY", "INSTALLING"), OFFICERS)}
-COMMENT = re.compile(r"\s*(?:///|//!|//|--)(?: (.*)|)$")
+# What begins a line of a comment, and such lines in a row.
+SIGN = r"^[ \t]*(?:///|//!|//|--)(?: |$)"
+COMMENTS = re.compile(rf"(?:{SIGN}.*\n?)+", re.M)
 
 
 def sentences(text):
@@ -30,14 +30,6 @@ def sentences(text):
             words = re.findall(r"[^\W_][\w'’.-]*", sentence)
             if len(words) >= LEAST:
                 yield len(words), sentence
-
-
-def comments_of(text):
-    """Yields the comments of a source, each as a page of its own."""
-    lines = [COMMENT.match(line) for line in text.splitlines()]
-    for is_comment, run in itertools.groupby(lines, bool):
-        if is_comment:
-            yield "\n".join(found[1] or "" for found in run)
 
 
 def is_over(what, texts, most, allowed):
@@ -54,6 +46,7 @@ def main():
     read = [page for page in pages() if page.name != "PROOFS-TABLE.md"]
     found = [is_over(page.relative_to(ROOT), [page.read_text()], MOST, ALLOWED.get(page.stem, OTHERS)) for page in read]
     for crate in sorted((ROOT / "crates").iterdir()):
-        sources = [*crate.glob("src/**/*.rt"), *crate.glob("specs/**/*.antt")]
-        found.append(is_over(crate.name, [text for path in sources for text in comments_of(path.read_text())], MOST_IN_COMMENTS, 0))
+        sources = [path.read_text() for path in (*crate.glob("src/**/*.rt"), *crate.glob("specs/**/*.antt"))]
+        texts = [re.sub(SIGN, "", comment, flags=re.M) for source in sources for comment in COMMENTS.findall(source)]
+        found.append(is_over(crate.name, texts, MOST_IN_COMMENTS, 0))
     return any(found)

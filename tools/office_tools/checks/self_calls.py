@@ -1,10 +1,9 @@
-"""Lists the functions that call themselves, directly or through each other within a crate, and fails if one states no bound.
+"""Lists the functions that call themselves, directly or through each other within a crate, and state no bound.
 
-A line for each: the file and line, the function, and its bound: what the comment above it says in a sentence like `Calls itself at most 30
-times.` The bound is one of the program's own, such as the number of candidates, never of bytes, rows, records or papers that come from
-outside: each call takes room on the stack. The tool knows calls by their names. A method of another value is one of the types that
-parameters, fields and variants of the value's name have in the crate; else it is one of the caller's own type. What a function value, a
-macro or an operator calls isn't seen.
+The comment above a function states it, as `Calls itself at most 30 times.` It is one of the program's own, such as the number of
+candidates, never of bytes, rows, records or papers that come from outside: each call takes room on the stack. The tool knows calls by
+their names. A method of another value is one of the types that parameters, fields and variants of the value's name have in the crate;
+else it is one of the caller's own type. What a function value, a macro or an operator calls isn't seen.
 """
 import re
 
@@ -58,11 +57,5 @@ def self_calls(crate):
 
 
 def main():
-    status = 0
-    for crate in sources.crates():
-        for function in self_calls(crate):
-            bound = BOUND.search(" ".join(function.comment.split()))
-            place = f"crates/{crate.name}/{function.path}:{function.line}"
-            print(f"{place}: {function.title} calls itself: {bound[0] if bound else 'no bound is stated'}")
-            status = status if bound else 1
-    return status
+    found = [(crate, f) for crate in sources.crates() for f in self_calls(crate) if not BOUND.search(" ".join(f.comment.split()))]
+    return [f"crates/{crate.name}/{f.path}:{f.line}: {f.title} calls itself: no bound is stated" for crate, f in found]
