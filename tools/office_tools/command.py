@@ -1,7 +1,7 @@
 """The entry points tools/try, tools/bench and tools/check: each runs the module that its first word names.
 
-The parameters of a module's `main` are its words. One with a default may be left out, one by keyword alone is an option, and `*names` takes
-any number. Its annotation, or the type of its default, says how a word is read.
+The parameters of a module's `main` are its words: those with a default may be left out, and those by keyword alone are options. Its
+annotation, or the type of its default, says how a word is read.
 """
 import argparse
 import ast

@@ -173,15 +173,12 @@ class Office:
         return copy
 
     def rows(self, town=TOWN):
-        """Returns every row of every table, or None if there is no office. Python's own SQLite reads them from a copy, which must be whole.
+        """Returns every row of every table, or None if there is no office, as Python's own SQLite reads a copy; the file must be whole.
 
         An `init` that was stopped may leave a file without the first byte of a database's.
         """
         with tempfile.TemporaryDirectory() as folder:
-            path = self.copied(folder, town).folder / TOWN
-            if not path.exists():
-                return None
-            with contextlib.closing(sqlite3.connect(path)) as base:
+            with contextlib.closing(sqlite3.connect(self.copied(folder, town).folder / TOWN)) as base:
                 try:
                     whole = base.execute("PRAGMA integrity_check").fetchall()
                     tables = base.execute("SELECT name FROM sqlite_schema WHERE type = 'table' ORDER BY name").fetchall()
@@ -218,8 +215,7 @@ class Serving:
         return None
 
     def wait(self):
-        line = self.connect()
-        if line is None:
+        if not (line := self.connect()):
             raise Wrong(f"serve doesn't start: {ended(self.process)}")
         line.close()
         return self

@@ -1,7 +1,4 @@
-"""What the Rattle sources under crates/ hold: their functions, with documentation and contracts, and their wrong bodies.
-
-Read as text, by brackets and words; nothing is built or checked.
-"""
+"""What the Rattle sources under crates/ hold, read as text: functions, with documentation and contracts, and wrong bodies."""
 import itertools
 import re
 from dataclasses import dataclass, field

@@ -1,17 +1,15 @@
 """Made-up wards, and offices of the program in which they are sealed."""
 import collections
+import shlex
 
 from office_tools.election import keying
 from office_tools.office import Office
 
 PIECES = ["Ann", "O'Neill", 'Bob "jr"', "back\\slash", "\\", '"', "Zoë", "李小龙", "🗳", "a, b", " two  blanks ", "#7", "-Hyphen", "withdrawn",
           "\u0085", "0", "long" * 14]
-# The least and the most candidates of a ward, papers of it, and kinds of papers.
-SMALL, MIDDLING = [(2, 6), (0, 24), (1, 4)], [(5, 14), (20, 90), (10, 60)]
-CROWDED, LARGE = [(4, 30), (0, 120), (4, 120)], [(30, 30), (300, 900), (20, 900)]
-SHAPES = [SMALL] * 3 + [MIDDLING] * 4 + [CROWDED] * 3 + [LARGE]
-# The verdict is None if a paper isn't doubtful, 0 if it is accepted with its marks, else the code of its rejection.
-Paper = collections.namedtuple("Paper", "marks verdict")
+# The least and the most candidates of a ward, papers of it, and kinds of papers: of small wards, middling, crowded and large ones.
+SHAPES = [[(2, 6), (0, 24), (1, 4)]] * 3 + [[(5, 14), (20, 90), (10, 60)]] * 4
+SHAPES += [[(4, 30), (0, 120), (4, 120)]] * 3 + [[(30, 30), (300, 900), (20, 900)]]
 
 
 def judged(numbers, marks):
@@ -54,17 +52,17 @@ class Ward:
         return kinds * copies if copies and chance.randrange(2) else [chance.choice(kinds) for _ in range(papers)]
 
     def paper(self, preferences):
-        """Returns a paper with these preferences; in half of the wards now and then with other marks too, and now and then doubtful."""
+        """Returns a paper's marks, now and then other ones too, and None or, if it is doubtful, its verdict: 0 or the code of its rejection."""
         marks = [str(preferences.index(number) + 1) if number in preferences else "" for number in self.names]
         while not self.is_neat and self.chance.randrange(12) == 0:
             marks[self.chance.randrange(len(marks))] = self.chance.choice(["", "1", "2", "3", "99"])
         if self.is_neat or self.chance.randrange(20):
-            return Paper(marks, None)
-        return Paper(marks, self.chance.choice([0, 3, 4, 5] if isinstance(judged(self.names, marks), tuple) else [3, 4, 5]))
+            return marks, None
+        return marks, self.chance.choice([0, 3, 4, 5] if isinstance(judged(self.names, marks), tuple) else [3, 4, 5])
 
     def judged(self):
         """Returns how many papers have each list of preferences, in ascending order, and how many are rejected by each code."""
-        found = collections.Counter(paper.verdict or judged(self.names, paper.marks) for paper in self.papers)
+        found = collections.Counter(verdict or judged(self.names, marks) for marks, verdict in self.papers)
         rejected = [found.pop(code, 0) for code in range(1, 6)]
         return sorted((papers, preferences) for preferences, papers in found.items()), rejected
 
@@ -74,9 +72,8 @@ def sealed_office(folder, ward):
     office, chance, papers = Office(folder), ward.chance, ward.papers
     quoted = {candidate: name.replace('"', '""') for candidate, name in ward.names.items()}
     office.write("names.csv", ["ward,candidate,name"] + [f'{ward.number},{candidate},"{name}"' for candidate, name in quoted.items()])
-    # A double quote in a word of a script stands between two single ones.
-    name = ward.name.replace('"', "\"'\"'\"")
-    orders = [f'ward --id w -- {ward.number} {ward.seats} "{name}"', "import-candidates names.csv --id c", f"close {ward.number} --id n"]
+    orders = [f"ward --id w -- {ward.number} {ward.seats} {shlex.quote(ward.name)}", "import-candidates names.csv --id c",
+              f"close {ward.number} --id n"]
     for batch in chance.sample(range(1, 10000), len(papers)):
         size, (first, second) = chance.randint(1, 500), chance.sample(range(1, 1000), 2)
         keyed, papers = papers[:size], papers[size:]
@@ -84,8 +81,8 @@ def sealed_office(folder, ward):
         orders.append(f"batch {batch} {ward.number} {len(keyed)} {first} {second} --id b{batch}")
         orders += [f"import-keying {clerk} {batch} 1 {batch}.csv --id k{batch}" for clerk in (first, second)]
         for place, (marks, verdict) in enumerate(keyed, 1):
-            if verdict is not None:
-                orders.append(f"judge {batch} {place} {f'reject:{verdict}' if verdict else 'accept:' + ','.join(marks)} --id v{batch}-{place}")
+            word = f"reject:{verdict}" if verdict else f"accept:{','.join(marks)}"
+            orders += [f"judge {batch} {place} {word} --id v{batch}-{place}"] * (verdict is not None)
         if not papers:
             break
     return office.begin(orders + [f"seal {ward.number} --id s"] * ward.is_contested)

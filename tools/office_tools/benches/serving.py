@@ -2,9 +2,8 @@
 
 Each program that --program A --program B names serves a few times, in turns, or the one alone that is set: the table has the middle of
 its turns, and what part that is of the first one's. Next to 300 silent connections one clerk keys, and then 19 at once, all as fast as they
-are answered. Reads are requests for a clerk's work, as `ab` counts. Memory is that of `serve` after all this, and with 512
-connections that have each sent half of a body of 1 MiB. ROUNDS is a third of the batches that each clerk keys, and how many seconds `ab` asks: with
-1 all is done quickly, to see that it works.
+are answered. Reads are requests for a clerk's work, as `ab` counts. Memory is that of `serve` after all this, and with 512 connections
+that have each sent half of a body of 1 MiB. ROUNDS is how many seconds `ab` asks, and a third of the batches that each clerk keys.
 """
 import contextlib
 import json

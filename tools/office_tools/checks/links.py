@@ -20,9 +20,8 @@ def pages():
 
 def headings(page):
     """Returns the names of a page's headings, as links have them: one that comes again has a number after it."""
-    names = []
-    for heading in re.findall(r"^#{1,6} +(.*)$", FENCED.sub("", page.read_text(encoding="utf-8")), re.M):
-        names.append(slug(re.sub(r"\[([^]]*)\]\([^)]*\)", r"\1", heading)))
+    found = re.findall(r"^#{1,6} +(.*)$", FENCED.sub("", page.read_text(encoding="utf-8")), re.M)
+    names = [slug(re.sub(r"\[([^]]*)\]\([^)]*\)", r"\1", heading)) for heading in found]
     return {f"{name}-{names[:place].count(name)}".removesuffix("-0") for place, name in enumerate(names)}
 
 

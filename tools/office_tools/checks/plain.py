@@ -11,9 +11,8 @@ from office_tools.checks.links import FENCED, pages
 from office_tools.office import ROOT
 
 MOST, LEAST, MOST_IN_COMMENTS = 30, 4, 40
-OFFICERS, ENGINEERS, OTHERS = 5, 10, 15
-ALLOWED = {"README": OFFICERS, "PROOFS": 20, **dict.fromkeys(("FORMATS", "ORDERS", "IMPORTS", "SHEETS", "BALLOTS", "HTTP"), ENGINEERS),
-           **dict.fromkeys(("ELECTION", "TELLERS", "AGENTS", "RULES", "REFUSALS", "GLOSSARY", "INSTALLING"), OFFICERS)}
+SHARES, OTHERS = {5: "README ELECTION TELLERS AGENTS RULES REFUSALS GLOSSARY INSTALLING", 20: "PROOFS",
+                  10: "FORMATS ORDERS IMPORTS SHEETS BALLOTS HTTP"}, 15
 # What begins a line of a comment, and such lines in a row.
 SIGN = r"^[ \t]*(?:///|//!|//|--)(?: |$)"
 COMMENTS = re.compile(rf"(?:{SIGN}.*\n?)+", re.M)
@@ -44,7 +43,8 @@ def is_over(what, texts, most, allowed):
 
 def main():
     read = [page for page in pages() if page.name != "PROOFS-TABLE.md"]
-    found = [is_over(page.relative_to(ROOT), [page.read_text()], MOST, ALLOWED.get(page.stem, OTHERS)) for page in read]
+    allowed = {name: share for share, names in SHARES.items() for name in names.split()}
+    found = [is_over(page.relative_to(ROOT), [page.read_text()], MOST, allowed.get(page.stem, OTHERS)) for page in read]
     for crate in sorted((ROOT / "crates").iterdir()):
         sources = [path.read_text() for path in (*crate.glob("src/**/*.rt"), *crate.glob("specs/**/*.antt"))]
         texts = [re.sub(SIGN, "", comment, flags=re.M) for source in sources for comment in COMMENTS.findall(source)]

@@ -9,11 +9,10 @@ import re
 import subprocess
 
 from office_tools.damage import damaged
-from office_tools.office import Wrong, program, temporary_folder, timed
+from office_tools.office import SECONDS, Wrong, program, temporary_folder, timed
 from office_tools.tables import Table
 from office_tools.tries.recount import Ballots, Count, Unreadable, written
 
-SECONDS = 60
 NAMES = ["Ann", "Bob", 'B. "Bob" \\ Brün', "Cy # 3", "דנה", "<b>Eve</b>", "-1", "Fay=2", "0", "E, jr.", "\x1b[2J", "\x9b2J", "\u202eevE"]
 STEERS = re.compile("[\0-\x09\x0b-\x1f\x7f-\x9f\u061c\u200e\u200f\u202a-\u202e\u2066-\u2069]")
 
@@ -23,7 +22,6 @@ NEAR = ["Ward", "Ward N N", "WardN", "Ward-N", "Wards N", "Warden", "the Ward N"
         "Rejected 1: N, 2: N, 3: N, 4: N", "Rejected papers", "Lot N", "Lot at Stage N: N", "Lots at stage N: N", "Lottery", "a lot of N"]
 SIGNS = ["# ", "#", "## ", "#\t", "#: ", "#-", '# "', "#\u00a0", "#\u200b"]
 DAMAGE = [b"\n", b"\r", b"0", b"-", b"#", b'"', b"\\", b"=", b"\0", b"\xff", b"99999999999999999999"]
-NO_RANKS = ["x", "=", "2=", "=1", "99", "-1", "1==2"]
 
 
 def quoted(name):
@@ -92,7 +90,7 @@ def shared(lines, chance):
         elif chance.random() < 0.5 and gone:
             words[place] = chance.choice(("{0}={1}", "{1}={0}")).format(words[place], chance.choice(gone))
         elif chance.random() < 0.03:
-            words.insert(place + 1, chance.choice(NO_RANKS))
+            words.insert(place + 1, chance.choice(["x", "=", "2=", "=1", "99", "-1", "1==2"]))
         lines[at] = " ".join(words + ["0"])
     return lines
 
@@ -174,6 +172,5 @@ def main(wards=100, seed=1):
         table = Table(f"What the checker is given ({wards} wards, seed {seed})", "runs", "yes", "no", "not understood")
         for what, found in runs.items():
             table.row(what, found.total(), *(found[status] for status in (0, 1, 2)))
-        for what, content in EXTREME.items():
-            _, seconds = timed(checked, folder, what, content, b"", [2], b"error: ")
-            table.row(f"{what}: {seconds:.1f} s", 1, 0, 0, 1)
+        slowest = max(timed(checked, folder, what, content, b"", [2], b"error: ")[1] for what, content in EXTREME.items())
+        table.row(f"files that no program writes, at most {slowest:.1f} s each", len(EXTREME), 0, 0, len(EXTREME))

@@ -32,9 +32,8 @@ OURS = {
 }
 BEGINS_AS_OURS = re.compile(r"[^0-9a-z]*(ward|rejected|lot)(?![a-z])", re.ASCII | re.IGNORECASE)
 
-# Equal papers, held together.
+# Equal papers, held together; and bundles that a candidate received together, with the value at which each of their papers came.
 Bundle = collections.namedtuple("Bundle", "papers preferences")
-# Bundles that a candidate received together, and the value at which each of their papers came.
 Parcel = collections.namedtuple("Parcel", "value bundles")
 
 
@@ -95,12 +94,10 @@ class Ballots:
         self.ward_name = taken(words, str)
         wards, rejected, lots = ([told for what, told in ours if what == kind] for kind in OURS)
         self.lots = dict(lots)
-        if self.seats < 1 or next(words, None) is not None:
-            raise Unreadable("no seats, or words after the ward's name")
-        if len(wards) > 1 or len(rejected) > 1 or len(self.lots) < len(lots):
-            raise Unreadable("a ward's number or rejected papers told twice, or two lots at one stage")
-        if (self.bundles or rejected) and len(self.names) <= self.seats:
-            raise Unreadable("no more candidates than seats, but papers")
+        is_told_twice = len(wards) > 1 or len(rejected) > 1 or len(self.lots) < len(lots)
+        has_papers_for_nothing = (self.bundles or rejected) and len(self.names) <= self.seats
+        if self.seats < 1 or next(words, None) is not None or is_told_twice or has_papers_for_nothing:
+            raise Unreadable("no seats, words after the ward's name, one of our comments again, or papers where nobody has to be chosen")
         self.ward, self.rejected = wards[0][0] if wards else 1, rejected[0] if rejected else [0 for _ in CODES]
 
     def bundle(self, papers, words):
@@ -317,4 +314,3 @@ def main(ballots: Path = None, *, wards=0, seed=1):
         print(f"a lot is needed at stage {count.waits[0]} among {', '.join(map(str, count.waits[1]))}", file=sys.stderr)
     if count.lots:
         raise Wrong("no stage takes " + ", ".join(f"the lot at stage {stage}: {number}" for stage, number in count.lots.items()))
-    return 0
