@@ -52,7 +52,7 @@ class Ward:
         return kinds * copies if copies and chance.randrange(2) else [chance.choice(kinds) for _ in range(papers)]
 
     def paper(self, preferences):
-        """Returns a paper's marks, now and then other ones too, and None or, if it is doubtful, its verdict: 0 or the code of its rejection."""
+        """Returns a paper's marks, now and then other ones too, and None; or, if it is doubtful, 0 or the code of its rejection."""
         marks = [str(preferences.index(number) + 1) if number in preferences else "" for number in self.names]
         while not self.is_neat and self.chance.randrange(12) == 0:
             marks[self.chance.randrange(len(marks))] = self.chance.choice(["", "1", "2", "3", "99"])
