@@ -1,4 +1,5 @@
 """Makes the file of an office as an earlier program left it, to bring over: crates/store_tests/src/older/rows.rt holds it as text."""
+import contextlib
 import re
 import sqlite3
 from pathlib import Path
@@ -13,9 +14,6 @@ def main(path: Path):
     text = TEXT.read_text(encoding="utf-8")
     parts = [re.search(rf'pub const {name}: &str =\s+"((?:[^"\\]|\\.)*)";', text)[1] for name in ("OLDER_TABLES", "OLDER_ROWS")]
     statements = [line.removeprefix("# ") for line in "".join(parts).replace('\\"', '"').splitlines()]
-    database = sqlite3.connect(path)
-    try:
+    with contextlib.closing(sqlite3.connect(path)) as database:
         database.execute("PRAGMA journal_mode = wal")
         database.executescript("BEGIN;\n" + ";\n".join(statements) + ";\nCOMMIT;\n")
-    finally:
-        database.close()
