@@ -8,25 +8,16 @@ from pathlib import Path
 from office_tools.office import ROOT
 
 PROGRAMS = {"count-office": "count_office", "check-count": "check_count"}
-VERSION = "crates/desk/src/version.rt"
+PACKAGE, VERSION = ROOT / "release/package", "crates/desk/src/version.rt"
 
 
 def fail(text):
     raise SystemExit(f"{Path(sys.argv[0]).name}: {text}")
 
 
-def read(path):
-    try:
-        return Path(path).read_bytes()
-    except OSError as error:
-        fail(f"cannot read {path}: {error.strerror}")
-
-
 def said(*words, **how):
-    ran = subprocess.run(words, cwd=ROOT, stdout=subprocess.PIPE, text=True, **how)
-    if ran.returncode:
-        fail(f"{' '.join(map(str, words))} ended with {ran.returncode}")
-    return ran.stdout.strip()
+    """Returns what a command prints, which has to understand its words."""
+    return subprocess.run(words, cwd=ROOT, check=True, stdout=subprocess.PIPE, text=True, **how).stdout.strip()
 
 
 def sha256(content):
@@ -47,10 +38,17 @@ def put_program(folder, name, content):
     return path
 
 
+def filled(name, **texts):
+    """Returns the text that release/package/ has of a name, with texts in place of their own names, and of the comments that are these."""
+    names = "|".join(texts)
+    found = re.compile(rf"^ *# ({names})\n|\b({names})\b", re.M)
+    return found.sub(lambda named: texts[named[1] or named[2]], (PACKAGE / name).read_text(encoding="utf-8"))
+
+
 def version():
     """Returns the number in the sources, which CHANGELOG.md has to begin with; above it only what comes next may be listed."""
-    own = re.search(r'^pub const VERSION: &str = "(\d+\.\d+\.\d+)";$', read(ROOT / VERSION).decode(), re.M)
-    newest = re.search(r"^## (?!Next$)(\S+)", read(ROOT / "CHANGELOG.md").decode(), re.M)
-    if not own or not newest or newest[1] != own[1]:
-        fail(f"CHANGELOG.md begins with version {newest and newest[1]}, and {VERSION} has {own and own[1]}")
+    own = re.search(r'^pub const VERSION: &str = "(\d+\.\d+\.\d+)";$', (ROOT / VERSION).read_text(encoding="utf-8"), re.M)
+    newest = re.search(r"^## (?!Next$)(\S+)", (ROOT / "CHANGELOG.md").read_text(encoding="utf-8"), re.M)
+    if newest[1] != own[1]:
+        fail(f"CHANGELOG.md begins with version {newest[1]}, and {VERSION} has {own[1]}")
     return own[1]
