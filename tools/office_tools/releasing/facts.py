@@ -8,7 +8,7 @@ from pathlib import Path
 from office_tools.office import ROOT
 
 PROGRAMS = {"count-office": "count_office", "check-count": "check_count"}
-PACKAGE, VERSION = ROOT / "release/package", "crates/desk/src/version.rt"
+PACKAGE, VERSION, BUILT_FROM = ROOT / "release/package", "crates/desk/src/version.rt", "lib/count-office/BUILT-FROM"
 
 
 def fail(text):
