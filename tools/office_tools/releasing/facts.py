@@ -30,14 +30,6 @@ def told(text, name):
     return found[1] if found else "none"
 
 
-def put_program(folder, name, content):
-    """Writes a program into a folder, and returns its path."""
-    path = Path(folder, name)
-    path.write_bytes(content)
-    path.chmod(0o755)
-    return path
-
-
 def filled(name, **texts):
     """Returns the text that release/package/ has of a name, with texts in place of their own names, and of the comments that are these."""
     names = "|".join(texts)
