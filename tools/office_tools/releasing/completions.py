@@ -1,4 +1,4 @@
-"""What a shell offers after `count-office` and `count-office-lan`, made from their own help."""
+"""What shells offer after `count-office` and `count-office-lan`, made from their own help. release/package/completions/ has the rest."""
 from office_tools.releasing.facts import filled, said
 from office_tools.releasing.help import items, sections
 
@@ -22,8 +22,7 @@ def quoted(text):
 
 
 def bash(orders):
-    files = {True: "yes", False: ""}
-    cases = (f'        {order.name}) options="{names_of(order.options)}" files={files[order.takes_file()]} ;;\n' for order in orders)
+    cases = (f'        {order.name}) options="{names_of(order.options)}" files={"yes" * order.takes_file()} ;;\n' for order in orders)
     return filled("completions/count-office.bash", CASES="".join(cases), ORDERS=" ".join(order.name for order in orders))
 
 
@@ -42,12 +41,12 @@ def fish_options(command, options):
 
 def fish(orders):
     offered = "complete -c count-office -n '__count_office_words 2; and not __count_office_checks' -f -a"
-    lines = [f"{offered} {order.name} -d {quoted(order.about)}\n" for order in orders]
+    lines = "".join(f"{offered} {order.name} -d {quoted(order.about)}\n" for order in orders)
     for order in orders:
         given = f"count-office -n '__count_office_gives {order.name}'"
-        lines += [] if order.takes_file() else [f"complete -c {given} -f\n"]
-        lines.append(fish_options(given, order.options[-1:] + order.long_options()))
-    return filled("completions/count-office.fish", ORDERS="".join(lines))
+        lines += "" if order.takes_file() else f"complete -c {given} -f\n"
+        lines += fish_options(given, order.options[-1:] + order.long_options())
+    return filled("completions/count-office.fish", ORDERS=lines)
 
 
 def completions(orders, script):

@@ -16,7 +16,7 @@ def fail(text):
 
 
 def said(*words, **how):
-    """Returns what a command prints, which has to understand its words."""
+    """Returns what a command prints; it has to end with status 0."""
     return subprocess.run(words, cwd=ROOT, check=True, stdout=subprocess.PIPE, text=True, **how).stdout.strip()
 
 
@@ -26,15 +26,14 @@ def sha256(content):
 
 def told(text, name):
     """Returns what a line of BUILT-FROM says."""
-    found = re.search(f"^{re.escape(name)}: (.*)$", text, re.M)
-    return found[1] if found else "none"
+    return re.search(f"^{re.escape(name)}: (.*)$", text, re.M)[1]
 
 
 def filled(name, **texts):
-    """Returns the text that release/package/ has of a name, with texts in place of their own names, and of the comments that are these."""
+    """Returns a file of release/package/ with texts in place of their names: `NAME` in a line, or a line of its own that is `# NAME`."""
     names = "|".join(texts)
-    found = re.compile(rf"^ *# ({names})\n|\b({names})\b", re.M)
-    return found.sub(lambda named: texts[named[1] or named[2]], (PACKAGE / name).read_text(encoding="utf-8"))
+    frame = (PACKAGE / name).read_text(encoding="utf-8")
+    return re.sub(rf"^ *# ({names})\n|\b({names})\b", lambda found: texts[found[1] or found[2]], frame, flags=re.M)
 
 
 def version():

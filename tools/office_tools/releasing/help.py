@@ -1,26 +1,15 @@
 """What the help of a program says: its orders, and the words and options of each."""
 import re
-from typing import NamedTuple
+from collections import namedtuple
 
 from office_tools.releasing.facts import said
 
-
-class Item(NamedTuple):
-    """A word or an option, and what the help says of it."""
-
-    name: str
-    text: str
+# A word or an option, and what the help says of it.
+Item = namedtuple("Item", "name text")
 
 
-class Order(NamedTuple):
-    """An order of the program; all but its name is as its help has it."""
-
-    name: str
-    about: str
-    example: str
-    usage: str
-    words: list
-    options: list
+class Order(namedtuple("Order", "name about example usage words options")):
+    """An order of the program; all but its name is as its help has it, its words and options as items."""
 
     def takes_file(self):
         return any(re.search(r"\b(FILE|NEW)\b", item.name) for item in self.words + self.options)

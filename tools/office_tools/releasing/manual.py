@@ -6,7 +6,7 @@ SIGNS = str.maketrans({"\\": "\\e", "-": "\\-", "'": "\\(aq", "`": "\\(ga", "^":
 
 
 def escaped(text):
-    """Returns a text as roff reads it: no sign of it is a command, and an empty line begins a paragraph."""
+    """Returns a text as roff reads it: nothing in it is a command, and an empty line begins a paragraph."""
     lines = ("\\&" + line if line[:1] in (".", "'") else line or ".PP" for line in text.translate(SIGNS).split("\n"))
     return "\n".join(lines)
 

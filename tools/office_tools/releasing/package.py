@@ -1,17 +1,14 @@
 """The Debian package of a release: made of the archive's files alone, without Debian's tools."""
+from pathlib import PurePosixPath
+
 from office_tools.releasing import archive
 from office_tools.releasing.facts import PACKAGE, filled
 
 
 def with_folders(files):
     """Returns the files of a tar archive by the names that dpkg expects, with each folder that they are in."""
-    found = {"./": (0o755, b"")}
-    for path, value in files.items():
-        parts = path.split("/")
-        found.update({f"./{'/'.join(parts[:end])}/": (0o755, b"") for end in range(1, len(parts))})
-        if parts[-1]:
-            found["./" + path] = value
-    return found
+    folders = {folder for path in files for folder in PurePosixPath(path).parents if folder.name}
+    return {"./": (0o755, b""), **{f"./{path}/": (0o755, b"") for path in folders}, **{"./" + path: value for path, value in files.items()}}
 
 
 def plain_parts(files, version, time):
