@@ -13,3 +13,4 @@ end
 complete -c count-office -n '__count_office_words 1' -l help -d 'Print help'
 complete -c count-office -n '__count_office_words 1' -l version -d 'Print the version'
 complete -c count-office -n '__count_office_words 2; and __count_office_checks' -f -a check -d 'Check a sheet against its ballots'
+# ORDERS
