@@ -5,19 +5,19 @@ outsider another one of 127.0.0.0/8. For three minutes (or --seconds N) ten wron
 turn. At least 99 of 100 requests of tellers must get 200. Then a thousand requests without a code, with bodies of 200,000 bytes, must
 each get 401; and a machine of another network gets nothing.
 """
+import contextlib
 import random
 import re
 import socket
 import ssl
 import subprocess
 
-from office_tools.election import CODES, evening_office
+from office_tools.election import evening_office
 from office_tools.office import ROOT, SECONDS, Wrong, free_port, listens, needs, temporary_folder, waited
-from office_tools.tries.hostile_codes import TELLERS, check_beside_guesses, check_bodies, drawn, with_code
-from office_tools.web import HERE, received, status
+from office_tools.tries.hostile_codes import check_beside_guesses, check_bodies, codes_of, with_code
+from office_tools.web import HERE, sent_whole, status
 
-NAME, NETWORK, STRANGER = "count.example.org", "127.0.1.0/24", "127.0.2.1"
-OUTSIDER = 200
+NAME, NETWORK, STRANGER, OUTSIDER = "count.example.org", "127.0.1.0/24", "127.0.2.1", 200
 
 
 def configuration(folder, port, tls):
@@ -36,52 +36,44 @@ def configuration(folder, port, tls):
     return f"daemon off;\npid {folder}/pid;\nerror_log {folder}/errors;\nevents {{}}\nhttp {{\n{rooms}{text}}}\n"
 
 
-class Nginx:
-    """nginx before an office. At the end of a `with` it is ended."""
+@contextlib.contextmanager
+def nginx(folder, port):
+    """Runs nginx before an office, and yields a function that sends a request from an address, and returns the answer."""
+    tls = free_port()
+    command = f"openssl req -x509 -newkey rsa:2048 -nodes -days 2 -subj /CN={NAME} -addext subjectAltName=DNS:{NAME}"
+    subprocess.run([*command.split(), "-keyout", "count.key", "-out", "count.pem"], cwd=folder, check=True, stderr=subprocess.DEVNULL)
+    (folder / "nginx.conf").write_text(configuration(folder, port, tls), encoding="utf-8")
+    process = subprocess.Popen(["nginx", "-p", folder, "-c", folder / "nginx.conf"], stderr=subprocess.DEVNULL)
+    trusting = ssl.create_default_context(cafile=folder / "count.pem")
 
-    def __init__(self, folder, port):
-        self.port, self.folder = free_port(), folder
-        certificate = f"openssl req -x509 -newkey rsa:2048 -nodes -days 2 -subj /CN={NAME} -keyout count.key -out count.pem"
-        subprocess.run(certificate.split(), cwd=folder, check=True, stderr=subprocess.DEVNULL)
-        (folder / "nginx.conf").write_text(configuration(folder, port, self.port), encoding="utf-8")
-        self.process = subprocess.Popen(["nginx", "-p", folder, "-c", folder / "nginx.conf"], stderr=subprocess.DEVNULL)
-
-    def __enter__(self):
-        waited(lambda: listens((HERE, self.port)) or self.process.poll() is not None)
-        if self.process.poll() is not None:
-            raise Wrong(f"nginx doesn't start: {(self.folder / 'errors').read_text(encoding='utf-8')}")
-        return self
-
-    def __exit__(self, *_):
-        self.process.terminate()
-        self.process.wait()
-
-    def ask(self, sends, address):
-        """Sends a request from an address, with the header that names the proxy, and returns the answer."""
+    def ask(sends, address):
         sends = sends.replace(b" HTTP/1.1\r\n", f" HTTP/1.1\r\nHost: {NAME}\r\nConnection: close\r\n".encode(), 1)
-        trusting = ssl.create_default_context(cafile=self.folder / "count.pem")
-        trusting.check_hostname = False
-        line = socket.create_connection((HERE, self.port), timeout=SECONDS, source_address=(address, 0))
-        with trusting.wrap_socket(line, server_hostname=NAME) as safe:
-            safe.sendall(sends)
-            return received(safe)
+        line = socket.create_connection((HERE, tls), timeout=SECONDS, source_address=(address, 0))
+        return sent_whole(trusting.wrap_socket(line, server_hostname=NAME), sends)
+
+    try:
+        if not waited(lambda: listens((HERE, tls)), 9):
+            raise Wrong(f"nginx doesn't start: {(folder / 'errors').read_text(encoding='utf-8')}")
+        yield ask
+    finally:
+        process.terminate()
+        process.wait()
 
 
 def main(seed=7, *, seconds=180):
     needs("nginx", "openssl")
     chance = random.Random(seed)
-    codes = {**{clerk: drawn(chance) for clerk in TELLERS}, **CODES}
+    codes = codes_of(chance)
     with temporary_folder() as folder:
         # nginx starts its workers as another user, who has to read the folder
         folder.chmod(0o755)
         office = evening_office(folder / "office", codes)
-        with office.serve("--codes", "codes.txt", "--origin", f"https://{NAME}").wait() as serving, Nginx(folder, serving.port) as nginx:
-            def send(sends, clerk):
-                return nginx.ask(sends, f"127.0.1.{clerk or OUTSIDER}")
-            check_beside_guesses(f"{seconds} seconds, through nginx", send, codes, chance, seconds)
+        with office.serve("--codes", "codes.txt", "--origin", f"https://{NAME}").wait() as serving, nginx(folder, serving.port) as ask:
+            title = f"{seconds} seconds, through nginx"
+            check_beside_guesses(title, lambda sends, clerk: ask(sends, f"127.0.1.{clerk or OUTSIDER}"), codes, chance, seconds)
             # They come from many addresses, since nginx limits each.
-            check_bodies(lambda sends, number: nginx.ask(sends, f"127.0.1.{1 + number % 199}"))
-            stranger = nginx.ask(with_code(4, codes[4]), STRANGER)
-            print(f"\nThe right code from a machine of another network got {status(stranger)}.")
-            if status(stranger) != 403:
-                raise Wrong(f"a machine of another network gets {stranger[:200]}")
+            check_bodies(lambda sends, number: ask(sends, f"127.0.1.{1 + number % 199}"))
+            stranger = status(ask(with_code(4, codes[4]), STRANGER))
+            print(f"\nThe right code from a machine of another network got {stranger}.")
+            if stranger != 403:
+                raise Wrong("a machine of another network gets more than 403")
