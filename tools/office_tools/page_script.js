@@ -14,32 +14,25 @@ noting.on('jsdomError', (error) => { broken = error; });
 
 // Lets everything run that waits for nothing but its turn.
 const settled = async () => { for (let turn = 0; turn < 12; turn += 1) await new Promise(setImmediate); };
-const isShown = (element) => !element.closest('[hidden], dialog:not([open])');
 const all = (element, selector) => [...element.querySelectorAll(selector)];
 
 // A window that shows a page. `office` responds to its requests: with a status and what it says, or null if the line breaks. Its clock
-// is its own, it may have the storage of another window, and what jsdom leaves out of focus is added.
+// is its own, and it may have the storage of another window.
 class Window {
   constructor(page, office, {clerk = 4, batch = '', storage} = {}) {
-    Object.assign(this, {office, timers: [], now: 0, asked: []});
-    const beforeParse = (window) => this.completed(window, storage);
+    Object.assign(this, {office, timers: new Map(), now: 0, asked: []});
+    const beforeParse = (window) => this.prepare(window, storage);
     const words = {url: `http://127.0.0.1:8080/clerks/${clerk}/${batch}`, runScripts: 'dangerously', virtualConsole: noting, beforeParse};
     const {window} = new JSDOM(page.replace(/<style>[^]*<\/style>/, ''), words);
     Object.assign(this, {window, document: window.document, storage: window.localStorage});
   }
 
-  completed(window, storage) {
-    const {HTMLElement, Document} = window;
-    const {focus} = HTMLElement.prototype;
-    const active = Object.getOwnPropertyDescriptor(Document.prototype, 'activeElement').get;
-    const shown = (element) => (element && isShown(element) ? element : window.document.body);
-    HTMLElement.prototype.focus = function focusShown(...words) { if (isShown(this)) focus.apply(this, words); };
-    Object.defineProperty(Document.prototype, 'activeElement', {get() { return shown(active.call(this)); }});
-    HTMLElement.prototype.scrollIntoView = () => {};
+  prepare(window, storage) {
+    window.HTMLElement.prototype.scrollIntoView = () => {};
     if (storage) Object.defineProperty(window, 'localStorage', {value: storage});
     window.fetch = (address, options) => this.fetched(address.replace(window.location.origin, ''), options);
-    window.setTimeout = (act, wait) => (wait ? this.timers.push({act, at: this.now + wait}) : setImmediate(act));
-    window.clearTimeout = (number) => { if (number) this.timers[number - 1].at = Infinity; };
+    window.setTimeout = (act, wait) => (wait ? this.timers.set(act, this.now + wait) && act : setImmediate(act));
+    window.clearTimeout = (timer) => this.timers.delete(timer);
   }
 
   async fetched(target, {method = 'GET', body, ...rest}) {
@@ -51,14 +44,9 @@ class Window {
 
   // Lets some seconds pass.
   async pass(seconds) {
-    const end = this.now + 1000 * seconds;
-    for (let due; (due = this.timers.find((it) => it.at <= end));) {
-      this.now = Math.max(this.now, due.at);
-      due.at = Infinity;
-      due.act();
-      await settled();
-    }
-    this.now = end;
+    this.now += 1000 * seconds;
+    for (const [act, at] of [...this.timers]) if (at <= this.now && this.timers.delete(act)) act();
+    await settled();
   }
 
   at(id) {
@@ -78,7 +66,7 @@ class Window {
   }
 
   async click(id) {
-    assert.ok(isShown(this.at(id)), `${id} isn\u2019t shown`);
+    assert.equal(this.at(id).closest('[hidden]'), null, `${id} isn\u2019t shown`);
     this.at(id).click();
     await settled();
   }
@@ -207,6 +195,8 @@ const PLAYS = {
     const names = all(window.at('heads'), 'bdi');
     assert.deepEqual(names.map(({textContent}) => textContent), NAMES);
     assert.ok(names.every(({children}) => children.length === 0));
+    const labels = NAMES.map((name, place) => `Paper 1, candidate ${place + 1} \u2068${name}\u2069`);
+    assert.deepEqual(all(window.at('rows'), 'input').map(({ariaLabel}) => ariaLabel), labels, 'what a screen reader gets');
     assert.equal(window.text('which'), 'Batch 12, round 1, ward 7 Old Town <i>&');
     await window.press('1');
     assert.equal(window.text('cursor'), `2 ${NAMES[1]}`);
@@ -217,7 +207,8 @@ const PLAYS = {
     for (const [keys, paper, marks, papers] of [
       [[], 3, ['', '', ''], ['1,2,', ',,12', ',,']], [['g', '1', 'Enter'], 1, ['1', '2', ''], ['1,2,', ',,12', ',,']],
       [['ArrowDown'], 2, ['', '', '12'], ['1,2,', ',,12', ',,']], [['ArrowUp', 'Delete', '3'], 1, ['3', '', ''], ['3,,', ',,12', ',,']],
-      [['ArrowDown', 'Insert', 'd', 'Enter'], 3, ['', '', '12'], ['3,,', 'D', ',,12']],
+      [['/', '3', '9', 'Enter', 'ArrowUp'], 1, ['3', '', '9'], ['3,,9', ',,12', ',,']],
+      [['ArrowDown', 'Insert', 'd', 'Enter'], 3, ['', '', '12'], ['3,,9', 'D', ',,12']],
     ]) {
       await window.press(keys);
       const now = window.at('rows').querySelector('.now');
@@ -250,6 +241,9 @@ const PLAYS = {
     assert.deepEqual(other.listed(), [SENT]);
     assert.deepEqual(other.asked.map(({target}) => target), ['/clerks/9/work']);
     const window = await opened(page, officeOf(), {batch: '#12', storage});
+    before.window.dispatchEvent(new before.window.StorageEvent('storage', {key: 'keying 4 12 1'}));
+    await settled();
+    assert.match(before.text('asked'), /Batch 12 was opened in another window/);
     assert.equal(window.text('paper'), 'Paper 2 of 3');
     await window.press([...KEYS[1].slice(1), ...KEYS[2]]);
     assert.deepEqual(window.papers(), [PAPERS]);
@@ -260,7 +254,6 @@ const PLAYS = {
 const PLANTED = {
   'a refused keying is shown as kept': ['if (kept) return showKept(kept);', 'if (kept || refusal) return showKept(kept);'],
   'whatever is answered by 200 is kept': [' && answer.says?.reply === `batch ${batch} round ${round} keyed`', ''],
-  'a keying that failed is shown as kept': ['if (waits) return waitToSend(told(why));', 'if (waits) return showKept(told(why));'],
   'a keying that failed isn\u2019t sent again': ['timer = setTimeout(sendNow, 1000 * seconds);', ''],
   'a keying is sent again under another id': ['answer.says.refusal === 2) sent.id', 'answer.says.refusal > 0) sent.id'],
   'each sending has an id of its own': ['sent.sent = true;\n', 'sent.sent = true;\n  sent.id = newId(sent.batch, sent.round);\n'],
@@ -269,7 +262,6 @@ const PLANTED = {
   'the drafts of all clerks are listed': ['name.startsWith(FRONT)', 'name.startsWith(\'keying\')'],
   'all clerks share their drafts': ['const FRONT = `keying ${CLERK} `;', 'const FRONT = `keying 4 `;'],
   'another paper is shown than the one asked for': ['draft.at = index;', 'draft.at = Math.max(index - 1, 0);'],
-  'the papers are shown a row too low': ['rowAt(draft.at - ABOVE + place)', 'rowAt(draft.at - ABOVE + place + 1)'],
   'the marks of another paper are shown': ['const marks = row().text.split(\',\');', 'const marks = draft.rows[0].text.split(\',\');'],
   'a paper is sent twice, in place of another': ['papers: rows.map((it) => it.text)', 'papers: rows.map(() => rows[0].text)'],
   'a mark is written beside another candidate': ['fields[column] = mark;', 'fields[fields.length - 1 - column] = mark;'],
@@ -280,39 +272,27 @@ const PLANTED = {
   'the name of another candidate is shown': ['name: shownName(names.get(number))', 'name: shownName(names.get(1))'],
   'the keying of another batch is sent': ['ask(`batches/${sent.batch}/keying`', 'ask(`batches/13/keying`'],
   'the office is asked for another clerk\u2019s work': ['await ask(\'work\')', 'await ask(\'../9/work\')'],
-  'the script has a syntax error': ['const width = () =>', 'const width = ( =>'],
   'the script ends in an error': ['at(\'who\').textContent', 'at(\'whom\').textContent'],
 };
 
-const planted = (page, [found, put]) => {
-  assert.equal(page.split(found).length, 2, `a planted fault needs a text that stands once in the page: ${found}`);
-  return page.replace(found, () => put);
-};
-
-// Why a play doesn't end well on a page, or null.
-const faultOf = async (play, page) => {
-  broken = null;
-  try {
-    await play(page);
-    await settled();
-    return broken;
-  } catch (error) {
-    return error;
+// Yields why plays don't end well on a page.
+async function* faults(page) {
+  for (const [what, play] of Object.entries(PLAYS)) {
+    broken = null;
+    await play(page).then(settled).catch((error) => { broken = error; });
+    if (broken) yield `${what}: ${broken.message}`;
   }
-};
+}
 
 const main = async () => {
   process.exitCode = 1;
   const page = readFileSync(0, 'utf8');
   const wrong = [];
-  for (const [what, play] of Object.entries(PLAYS)) {
-    const fault = await faultOf(play, page);
-    if (fault) wrong.push(`${what}: ${fault.message}`);
-  }
-  for (const [what, change] of wrong.length ? [] : Object.entries(PLANTED)) {
-    let noticed = false;
-    for (const play of Object.values(PLAYS)) noticed ||= (await faultOf(play, planted(page, change))) !== null;
-    if (!noticed) wrong.push(`not noticed: ${what}`);
+  for await (const fault of faults(page)) wrong.push(fault);
+  for (const [what, [found, put]] of wrong.length ? [] : Object.entries(PLANTED)) {
+    const parts = page.split(found);
+    if (parts.length !== 2) wrong.push(`a planted fault needs a text that stands once in the page: ${found}`);
+    else if ((await faults(parts.join(put)).next()).done) wrong.push(`not noticed: ${what}`);
   }
   wrong.forEach((line) => console.error(`script: ${line}`));
   if (!wrong.length) console.log(`script: ${Object.keys(PLAYS).length} plays, ${Object.keys(PLANTED).length} planted faults noticed`);

@@ -1,10 +1,9 @@
 """Plays an evening of two tellers at the page on which clerks key, in Chromium, by keys alone, and counts the keys.
 
 Two browsers log in as clerks 4 and 9, and each keys the same batch of 50 papers. One leaves a paper out and puts it in, and mends another.
-A page is loaded again in mid-batch, the server is killed and started again, and a line breaks after a keying was kept. At the end the rows
-are those that were typed, each keyed once. Then a clerk keys in the browser of another, in two windows, names that would be markup are
-shown, and whoever left isn't let in again. Pictures at 1024 and 400 pixels go into the folder PICTURES. It needs `chromium`,
-`chromium-driver` and `python3-selenium`.
+A page is loaded again in mid-batch, the server is killed and started again, and a line breaks after a keying was kept. The rows are those
+that were typed, each keyed once. Then a clerk keys in two windows, another one comes to his browser, and whoever left isn't let in again.
+Pictures at 1024 and 400 pixels go into the folder PICTURES. It needs `chromium`, `chromium-driver` and `python3-selenium`.
 """
 import json
 import random
@@ -19,7 +18,7 @@ from office_tools.tables import Table
 from office_tools.web import HERE, Proxy
 
 ASKED = re.compile(r"(GET /clerks/\d+/(work|leave|batches/\d+/candidates)?|POST /clerks/\d+/batches/\d+/keying) HTTP/1.1")
-FIELDS = "[...document.querySelectorAll('#rows input')]"
+MARKS = "[...document.querySelectorAll('#rows input')].map((it) => it.value).join('')"
 LISTED = "!document.getElementById('batches').hidden && document.activeElement.tagName === 'BUTTON'"
 # What is keyed of the batch of 30 candidates: 1, 12 and 9 for the first, the third and the one before the last; a doubtful paper; and none.
 LONG_KEYS, LONG_PAPERS = [*"10.12/299", "Enter", "d", "Enter", "0"], ["1,,12" + "," * 26 + "9,", "D", "," * 29]
@@ -29,13 +28,9 @@ def made_up(size, columns, chance):
     """Returns marks as voters write them: most have a few numbers in order, some are doubtful, empty, or odd."""
     papers = []
     for _ in range(size):
-        kind, fields = chance.random(), [""] * columns
-        if 0.06 < kind:
-            for mark, column in enumerate(chance.sample(range(columns), min(columns, chance.choice([1, 2, 3, 3, 4, columns]))), 1):
-                fields[column] = str(mark)
-        if kind > 0.95:
-            fields[chance.randrange(columns)] = chance.choice(["1", "2", "12", "99"])
-        papers.append("D" if kind < 0.04 else ",".join(fields))
+        count = chance.choice([1, 2, 3, 3, 4, columns])
+        fields = chance.sample([*map(str, range(1, count + 1))] + [""] * (columns - count), columns)
+        papers.append(chance.choice(["D", "," * (columns - 1), ",12" + "," * (columns - 2)] + 30 * [",".join(fields)]))
     return papers
 
 
@@ -183,11 +178,6 @@ class Evening:
         four.begin()
         four.press(*LONG_KEYS, at=3)
         four.picture("thirty")
-        labels = browser.value(f"{FIELDS}.map((it) => it.ariaLabel)")
-        if labels[:2] != [f"Paper 3, candidate {c} \u2068Candidate {c}\u2069" for c in (1, 2)] or not all(labels):
-            raise Wrong(f"a screen reader gets {labels}")
-        if browser.value("document.querySelectorAll('#papers img, #papers b b').length") or four.shown("who") != "clerk 4":
-            raise Wrong("a name is markup")
         with browser.another():
             browser.open(self.address(4) + "#13")
             four.shows("papers")
@@ -199,7 +189,7 @@ class Evening:
         four.log_in(9)
         text = browser.text()
         four.begin()
-        if "here" in text or "clerk 4" in text or "clerk 9" not in text or any(browser.value(f"{FIELDS}.map((it) => it.value)")):
+        if "here" in text or "clerk 4" in text or "clerk 9" not in text or browser.value(MARKS):
             raise Wrong(f"clerk 9 sees {text!r}, or what clerk 4 keyed")
         browser.open(self.address(4) + "#13")
         four.shows("papers")
@@ -223,12 +213,13 @@ class Evening:
 
 
 def print_keys(papers, keys):
+    # In a spreadsheet Tab moves on, and Enter ends the row.
     plain, numbers = sum(len(text.rstrip(",")) + 1 for text in papers), sum(len(str(number + 1)) + 1 for number in range(len(papers)))
     table = Table("50 papers of 5 candidates", "keys", "a paper", "at three keys a second")
-    for what, count in (("the page", sum(len(keys_of(text)) for text in papers)),
-                        # There Tab moves on, and Enter ends the row.
-                        ("a spreadsheet, the papers' numbers typed", plain + numbers),
-                        ("a spreadsheet, the numbers filled in before", plain), ("a teller on the page, with his mistakes", keys)):
+    for what, count in (
+        ("the page", sum(len(keys_of(text)) for text in papers)), ("a spreadsheet, the papers' numbers typed", plain + numbers),
+        ("a spreadsheet, the numbers filled in before", plain), ("a teller on the page, with his mistakes", keys),
+    ):
         table.row(what, count, f"{count / len(papers):.1f}", f"{count / 3:.0f} s")
 
 
