@@ -6,8 +6,6 @@ import time
 from office_tools.office import SECONDS, Wrong, needs
 
 WORDS = ["--headless=new", "--no-sandbox", "--disable-gpu", "--no-first-run", "--disable-background-networking"]
-# Where Debian has its modules: Python may be another one.
-MODULES = "/usr/lib/python3/dist-packages"
 
 
 class Browser:
@@ -15,7 +13,8 @@ class Browser:
 
     def __init__(self, words=()):
         needs("chromium", "chromedriver")
-        sys.path.append(MODULES)
+        # Where Debian has its modules: Python may be another one.
+        sys.path.append("/usr/lib/python3/dist-packages")
         try:
             from selenium import webdriver
         except ImportError as error:

@@ -3,18 +3,14 @@
 (async ({office, batch, turns}) => {
   const wait = (seconds) => new Promise((done) => setTimeout(() => done(''), 1000 * seconds));
   const made = (name, fields) => Object.assign(document.createElement(name), fields);
-  const loaded = (it) => {
-    const ends = new Promise((done) => { it.onload = it.onerror = () => done(''); });
-    document.body.append(it);
-    return Promise.race([wait(20), ends]);
-  };
   const work = `${office}/clerks/4/work`;
   const read = async (address, options) => (await fetch(address, {credentials: 'include', ...options})).text();
   const key = (options) => (target, body) => read(target, {method: 'POST', headers: {'Content-Type': 'text/plain'}, body, ...options});
   const shown = (frame) => (frame.contentDocument ? frame.contentDocument.body.innerText : '');
   const framed = async () => {
     const frame = made('iframe', {src: work});
-    await loaded(frame);
+    document.body.append(frame);
+    await wait(2);
     return shown(frame);
   };
   const opened = async () => {
@@ -39,7 +35,6 @@
     'a form of text/plain': form,
     'the work (fetch)': () => read(work),
     'the work in a frame': framed,
-    'the work as a script': () => loaded(made('script', {src: work})),
     'the page in a window': opened,
   };
   const tries = [];

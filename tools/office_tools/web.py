@@ -12,7 +12,6 @@ HERE = "127.0.0.1"
 PATIENCE = 60
 BROKEN = (BrokenPipeError, ConnectionResetError)
 PAGE = b"HTTP/1.1 200 OK\r\nContent-Type: text/html\r\nConnection: close\r\n\r\n<!DOCTYPE html><title>elsewhere</title><body>"
-MISSING = b"HTTP/1.1 404 Not Found\r\nConnection: close\r\nContent-Length: 0\r\n\r\n"
 
 
 def request(target, *headers, body="", method=""):
@@ -46,12 +45,6 @@ def answer(line, sends, shut=False):
     return received(line)
 
 
-def sent_whole(line, sends):
-    """Sends bytes that must all be taken, and returns what comes back."""
-    line.sendall(sends)
-    return received(line)
-
-
 def ask(port, sends, host=HERE, seconds=PATIENCE, **how):
     """Sends bytes on a connection of their own, and returns what comes back."""
     return answer(socket.create_connection((host, port), timeout=seconds), sends, **how)
@@ -71,10 +64,10 @@ def is_whole(text):
 class Crowd(threading.Thread):
     """Clients who say nothing, or what they are told to, during a `with`. One that is disconnected, or goes, connects again."""
 
-    def __init__(self, port, count, begins=b"", *, host=HERE, each_second=b"", goes=False, reads=True):
+    def __init__(self, port, count, sends=b"", *, host=HERE, goes=False, reads=True):
         super().__init__(daemon=True)
         self.address, self.count, self.came, self.is_over = (host, port), count, 0, False
-        self.begins, self.each_second, self.goes, self.reads = begins, each_second, goes, reads
+        self.sends, self.goes, self.reads = sends, goes, reads
 
     async def connect(self):
         """Connects, and stays until it is disconnected."""
@@ -86,13 +79,10 @@ class Crowd(threading.Thread):
                 line.setsockopt(socket.SOL_SOCKET, socket.SO_RCVBUF, 1)
             line.setblocking(False)
             await loop.sock_connect(line, self.address)
-            await loop.sock_sendall(line, self.begins)
+            await loop.sock_sendall(line, self.sends)
             self.came += 1
-            while not self.goes:
-                with contextlib.suppress(TimeoutError):
-                    if not await asyncio.wait_for(loop.sock_recv(line, 65536) if self.reads else asyncio.sleep(9), 1):
-                        return
-                await loop.sock_sendall(line, self.each_second)
+            while not self.goes and (not self.reads or await loop.sock_recv(line, 65536)):
+                await asyncio.sleep(0 if self.reads else PATIENCE)
 
     async def stay(self, number):
         # Of those that go, five hundred come a second: more would ask than the office can answer.
@@ -128,7 +118,7 @@ class Carried(socketserver.StreamRequestHandler):
         length = re.search(rb"(?i)\ncontent-length: *(\d+)", b"".join(lines))
         sends = b"".join([*lines, b"\r\n", self.rfile.read(int(length[1]) if length else 0)])
         proxy.asked.append(lines[0].decode().rstrip())
-        back = PAGE if sends.startswith(b"GET /page ") else ask(proxy.office, sends) if proxy.office else MISSING
+        back = ask(proxy.office, sends) if proxy.office and not sends.startswith(b"GET /page ") else PAGE
         if sends.startswith(b"POST") and proxy.cuts:
             proxy.cuts -= 1
         else:

@@ -5,7 +5,6 @@ docs/HOSTILE.md has a line for each case. The last two need `strace`. A machine 
 import contextlib
 import functools
 import re
-import resource
 import socket
 import time
 
@@ -16,11 +15,7 @@ from office_tools.web import Crowd, ask, request
 V4, V6, BOTH = socket.AF_INET, socket.AF_INET6, ("127.0.0.1", "::1")
 TAKEN = (3, "", "fault 107: socket or output\n")
 ASKS, WORK = request("/clerks/4/work", "Host: localhost"), b'{"clerk":4,"work":[]}'
-PATIENCE, DESCRIPTORS = 10, 64
-
-
-def few_files():
-    resource.setrlimit(resource.RLIMIT_NOFILE, (DESCRIPTORS, DESCRIPTORS))
+PATIENCE, FEW_FILES = 10, ["prlimit", "--nofile=64"]
 
 
 def are_good(port, *hosts):
@@ -52,13 +47,10 @@ def taken(office):
 
 
 def crowded(office, count, **how):
-    """Has a crowd of silent connections at each address in turn, and clients at both."""
-    found = []
-    for host in BOTH:
-        with office.serve(**how).wait() as serving, Crowd(serving.port, count, host=host):
-            time.sleep(0.5)
-            found.append(are_good(serving.port, *BOTH))
-    return all(found)
+    """Has a crowd of silent connections at each address, and clients at both."""
+    with office.serve(**how).wait() as serving, Crowd(serving.port, count, host=BOTH[0]), Crowd(serving.port, count, host=BOTH[1]):
+        time.sleep(0.5)
+        return are_good(serving.port, *BOTH)
 
 
 def without_ipv6(office, call, error, place):
@@ -73,8 +65,8 @@ def without_ipv6(office, call, error, place):
 CASES = [
     ("127.0.0.1, [::1] and localhost answer, and nobody else takes the port meanwhile", holds),
     ("another process has [::1], 127.0.0.1, or all addresses of IPv6, of IPv4 or of both", taken),
-    ("600 silent connections at one address, and clients at both", functools.partial(crowded, count=600)),
-    (f"{DESCRIPTORS} descriptors, 100 silent connections at one address", functools.partial(crowded, count=100, preexec_fn=few_files)),
+    ("300 silent connections at each address, and clients at both", functools.partial(crowded, count=300)),
+    ("64 descriptors, 50 silent connections at each address", functools.partial(crowded, count=50, under=FEW_FILES)),
     ("a machine without [::1]", functools.partial(without_ipv6, call="bind", error="EADDRNOTAVAIL", place=3)),
     ("a program that is kept from IPv6", functools.partial(without_ipv6, call="socket", error="EAFNOSUPPORT", place=3)),
 ]

@@ -12,10 +12,9 @@ from office_tools.office import ROOT, Office, Wrong, free_port, temporary_folder
 from office_tools.tables import Table
 from office_tools.web import HERE, Proxy
 
-CLERK, FIRST, BATCHES, TURNS, NAME = 4, 100, 50, 3, "elsewhere.example"
+CLERK, FIRST, BATCHES, NAME = 4, 100, 50, "elsewhere.example"
 # Words for Chromium: the name leads to this machine, and no newer guard of its own stands before that of the office.
 LOOSE = ("--disable-features=LocalNetworkAccessChecks,BlockInsecurePrivateNetworkRequests", f"--host-resolver-rules=MAP {NAME} {HERE}")
-TRIES = ROOT / "tools/office_tools/elsewhere.js"
 # What pages are, where they come from, and where they look for the office.
 PAGES = ("another port", HERE, HERE), ("a name that leads here", NAME, HERE), ("a name that leads here, at that name", NAME, NAME)
 
@@ -47,11 +46,12 @@ class Tried:
 
     def opened(self, page, office, batch, meanwhile=lambda: None):
         """Opens a page, and returns what it tried. A host and a port say whose page it is, and where it looks for the office."""
-        setting = {"office": "http://%s:%d" % office, "batch": batch, "turns": TURNS}
+        setting = {"office": "http://%s:%d" % office, "batch": batch, "turns": 3}
         with self.browser.another():
             self.browser.open("http://%s:%d/page" % page)
             meanwhile()
-            return self.browser.value(TRIES.read_text(encoding="utf-8").replace("SETTING", json.dumps(setting)))
+            script = (ROOT / "tools/office_tools/elsewhere.js").read_text(encoding="utf-8")
+            return self.browser.value(script.replace("SETTING", json.dumps(setting)))
 
     def show(self, what, tried, must_pass=False):
         """Prints a line for each try. None may pass; or some must, to key and to read."""

@@ -7,6 +7,7 @@ import contextlib
 import select
 import socket
 import time
+from collections import Counter
 
 from office_tools.election import CODES, ward_orders
 from office_tools.office import Office, Wrong, open_many_files, temporary_folder, timed
@@ -15,7 +16,6 @@ from office_tools.web import BROKEN, Crowd, answer, basic, received, request, st
 
 # The work of this clerk is more than sockets take of an answer that nobody reads, if they are small.
 READER, BATCHES = 5, 800
-KEYING = '{"id":"h1","round":1,"papers":["1,2,","9"]}'
 PATIENCE, MANY, FEW = 30, 1000, 30
 # How long a crowd is there, and how long a good client may wait meanwhile for the whole of its answer, in seconds.
 CROWDED, SLOWEST = 12, 3
@@ -28,7 +28,7 @@ class Served:
         self.office, self.codes, self.rows = office, codes, office.rows()
         harm = 9 if codes else 4
         self.good_request, self.work = self.of(4, "" if codes else "work"), self.of(harm, "work")
-        self.refused, self.readers = self.of(harm, "batches/99/keying", KEYING), self.of(READER, "work")
+        self.refused = self.of(harm, "batches/99/keying", '{"id":"h1","round":1,"papers":["1,2,","9"]}')
         self.serving = office.serve(*(["--codes", "codes.txt"] if codes else []))
         self.good = self.ask_well()
         if status(self.good) != 200:
@@ -81,8 +81,7 @@ def kinds(work, refused):
     """Returns [(what, how many seconds at most each may take, what each sends, how it sends that)]."""
     return [
         ("whole requests, a byte at a time", 5, [work, refused] * 3, byte_by_byte),
-        ("gone, with nothing sent or within the head", 5, [work[:n] for n in range(len(work) - 1)], gone),
-        ("gone within the body", 5, [refused[:-n] for n in range(1, len(KEYING))], gone),
+        ("gone, with nothing sent or within the request", 5, [refused[:n] for n in range(len(refused))], gone),
         ("gone within the answer", 5, [work] * 20, gone),
         ("a head without an end", 5, [b"GET / HTTP/1.1\r\nX: x"], endless),
         ("a body without an end", 5, [b"POST /clerks/4/batches/12/keying HTTP/1.1\r\nContent-Length: 1048576\r\n\r\n "], endless),
@@ -97,23 +96,20 @@ def print_kinds(served):
         answers, seconds = timed(lambda: [how(served.connect(), text) for text in sends])
         if served.ask_well() != served.good:
             raise Wrong(f"{what}: the next client gets something else")
-        found = sorted(status(text) for text in answers if text)
+        found = Counter(status(text) for text in answers if text)
         if 0 in found or seconds > most * len(answers):
-            raise Wrong(f"{what}: {seconds:.0f} s, {set(found)}, {answers[:3]}")
-        shown = ", ".join(f"{one}: {found.count(one)}" for one in dict.fromkeys(found)) or "–"
-        table.row(what, len(answers), shown, len(answers) - len(found), f"{seconds:.1f}")
+            raise Wrong(f"{what}: {seconds:.0f} s, {found}, {answers[:3]}")
+        shown = ", ".join(f"{one}: {count}" for one, count in sorted(found.items())) or "–"
+        table.row(what, len(answers), shown, len(answers) - found.total(), f"{seconds:.1f}")
 
 
 def print_crowds(served):
-    heads = ("answers that the other one had", "the slowest of them, seconds", "memory so far, MB")
-    table = Table("Clients who", "at once", f"came in {CROWDED} seconds", *heads)
+    table = Table("Clients who", "at once", f"came in {CROWDED} seconds", "answers of another", "the slowest, seconds", "memory so far, MB")
     for what, count, sends, how in (
         ("say nothing", MANY, b"", {}),
-        ("send a byte a second", MANY, b"", {"each_second": b"G"}),
         ("half a request, and nothing more", MANY, served.refused[:-9], {}),
         ("ask, and go at once", MANY, served.work, {"goes": True}),
-        ("ask, and never read their answer", MANY, served.work, {"reads": False}),
-        ("ask for more than sockets take, and never read it", FEW, served.readers, {"reads": False}),
+        ("ask for more than sockets take, and never read it", FEW, served.of(READER, "work"), {"reads": False}),
     ):
         times, ends = [], time.monotonic() + CROWDED
         with Crowd(served.serving.port, count, sends, **how) as crowd:

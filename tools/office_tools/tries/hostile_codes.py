@@ -2,6 +2,7 @@
 
 docs/HOSTILE.md says what must be denied, and what must be answered. It takes somewhat more than a minute.
 """
+import functools
 import random
 import re
 import time
@@ -12,24 +13,13 @@ from office_tools.damage import damaged
 from office_tools.election import CODES, evening_office
 from office_tools.office import Wrong, temporary_folder
 from office_tools.tables import Table
-from office_tools.web import ask, basic, request, sent_whole, status
+from office_tools.web import basic, received, request, status
 
 MOST, MINUTE, SENDERS = 6000, 60, 4
 # The letters of codes, but for the x of wrong ones; the tellers, and a number that no line of the file has.
 LETTERS, TELLERS, NOBODY = "abcdefghjkmnprstuwy2347", range(1, 41), 999
-# How many requests without a code have a body that is longer than what a socket holds, and how long it is.
 DENIED, BODY = 1000, 200_000
 SIGNS = [b"%c" % sign for sign in b"0123456789/ =\r\n"]
-
-
-def drawn(chance):
-    """Returns a code such as the program makes, but for the x."""
-    return "-".join("".join(chance.choices(LETTERS, k=4)) for _ in range(3))
-
-
-def codes_of(chance):
-    """Returns {clerk: code} of the tellers, with those of the evening's office."""
-    return {**{clerk: drawn(chance) for clerk in TELLERS}, **CODES}
 
 
 def work(clerk, *headers):
@@ -40,19 +30,15 @@ def with_code(clerk, code):
     return work(clerk, f"Authorization: {basic(clerk, code)}")
 
 
-def told(port, sends):
-    return ask(port, sends, shut=True)
-
-
 def shown(said):
     """Returns statuses that were counted, as text."""
     return ", ".join(f"{count} got {one}" for one, count in sorted(said.items()))
 
 
-def check_limit(port, codes):
+def check_limit(told, codes):
     """Checks that from 6,000 wrong codes within a minute on they are answered 429, and the right ones as ever."""
     def guessed(turn):
-        return status(told(port, with_code(TELLERS[turn % len(TELLERS)], "x" * 14)))
+        return status(told(with_code(TELLERS[turn % len(TELLERS)], "x" * 14)))
 
     began = time.monotonic()
     with ThreadPoolExecutor(SENDERS) as senders:
@@ -61,10 +47,10 @@ def check_limit(port, codes):
     if said != {401: MOST} or took > MINUTE - 5:
         raise Wrong(f"of {MOST} wrong codes within {took:.0f} seconds {shown(said)}; a slow machine doesn't reach the limit")
     for clerk in (TELLERS[0], NOBODY):
-        text, without = told(port, with_code(clerk, "x" * 14)), told(port, work(clerk))
+        text, without = told(with_code(clerk, "x" * 14)), told(work(clerk))
         if status(text) != 429 or b"\r\nRetry-After: 60\r\n" not in text or status(without) != 401:
             raise Wrong(f"clerk {clerk}, after {MOST} wrong codes: {text[:200]}, and without a code {without[:200]}")
-    if (good := Counter(status(told(port, with_code(clerk, codes[clerk]))) for clerk in TELLERS)) != {200: len(TELLERS)}:
+    if (good := Counter(status(told(with_code(clerk, codes[clerk]))) for clerk in TELLERS)) != {200: len(TELLERS)}:
         raise Wrong(f"tellers, after {MOST} wrong codes: {shown(good)}")
     while guessed(0) == 429 and time.monotonic() < began + 2 * MINUTE:
         time.sleep(0.25)
@@ -74,7 +60,7 @@ def check_limit(port, codes):
         raise Wrong("the limit should have lasted for a minute from the first wrong code on")
 
 
-def print_denied(port):
+def print_denied(told):
     four, nine, header = basic(4, CODES[4]), basic(9, CODES[9]), "Authorization: "
     right = header + four
     table = Table("A request for `/clerks/4/`", "The answer")
@@ -83,15 +69,12 @@ def print_denied(port):
         ("the same, for the page", request("/clerks/4/", right), 200),
         ("the same, in other letters of the header's name", work(4, "aUTHORIZATION:\t" + four + " "), 200),
         ("without a code", work(4), 401),
-        ("without a code, for the page", request("/clerks/4/"), 401),
         ("without a code, at a target that isn't there", request("/clerks/4/nothing"), 401),
         ("without a code, by another method", request("/clerks/4/work", method="DELETE"), 401),
         ("without a code, to key", request("/clerks/4/batches/14/keying", body='{"id":"h1","round":1,"papers":["1,,,,"]}'), 401),
         ("with his code, from a page from elsewhere", work(4, right, "Sec-Fetch-Site: cross-site"), 403),
         ("with clerk 9's code", work(4, header + nine), 401),
         ("with clerk 9's code under the number 4", with_code(4, CODES[9]), 401),
-        ("with his code under the number 9", work(4, header + basic(9, CODES[4])), 401),
-        ("with his code in capitals", with_code(4, CODES[4].upper()), 401),
         ("with his code, cut", with_code(4, CODES[4][:-1]), 401),
         ("with his code, and a byte more", with_code(4, CODES[4] + "x"), 401),
         ("with his code twice", work(4, right, right), 401),
@@ -99,19 +82,19 @@ def print_denied(port):
         ("with clerk 4's code for a clerk who isn't there", work(NOBODY, right), 401),
         ("for a sheet, which is everyone's", request("/wards/7/sheet"), 409),
     ):
-        text = told(port, sends)
+        text = told(sends)
         table.row(what, status(text))
         if status(text) != wanted or (wanted == 401 and b'realm="clerk ' not in text):
             raise Wrong(f"{what}: {text[:200]}")
 
 
-def check_changed(port, codes, chance):
+def check_changed(told, codes, chance):
     """Changes bytes of requests with the right code: those that get something have the whole code."""
     said = Counter()
     for clerk in chance.choices(TELLERS, k=2000):
         target = f"/clerks/{clerk}/{chance.choice(['', 'work', 'leave', 'batches/12/candidates'])}"
         sends = damaged(chance, request(target, f"Authorization: {basic(clerk, codes[clerk])}"), 3, signs=SIGNS)
-        text = told(port, sends)
+        text = told(sends)
         said[status(text)] += 1
         found = re.match(rb"\s*[A-Z]+ /clerks/(\d+)/", sends)
         has_code = found and basic(int(found[1]), codes.get(int(found[1]), "")).encode() in sends
@@ -120,10 +103,13 @@ def check_changed(port, codes, chance):
     print(f"\nOf 2000 requests with bytes changed: {shown(said)}.", flush=True)
 
 
-def check_bodies(send):
-    """Sends denied requests with long bodies by a function of the request and its number: each has to be taken whole, and to get 401."""
-    sends = request("/clerks/4/batches/14/keying", body="x" * BODY)
-    said = Counter(status(send(sends, number)) for number in range(DENIED))
+def check_bodies(serving):
+    """Sends denied requests with bodies that are longer than what a socket holds: each has to be taken whole, and to get 401."""
+    sends, said = request("/clerks/4/batches/14/keying", body="x" * BODY), Counter()
+    for _ in range(DENIED):
+        line = serving.connect()
+        line.sendall(sends)
+        said[status(received(line))] += 1
     print(f"\nOf {DENIED} requests without a code, with bodies of {BODY} bytes each: {shown(said)}.", flush=True)
     if said != {401: DENIED}:
         raise Wrong("a denied request with a body doesn't get 401")
@@ -131,9 +117,10 @@ def check_bodies(send):
 
 def main(seed=7):
     chance = random.Random(seed)
-    codes = codes_of(chance)
+    codes = {clerk: "-".join("".join(chance.choices(LETTERS, k=4)) for _ in range(3)) for clerk in TELLERS} | CODES
     with temporary_folder() as folder, evening_office(folder, codes).serve("--codes", "codes.txt").wait() as serving:
-        check_limit(serving.port, codes)
-        print_denied(serving.port)
-        check_changed(serving.port, codes, chance)
-        check_bodies(lambda sends, _: sent_whole(serving.connect(), sends))
+        told = functools.partial(serving.ask, shut=True)
+        check_limit(told, codes)
+        print_denied(told)
+        check_changed(told, codes, chance)
+        check_bodies(serving)

@@ -2,7 +2,7 @@
 
 Two browsers log in as clerks 4 and 9, and each keys the same batch of 50 papers. One leaves a paper out and puts it in, and mends another.
 A page is loaded again in mid-batch, the server is killed and started again, and a line breaks after a keying was kept. The rows are those
-that were typed, each keyed once. Then a clerk keys in two windows, another one comes to his browser, and whoever left isn't let in again.
+that were typed, each keyed once. The page asks nothing but what is its clerk's, and whoever left isn't let in again.
 Pictures at 1024 and 400 pixels go into the folder PICTURES. It needs `chromium`, `chromium-driver` and `python3-selenium`.
 """
 import json
@@ -18,10 +18,7 @@ from office_tools.tables import Table
 from office_tools.web import HERE, Proxy
 
 ASKED = re.compile(r"(GET /clerks/\d+/(work|leave|batches/\d+/candidates)?|POST /clerks/\d+/batches/\d+/keying) HTTP/1.1")
-MARKS = "[...document.querySelectorAll('#rows input')].map((it) => it.value).join('')"
 LISTED = "!document.getElementById('batches').hidden && document.activeElement.tagName === 'BUTTON'"
-# What is keyed of the batch of 30 candidates: 1, 12 and 9 for the first, the third and the one before the last; a doubtful paper; and none.
-LONG_KEYS, LONG_PAPERS = [*"10.12/299", "Enter", "d", "Enter", "0"], ["1,,12" + "," * 26 + "9,", "D", "," * 29]
 
 
 def made_up(size, columns, chance):
@@ -48,10 +45,10 @@ class Teller:
     def __init__(self, evening, clerk):
         self.evening, self.clerk, self.keys, self.browser = evening, clerk, 0, Browser()
 
-    def log_in(self, clerk):
-        """Opens a clerk's page. The browser has the login from then on, as if it had been typed when the browser asked for it."""
-        self.browser.open(self.evening.address(clerk, f"{clerk}:{CODES[clerk]}@"))
-        self.browser.open(self.evening.address(clerk))
+    def log_in(self):
+        """Opens the clerk's page. The browser has his login from then on, as if it had been typed when the browser asked for it."""
+        for login in (f"{self.clerk}:{CODES[self.clerk]}@", ""):
+            self.browser.open(f"http://{login}{self.evening.page}{self.clerk}/")
         self.browser.until(LISTED)
 
     def press(self, *keys, at=0):
@@ -94,16 +91,11 @@ class Evening:
     def __init__(self, folder, pictures):
         self.pictures, self.office, self.port = pictures, evening_office(folder), free_port()
         self.line, self.papers = Proxy(self.port), made_up(50, len(SMALL), random.Random(11))
+        self.page = f"{HERE}:{self.line.port}/clerks/"
         self.start()
 
     def start(self):
         self.serving = self.office.serve("--codes", "codes.txt", port=self.port).wait()
-
-    def kept(self, batch, clerk):
-        return [row[-1] for row in self.office.rows()["keying"] if row[0] == batch and row[2] == clerk]
-
-    def address(self, clerk, login=""):
-        return f"http://{login}{HERE}:{self.line.port}/clerks/{clerk}/"
 
     def play(self):
         four, nine = Teller(self, 4), Teller(self, 9)
@@ -112,16 +104,15 @@ class Evening:
                 self.key(four, nine)
                 self.send(four, nine)
                 print_keys(self.papers, four.keys)
-                self.in_one_browser(four)
                 self.leave(four, nine)
             finally:
                 self.serving.kill()
 
     def key(self, four, nine):
         """Both key. A page is loaded again, the server is gone for a while, paper 25 is left out and put in, and paper 30 is mended."""
-        papers, other = self.papers, "1,2,3,4,5" if self.papers[29] != "1,2,3,4,5" else "5,4,3,2,1"
+        papers = self.papers
         for teller in (four, nine):
-            teller.log_in(teller.clerk)
+            teller.log_in()
             teller.picture("batches")
             teller.begin()
         four.key(papers[:20])
@@ -136,7 +127,7 @@ class Evening:
         four.press("Insert")
         four.key([papers[24]])
         four.press("End", at=29)
-        four.key([papers[28], other])
+        four.key([papers[28], "D"])
         four.press("Up", "Delete")
         four.key([papers[29]], at=31)
         four.press("Enter")
@@ -163,40 +154,13 @@ class Evening:
         self.start()
         nine.browser.reload()
         nine.said("batch 12 round 1 keyed")
+        rows = self.office.rows()
         for teller in (four, nine):
-            if (kept := self.kept(12, teller.clerk)) != self.papers:
+            if (kept := [row[-1] for row in rows["keying"] if row[2] == teller.clerk]) != self.papers:
                 raise Wrong(f"clerk {teller.clerk}: {[both for both in enumerate(zip(self.papers, kept), 1) if both[1][0] != both[1][1]]}")
-            receipts = [subject for actor, _, subject, _ in self.office.rows()["receipt"] if actor == teller.clerk]
+            receipts = [subject for actor, _, subject, _ in rows["receipt"] if actor == teller.clerk]
             if receipts != ["key 12 1"] or teller.browser.value("Object.keys(localStorage).length"):
                 raise Wrong(f"clerk {teller.clerk} has {receipts}, or something of his keying stays in the browser")
-
-    def in_one_browser(self, four):
-        """Clerk 9 comes to the browser of clerk 4, in which a batch isn't sent yet."""
-        browser = four.browser
-        four.press("Enter")
-        browser.until(LISTED)
-        four.begin()
-        four.press(*LONG_KEYS, at=3)
-        four.picture("thirty")
-        with browser.another():
-            browser.open(self.address(4) + "#13")
-            four.shows("papers")
-            browser.show(0)
-            four.said("another window", "asked")
-            four.press("Enter", at=3)
-            browser.show(-1)
-            four.said("another window", "asked")
-        four.log_in(9)
-        text = browser.text()
-        four.begin()
-        if "here" in text or "clerk 4" in text or "clerk 9" not in text or browser.value(MARKS):
-            raise Wrong(f"clerk 9 sees {text!r}, or what clerk 4 keyed")
-        browser.open(self.address(4) + "#13")
-        four.shows("papers")
-        four.press("Enter", "s")
-        four.said("batch 13 round 1 keyed")
-        if (kept := self.kept(13, 4)) != LONG_PAPERS:
-            raise Wrong(f"batch 13: {kept}")
 
     def leave(self, four, nine):
         """Checks that the page asked nothing but what is its clerk's, and broke no policy. Who leaves is asked for his code again."""
@@ -204,10 +168,10 @@ class Evening:
         said = [line for teller in (four, nine) for line in teller.browser.said() if "ERR_" not in line]
         if strange or said:
             raise Wrong(f"the page asked {strange}, its console has {said}")
-        four.log_in(4)
+        four.log_in()
         four.browser.value("document.getElementById('go-away').click()")
         four.browser.until("document.body.innerText.includes('Clerk 4 has left')")
-        four.browser.open(self.address(4))
+        four.browser.open(f"http://{self.page}4/")
         if not any("status of 401" in line for line in four.browser.said()) or "lerk" in four.browser.text():
             raise Wrong(f"clerk 4 has left, and the page shows {four.browser.text()!r}")
 

@@ -1,4 +1,4 @@
-"""Sets nginx up by count-office-lan in a clean Debian root, and keys through it from another machine.
+"""Sets nginx up by count-office-lan in a clean Debian root, and keys and guesses codes through it from another machine.
 
 The machines are network namespaces: the office's, with the package of release/ and these sources' script in that root; and a client's, with
 a teller's address, and a stranger's in a network that isn't let in. Needs root, Debian's mmdebstrap, iproute2 and curl, and a mirror of its
@@ -11,14 +11,14 @@ import re
 import shutil
 import ssl
 import subprocess
+from collections import Counter
 
 from office_tools.election import CODES, evening_office
 from office_tools.office import ROOT, Wrong, needs, temporary_folder, waited
 
 OFFICE, CLIENT = MACHINES = [f"{name}-{os.getpid()}" for name in ("office", "client")]
-HERE, TELLER, STRANGER, ALLOWED, OTHER = "192.168.7.1", "192.168.7.20", "192.168.8.20", "192.168.7.0/24", "192.168.8.0/24"
-LAN, WORK, BATCH = "count-office-lan", "/clerks/4/work", "/clerks/4/batches/14"
-KEYING = '{"id":"k1","round":1,"papers":["1,2,,,"]}'
+HERE, TELLER, OUTSIDER, STRANGER = "192.168.7.1", "192.168.7.20", "192.168.7.21", "192.168.8.20"
+LAN, WORK, BATCH, ALLOWED, OTHER = "count-office-lan", "/clerks/4/work", "/clerks/4/batches/14", "192.168.7.0/24", "192.168.8.0/24"
 
 
 def ran(*words):
@@ -38,8 +38,8 @@ def see(what, done, status, *texts):
 def network():
     """Makes the machines, and a line between them with both networks; at the end it ends what runs there, and removes them."""
     lines = [*(f"netns add {machine}" for machine in MACHINES), f"-n {OFFICE} link add line type veth peer name line netns {CLIENT}"]
-    for machine, host in ((OFFICE, 1), (CLIENT, 20)):
-        lines += [f"-n {machine} address add 192.168.{number}.{host}/24 dev line" for number in (7, 8)]
+    for machine, addresses in ((OFFICE, (HERE, "192.168.8.1")), (CLIENT, (TELLER, OUTSIDER, STRANGER))):
+        lines += [f"-n {machine} address add {address}/24 dev line" for address in addresses]
         lines += [f"-n {machine} link set {link} up" for link in ("lo", "line")]
     try:
         for line in lines:
@@ -56,8 +56,8 @@ class Debian:
 
     def __init__(self, folder):
         self.root = folder / "root"
-        with_nginx = ran("mmdebstrap", "--quiet", "--variant=apt", "--include=nginx,openssl,curl", "bookworm", self.root)
-        see("a clean root of Debian with nginx", with_nginx, 0)
+        made = ran("mmdebstrap", "--quiet", "--variant=apt", "--include=nginx,openssl,curl", "bookworm", self.root)
+        see("a clean root of Debian with nginx", made, 0)
         shutil.copy(next((ROOT / "release").glob("*.deb")), self.root / "package.deb")
         see("the package is installed", self.run("env", "PATH=/usr/sbin:/usr/bin:/sbin:/bin", "dpkg", "-i", "/package.deb"), 0)
         shutil.copy(ROOT / "release/package" / LAN, self.root / "usr/bin")
@@ -93,13 +93,27 @@ def curl(source, *words, at=f"https://{HERE}"):
 
 
 def key(secret):
-    page = ("-H", f"Origin: https://{HERE}", "-H", "Sec-Fetch-Site: same-origin", "-d", KEYING)
+    page = ("-H", f"Origin: https://{HERE}", "-H", "Sec-Fetch-Site: same-origin", "-d", '{"id":"k1","round":1,"papers":["1,2,,,"]}')
     see("a teller keys a batch", curl(TELLER, *secret, *page, f"{BATCH}/keying"), 0, "batch 14 round 1 keyed", " 200")
     see("not without his code", curl(TELLER, *secret[:2], WORK), 0, "unauthorized", " 401")
+    see("nor with a body of 100,000 bytes", curl(TELLER, *secret[:2], "-d", "x" * 100_000, f"{BATCH}/keying"), 0, "unauthorized", " 401")
     see("a stranger's machine is denied, with the code", curl(STRANGER, *secret, WORK), 0, "nginx", " 403")
     for target in ("/office/", "/office/../clerks/4/work", "/wards/7/sheet", "/"):
         see(f"{target} isn't handed on", curl(TELLER, *secret, target), 0, "nginx", " 404")
     see("without TLS nginx names the address with TLS", curl(TELLER, "-i", WORK, at=f"http://{HERE}"), 0, f"https://{HERE}{WORK}", " 301")
+
+
+def guess(secret):
+    """Guesses codes from another address of the teller's network, faster than nginx lets it, under forty numbers; the teller is let in."""
+    wrong, good = Counter(), Counter()
+    for turn in range(400):
+        clerk = turn % 40 + 1
+        wrong[curl(OUTSIDER, *secret[:2], "-u", f"{clerk}:kf7m-2wxt-wrong", f"/clerks/{clerk}/work").stdout[-3:]] += 1
+        if turn % 10 == 0:
+            good[curl(TELLER, *secret, WORK).stdout[-3:]] += 1
+    if set(wrong) != {"401", "503"} or set(good) != {"200"}:
+        raise Wrong(f"an outsider's guesses get {wrong}, and the teller meanwhile {good}")
+    print(f"seen: {wrong['401']} guesses are denied, {wrong['503']} more are held back by nginx, and the teller is let in meanwhile")
 
 
 def change(debian, secret):
@@ -128,6 +142,7 @@ def main():
         waited(lambda: "unauthorized" in debian.run("curl", "-s", f"http://127.0.0.1:8080{WORK}").stdout)
         secret = debian.trusting(printed)
         key(secret)
+        guess(secret)
         change(debian, secret)
         see("everything is removed", debian.run(LAN, "--remove"), 0, "removed")
         debian.compare(before)

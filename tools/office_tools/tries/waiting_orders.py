@@ -13,7 +13,6 @@ import struct
 import subprocess
 import threading
 import time
-from concurrent.futures import ThreadPoolExecutor
 
 from office_tools.office import SCRIPT, STORE, TOWN, Office, Wrong, listens, open_many_files, program, temporary_folder, timed, waited
 from office_tools.tables import Table
@@ -21,9 +20,9 @@ from office_tools.web import Crowd
 
 SERVING, CROWD, LINES = 12, 2000, 2000
 # Each kind of order has wards of its own.
-AT_ONCE, COMING, PIPED, KILLED = 1, range(10, 40), 40, 60
+COMING, PIPED, KILLED, STEERS = range(10, 40), 40, 60, 70
 HELD_BYTE, OFD_SETLK = (1 << 30) + 512, 37
-OPEN_LINE = b"town.db is open to other accounts on this machine; 'chmod 600 town.db town.db-wal' closes it\n"
+STEERING, SHOWN = "A\u009b31m\u202eB\u061c\u2066C", b"A\xc2?31m\xe2\x80?B\xd8?\xe2\x81?C"
 
 
 def expect(what, found, wanted):
@@ -50,10 +49,9 @@ def added(ward):
     return 0, f"ward {ward} added\n", ""
 
 
-def script_of(first, count):
-    """Returns the lines of a script that adds wards, and what it prints."""
-    wards = range(first, first + count)
-    return [f"ward {n} 1 Ward --id p{n}" for n in wards], (0, "".join(added(n)[1] for n in wards), "")
+def script_of(first):
+    """Returns the lines of a script that adds four wards, and what it prints."""
+    return [f"ward {n} 1 Ward --id p{n}" for n in range(first, first + 4)], "".join(added(n)[1] for n in range(first, first + 4))
 
 
 class Waits:
@@ -72,13 +70,6 @@ class Waits:
 
     def add(self, number):
         return self.run("ward", number, 1, f"Ward {number}", "--id", f"w{number}")
-
-    def many_at_once(self, orders):
-        wards = range(AT_ONCE, AT_ONCE + orders)
-        with ThreadPoolExecutor(orders) as pool:
-            found, seconds = timed(lambda: list(pool.map(self.add, wards)))
-        expect("orders at once", found, list(map(added, wards)))
-        self.done(f"{orders} orders at once: all are done", seconds)
 
     def held(self):
         """Gives orders while the file is held, for a second and longer than they wait."""
@@ -125,22 +116,23 @@ class Waits:
         what = f"{len(found)} orders while `serve` begins and is ended {SERVING} times: "
         self.done(f"{what}{len(found) - len(cut)} done at once, {len(cut)} when given again", time.perf_counter() - began)
 
-    def piped(self, what, first, pause, then=lambda number: None):
-        """Sends a script of four lines through a pipe, with a pause after each line."""
-        lines, wanted = script_of(first, 4)
+    def piped(self, what, first, pause, meanwhile=bool):
+        """Sends a script of four lines through a pipe, with a pause after each line. Something happens after the second one."""
+        lines, out = script_of(first)
 
         def feed():
             with open(self.office.folder / "pipe", "w", encoding="ascii", buffering=1) as file:
                 for number, line in enumerate(lines):
                     file.write(line + "\n")
                     time.sleep(pause)
-                    then(number)
+                    if number == 1:
+                        meanwhile()
         threading.Thread(target=feed, daemon=True).start()
-        self.script(what, "pipe", wanted)
+        self.script(what, "pipe", out)
 
-    def script(self, what, name, wanted):
+    def script(self, what, name, out):
         found, seconds = timed(self.run, "replay", name)
-        expect(what, found, wanted)
+        expect(what, found, (0, out, ""))
         self.done(what, seconds)
 
     def slow_and_long(self):
@@ -149,33 +141,25 @@ class Waits:
             with Crowd(serving.port, CROWD):
                 time.sleep(3)
                 self.piped(f"a script through a pipe for a minute, while {CROWD} silent connections are open: it is done", PIPED, 15)
-            lines, (_, out, _) = script_of(PIPED, 4)
+            lines, out = script_of(PIPED)
             self.office.write(SCRIPT, lines * LINES)
-            self.script(f"a script of {4 * LINES} lines, while served: it is done", SCRIPT, (0, out * LINES, ""))
-            what = "`serve` is killed while a script comes through a pipe: the order is done"
-            self.piped(what, KILLED, 1, lambda number: serving.process.kill() if number == 1 else None)
+            self.script(f"a script of {4 * LINES} lines, while served: it is done", SCRIPT, out * LINES)
+            self.piped("`serve` is killed while a script comes through a pipe: the order is done", KILLED, 1, serving.process.kill)
 
-    def at_terminal(self, *words):
-        """Returns what an order shows at a terminal."""
-        command = ["script", "--quiet", "--command", shlex.join([program(), TOWN, *words]), "/dev/null"]
+    def terminal(self):
+        """Looks at a name of a ward that would steer a terminal."""
+        expect("a name that steers", self.run("ward", STEERS, 1, STEERING, "--id", "steers").status, 0)
+        command = ["script", "--quiet", "--command", shlex.join([program(), TOWN, "wards"]), "/dev/null"]
         shown = subprocess.run(command, cwd=self.office.folder, stdin=subprocess.DEVNULL, capture_output=True, timeout=60).stdout
-        return shown.replace(b"\r\n", b"\n")
-
-    def terminals(self):
-        for mode, lines in ((0o640, 1), (0o602, 1), (0o600, 0)):
-            self.path.chmod(mode)
-            expect(f"rights {mode:o}", (self.at_terminal("receipts").count(OPEN_LINE), self.run("receipts").err), (lines, ""))
-        threading.Timer(2, lock_of_an_order(self.path)).start()
-        expect("an order that waits", self.at_terminal("receipts").count(b"waiting for town.db: another order holds it\n"), 1)
-        self.done("on a terminal: what it waits for, and the rights of DB", 0)
+        expect("a name that steers", (SHOWN in shown, STEERING in self.run("wards").out), (True, True))
+        self.done("a name that would steer a terminal, shown there: no character steers", 0)
 
 
-def main(orders=8):
+def main():
     open_many_files()
     with temporary_folder() as folder:
         waits = Waits(folder)
-        waits.many_at_once(orders)
         waits.held()
         waits.while_serve_comes_and_goes()
         waits.slow_and_long()
-        waits.terminals()
+        waits.terminal()
