@@ -111,7 +111,7 @@ def guess(secret):
         wrong[curl(OUTSIDER, *secret[:2], "-u", f"{clerk}:kf7m-2wxt-wrong", f"/clerks/{clerk}/work").stdout[-3:]] += 1
         if turn % 10 == 0:
             good[curl(TELLER, *secret, WORK).stdout[-3:]] += 1
-    if set(wrong) != {"401", "503"} or set(good) != {"200"}:
+    if not {"401"} <= set(wrong) <= {"401", "503"} or set(good) != {"200"}:
         raise Wrong(f"an outsider's guesses get {wrong}, and the teller meanwhile {good}")
     print(f"seen: {wrong['401']} guesses are denied, {wrong['503']} more are held back by nginx, and the teller is let in meanwhile")
 
@@ -137,7 +137,7 @@ def main():
         printed = see("nginx is set up, and isn't running", debian.run(LAN, HERE, "--network", ALLOWED), 0, "nginx is not running")
         see("it starts by the words that are printed", debian.run(*re.search("type: (.*)", printed)[1].split()), 0)
         evening_office(debian.root / "elections")
-        serve = f"cd /elections && exec count-office town.db serve 8080 1000 --codes codes.txt {re.search('--origin .*', printed)[0]}"
+        serve = f"cd /elections && exec count-office town.db serve 8080 --codes codes.txt {re.search('--origin .*', printed)[0]}"
         subprocess.Popen(debian.words("sh", "-c", serve))
         waited(lambda: "unauthorized" in debian.run("curl", "-s", f"http://127.0.0.1:8080{WORK}").stdout)
         secret = debian.trusting(printed)
