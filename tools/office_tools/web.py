@@ -103,9 +103,10 @@ class Crowd(threading.Thread):
         self.start()
         return self
 
-    def __exit__(self, *_):
+    def __exit__(self, kind, *_):
         self.is_over = True
         self.join()
+        assert kind or self.came >= self.count, f"of {self.count} clients {self.came} came"
 
 
 class Carried(socketserver.StreamRequestHandler):

@@ -1,6 +1,6 @@
 """Meets `serve` with clients that mean harm, are slow, or go away, and prints what they and the others get.
 
-docs/HOSTILE.md says what the good client must get. `serve` may print nothing. A client has half a minute, so all takes three minutes. With
+docs/HOSTILE.md says what the good client must get. `serve` may print nothing. A client has half a minute, so all takes two minutes. With
 --codes the office asks for codes.
 """
 import contextlib

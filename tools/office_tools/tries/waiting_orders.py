@@ -139,7 +139,6 @@ class Waits:
         """Sends scripts that are slow, or long, while the office is served, the first in a crowd."""
         with self.serve() as serving:
             with Crowd(serving.port, CROWD):
-                time.sleep(3)
                 self.piped(f"a script through a pipe for a minute, while {CROWD} silent connections are open: it is done", PIPED, 15)
             lines, out = script_of(PIPED)
             self.office.write(SCRIPT, lines * LINES)
