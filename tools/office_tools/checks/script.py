@@ -6,7 +6,6 @@ program serves it; without one it is the page of crates/keying_page.
 """
 import os
 import subprocess
-import tempfile
 from pathlib import Path
 
 from office_tools.checks.page import page_of_sources
@@ -19,8 +18,5 @@ def main(file: Path = None):
     needs("node")
     if not (MODULES / "jsdom").exists():
         raise Wrong("jsdom is missing; on Debian: apt-get install node-jsdom")
-    with tempfile.NamedTemporaryFile("w", suffix=".html") as page:
-        page.write(file.read_text(encoding="utf-8") if file else page_of_sources()[0])
-        page.flush()
-        words = ["node", ROOT / "tools/office_tools/page_script.js", page.name]
-        return subprocess.run(words, env=os.environ | {"NODE_PATH": str(MODULES)}, check=False).returncode
+    page, words = file.read_text(encoding="utf-8") if file else page_of_sources()[0], ["node", ROOT / "tools/office_tools/page_script.js"]
+    return subprocess.run(words, env=os.environ | {"NODE_PATH": str(MODULES)}, input=page, text=True, check=False).returncode

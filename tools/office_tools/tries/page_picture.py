@@ -3,7 +3,6 @@
 It plays the ward of README, and compares its stage sheet with the one that README shows. Chromium draws the page of that ward, 1120
 pixels wide; the picture ends below the stages. FILE is another file in its place. It needs `chromium-driver` and `python3-selenium`.
 """
-import re
 from pathlib import Path
 
 from office_tools.browser import Browser
@@ -19,17 +18,14 @@ END = "Math.ceil([...document.querySelectorAll('table')].at(-1).getBoundingClien
 
 
 def main(file=ROOT / "docs/page-7.png"):
-    with temporary_folder() as folder:
-        office = Office(folder).begin(ORDERS)
-        shown = re.search(r"^```text\n(Ward 7 Harbour\n.*?)^```", (ROOT / "README.md").read_text(encoding="utf-8"), re.S | re.M)
-        if not shown or office.do("sheet", 7) != shown[1]:
+    with temporary_folder() as folder, Browser(["--hide-scrollbars"]) as browser:
+        office, page = Office(folder).begin(ORDERS), folder / "page.html"
+        if f"```text\n{office.do('sheet', 7)}```" not in (ROOT / "README.md").read_text(encoding="utf-8"):
             raise Wrong("README shows another sheet than the one of this ward")
-        page = office.folder / "page.html"
         page.write_text(office.do("page", 7, "--title", TITLE), encoding="utf-8")
-        with Browser(["--hide-scrollbars"]) as browser:
-            browser.resize(WIDTH, 3000)
-            browser.open(f"file://{page}")
-            end = browser.value(END) + MARGIN
-            browser.resize(WIDTH, end)
-            Path(file).write_bytes(browser.picture())
+        browser.resize(WIDTH, 3000)
+        browser.open(f"file://{page}")
+        end = browser.value(END) + MARGIN
+        browser.resize(WIDTH, end)
+        Path(file).write_bytes(browser.picture())
     print(f"{file}: {WIDTH} by {end} pixels")
