@@ -13,7 +13,7 @@ from collections import Counter
 from concurrent.futures import ThreadPoolExecutor
 
 from office_tools.election import evening_office
-from office_tools.office import ROOT, SECONDS, Wrong, free_port, needs, temporary_folder
+from office_tools.office import ROOT, SECONDS, Wrong, free_port, listens, needs, temporary_folder, waited
 from office_tools.tries.hostile_codes import TELLERS, check_bodies, shown, with_code
 from office_tools.web import HERE, answer, status
 
@@ -26,20 +26,21 @@ ROOMS = "".join(f"{kind}_temp_path {kind};" for kind in ("client_body", "proxy",
 @contextlib.contextmanager
 def nginx(folder, port):
     """Runs nginx before an office, and gives a function that connects from an address to it."""
-    tls, command = free_port(), ["nginx", "-p", folder, "-c", folder / "nginx.conf"]
-    text = (ROOT / "docs/HTTP.md").read_text(encoding="utf-8").split("```nginx\n")[1].split("# send a browser")[0]
+    tls, text = free_port(), (ROOT / "docs/HTTP.md").read_text(encoding="utf-8").split("```nginx\n")[1].split("# send a browser")[0]
     for old, new in (("443", f"{HERE}:{tls}"), ("/etc/ssl/certs/", ""), ("/etc/ssl/private/", ""), ("192.0.2.", LAN), ("8080", str(port))):
         if text.count(old) != 1:
             raise Wrong(f"docs/HTTP.md has another configuration: {old} is in it {text.count(old)} times")
         text = text.replace(old, new)
-    (folder / "nginx.conf").write_text(f"pid pid; error_log stderr crit; events {{}} http {{ {ROOMS} {text} }}", encoding="utf-8")
+    (folder / "nginx.conf").write_text(f"daemon off; pid pid; error_log errors; events {{}} http {{ {ROOMS} {text} }}", encoding="utf-8")
     subprocess.run(CERTIFICATE.split(), cwd=folder, check=True, capture_output=True)
     trusting = ssl.create_default_context(cafile=folder / "count.pem")
-    subprocess.run(command, check=True)
-    try:
-        yield lambda address: trusting.wrap_socket(socket.create_connection((HERE, tls), SECONDS, (address, 0)), server_hostname=NAME)
-    finally:
-        subprocess.run([*command, "-s", "stop"], check=True, capture_output=True)
+    with subprocess.Popen(["nginx", "-p", folder, "-c", folder / "nginx.conf"]) as process:
+        try:
+            if not waited(lambda: listens((HERE, tls)), 10):
+                raise Wrong("nginx doesn't start")
+            yield lambda address: trusting.wrap_socket(socket.create_connection((HERE, tls), SECONDS, (address, 0)), server_hostname=NAME)
+        finally:
+            process.terminate()
 
 
 def check_beside_guesses(connect, codes, seconds):
