@@ -1,11 +1,12 @@
 //! Letters that are drawn, and the text that they make.
 
 ghost use Rattle.std.specs.Prelude.{◌≡◌, ◌++◌, ◌-◌, ◌^◌, ◌<◌, ◌≤◌, EachIndex, IfErr, IfOk, OnOk, length, slice_index, string_bytes};
-ghost use Rattle.codes.specs.Drawing.{AreDrawn, IsDraw, IsDrawn, IsUndrawn, IsUnwritten, letters_for};
-ghost use Rattle.codes.specs.Making.{clerks_of, letter_of, line_of, text_of};
+ghost use Rattle.codes.specs.Drawing.{AreDrawn, IsDraw, IsDrawn, IsUndrawn, IsUnwritten};
+ghost use Rattle.codes.specs.Making.{clerks_of, letter_of, letters_for, letters_with, line_of, office_code, office_line, text_of, text_with};
 
 use crate::drawing::Draws;
 use crate::fault::{CodesError, CodesFault};
+use crate::holders::OFFICE;
 use crate::range::ClerkRange;
 use std::alloc::{AllocError, Global};
 
@@ -18,14 +19,20 @@ const DRAWING_BYTES: u8 = 240;
 /// The most bytes that are drawn for each letter.
 const MOST_BYTES: usize = 100;
 
-/// How many letters a code has.
+/// How many letters a clerk's code has.
 const CODE_LETTERS: usize = 12;
+
+/// How many letters the office's code has.
+const OFFICE_LETTERS: usize = 16;
 
 /// How many of them come before its first hyphen.
 const FRONT_LETTERS: usize = 4;
 
 /// How many of them come before its second hyphen.
 const MIDDLE_LETTERS: usize = 8;
+
+/// How many of the office's come before its third hyphen.
+const LATER_LETTERS: usize = 12;
 
 /// Returns the letter that a byte draws, if it draws one.
 fn letter_of(byte: u8) -> Option<u8>
@@ -59,18 +66,32 @@ fn draw_letter<D: Draws>(draws: &mut D, letters: &mut Vec<u8>) -> Result<(), Cod
     }
 }
 
-/// Draws the letters of codes for some clerks.
+/// Returns how many letters the codes of some clerks have, with the office's or without it.
+fn letters_count(clerks: ClerkRange, office: bool) -> usize
+    ensures is { result ≡ letters_with clerks office }
+    ensures bound { result ≤ 2 ^ 36 }
+{
+    let count = CODE_LETTERS * clerks.count();
+    if office {
+        count + OFFICE_LETTERS
+    } else {
+        count
+    }
+}
+
+/// Draws the letters of codes for some clerks, and for the office or not.
 fn draw_letters<D: Draws>(
     alloc: Global,
     draws: &mut D,
     clerks: ClerkRange,
+    office: bool,
 ) -> Result<Vec<u8>, CodesError>
     requires { D.failed draws.old < 2 ^ 64 - 1 }
-    ensures ok { IfOk result (λ letters. AreDrawn clerks (D.drawn draws.old) (D.drawn draws.new) letters.items) }
+    ensures ok { IfOk result (λ letters. AreDrawn clerks office (D.drawn draws.old) (D.drawn draws.new) letters.items) }
     ensures failed { OnOk result (D.failed draws.new ≡ D.failed draws.old) }
-    ensures err { IfErr result (IsUnwritten clerks (D.failed draws.old) (D.failed draws.new) (D.drawn draws.old) (D.drawn draws.new)) }
+    ensures err { IfErr result (IsUnwritten clerks office (D.failed draws.old) (D.failed draws.new) (D.drawn draws.old) (D.drawn draws.new)) }
 {
-    let count = CODE_LETTERS * clerks.count();
+    let count = letters_count(clerks, office);
     let mut left = MOST_BYTES * count;
     let mut letters = Vec::new(alloc);
     while letters.as_slice().len() < count {
@@ -129,18 +150,71 @@ fn lines_by(alloc: Global, clerks: ClerkRange, letters: &[u8]) -> Result<String,
     Ok(text)
 }
 
-/// Draws the codes of some clerks, and returns their lines. The error is `NoRandom` if the source fails, and `BadRandom` if 100
-/// bytes for each letter draw too few.
+/// Appends the office's code of these letters.
+#[tactic(auto, using(crate::proofs::NumberLemmas::groups_joined))]
+fn push_office_code(text: &mut String, letters: &[u8]) -> Result<(), AllocError>
+    requires enough { length letters.now ≡ 16 }
+    requires ascii { EachIndex letters.now (λ k. slice_index letters.now k < 128) }
+    ensures { OnOk result (string_bytes text.new ≡ string_bytes text.old ++ office_code letters.now) }
+{
+    push_letters(text, &letters[..FRONT_LETTERS])?;
+    text.push('-')?;
+    push_letters(text, &letters[FRONT_LETTERS..MIDDLE_LETTERS])?;
+    text.push('-')?;
+    push_letters(text, &letters[MIDDLE_LETTERS..LATER_LETTERS])?;
+    text.push('-')?;
+    push_letters(text, &letters[LATER_LETTERS..])?;
+    Ok(())
+}
+
+/// Appends the office's line: its name, a blank, and the code of these letters.
+#[tactic(auto, using(crate::proofs::NumberLemmas::line_joined))]
+fn push_office_line(text: &mut String, letters: &[u8]) -> Result<(), AllocError>
+    requires enough { length letters.now ≡ 16 }
+    requires ascii { EachIndex letters.now (λ k. slice_index letters.now k < 128) }
+    ensures { OnOk result (string_bytes text.new ≡ string_bytes text.old ++ office_line letters.now) }
+{
+    text.push_str(OFFICE)?;
+    text.push(' ')?;
+    push_office_code(text, letters)?;
+    text.push('\n')?;
+    Ok(())
+}
+
+/// Returns the lines of some clerks, with twelve of these letters for each; and after them the office's, with the sixteen letters
+/// that are left, if a code is made for it.
+fn text_by(
+    alloc: Global,
+    clerks: ClerkRange,
+    office: bool,
+    letters: &[u8],
+) -> Result<String, AllocError>
+    requires enough { length letters.now ≡ letters_with clerks office }
+    requires ascii { EachIndex letters.now (λ k. slice_index letters.now k < 128) }
+    ensures { IfOk result (λ text. string_bytes text ≡ text_with clerks office letters.now) }
+{
+    if !office {
+        return lines_by(alloc, clerks, letters);
+    }
+    let (own, rest) = letters.split_at(CODE_LETTERS * clerks.count());
+    let mut text = lines_by(alloc, clerks, own)?;
+    push_office_line(&mut text, rest)?;
+    Ok(text)
+}
+
+/// Draws the codes of some clerks, and of the office or not, and returns their lines. The error is `NoRandom` if the source fails,
+/// and `BadRandom` if 100 bytes for each letter draw too few.
 pub(crate) fn draw_lines<D: Draws>(
     alloc: Global,
     draws: &mut D,
     clerks: ClerkRange,
+    office: bool,
 ) -> Result<String, CodesError>
     requires { D.failed draws.old < 2 ^ 64 - 1 }
-    ensures ok { IfOk result (λ text. IsDrawn clerks (D.drawn draws.old) (D.drawn draws.new) (string_bytes text)) }
+    ensures ok { IfOk result (λ text. IsDrawn clerks office (D.drawn draws.old) (D.drawn draws.new) (string_bytes text)) }
     ensures failed { OnOk result (D.failed draws.new ≡ D.failed draws.old) }
-    ensures err { IfErr result (IsUnwritten clerks (D.failed draws.old) (D.failed draws.new) (D.drawn draws.old) (D.drawn draws.new)) }
+    ensures err { IfErr result (IsUnwritten clerks office (D.failed draws.old) (D.failed draws.new) (D.drawn draws.old) (D.drawn draws.new)) }
 {
-    let letters = draw_letters(alloc, draws, clerks)?;
-    Ok(lines_by(alloc, clerks, letters.as_slice())?)
+    let letters = draw_letters(alloc, draws, clerks, office)?;
+    Ok(text_by(alloc, clerks, office, letters.as_slice())?)
 }

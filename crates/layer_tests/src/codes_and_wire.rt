@@ -1,10 +1,12 @@
-//! Clerks' codes: their file, who is let in, how many wrong codes reach the limit, and which codes are made.
+//! Clerks' codes, and the office's: their file, who is let in, how many wrong codes reach the limit, and which codes are made.
 
 ghost use Rattle.std.specs.Prelude.{Some, take};
 
 use super::wire_requests::asks_of;
 use crate::sheet_outputs::is_text;
-use codes::{ClerkRange, Codes, CodesError, CodesFault, DrawFailed, Draws, RateLimit, make};
+use codes::{
+    ClerkRange, Codes, CodesError, CodesFault, DrawFailed, Draws, RateLimit, make, make_with_office,
+};
 use std::alloc::{AllocError, Global};
 use std::process::Abort;
 use std::test::Fail;
@@ -18,8 +20,28 @@ const FOUR: &str = "Basic NDprZjdtLTJ3eHQ=";
 
 const NINE: &str = "Basic OTp3M2hkLTRwc24=";
 
+/// A file with a code of the office.
+const WITH_OFFICE: &str = "4 kf7m-2wxt\noffice abcd-efgh-jkmn-prst\r\n9 w3hd-4psn\n";
+
+/// What the office sends with that code.
+const OFFICE: &str = "Basic b2ZmaWNlOmFiY2QtZWZnaC1qa21uLXByc3Q=";
+
+/// What may be sent to the office, and whether it is the office's: a clerk's own, nothing, the office's code under clerk 4's name,
+/// clerk 4's under the office's, the office's name in a capital, its code cut, and under another scheme.
+const TO_OFFICE: [(&str, bool); 9] = [
+    (OFFICE, true),
+    (FOUR, false),
+    (NINE, false),
+    ("", false),
+    ("Basic NDphYmNkLWVmZ2gtamttbi1wcnN0", false),
+    ("Basic b2ZmaWNlOmtmN20tMnd4dA==", false),
+    ("Basic T2ZmaWNlOmFiY2QtZWZnaC1qa21uLXByc3Q=", false),
+    ("Basic b2ZmaWNlOmFiY2QtZWZnaC1qa21uLXByc3", false),
+    ("Bearer b2ZmaWNlOmFiY2QtZWZnaC1qa21uLXByc3Q=", false),
+];
+
 /// Texts that are no files of codes, and the fault of each.
-const FAULTS: [(&str, &str); 16] = [
+const FAULTS: [(&str, &str); 24] = [
     ("4", "2 at 1"),
     ("kf7m-2wxt\n", "1 at 1"),
     ("0 kf7m-2wxt\n", "1 at 1"),
@@ -36,6 +58,23 @@ const FAULTS: [(&str, &str); 16] = [
     ("4 kf7m-2wxt\n\n4 w3hd-4psn\n", "3 at 3"),
     ("4 kf7m-2wxt\n9 kf7m-2wxt\n", "4 at 2"),
     ("# codes\n4 kf7m-2wxt\n", "1 at 1"),
+    ("Office abcd-efgh-jkmn-prst\n", "1 at 1"),
+    (" office abcd-efgh-jkmn-prst\n", "1 at 1"),
+    ("office\n", "2 at 1"),
+    ("4 kf7m-2wxt\noffice kf7m-2wxt-h4dn\n", "12 at 2"),
+    ("office abcd-efgh-jkmn-prs\n", "12 at 1"),
+    (
+        "office abcd-efgh-jkmn-prst\n\noffice jkmn-prst-abcd-efgh\n",
+        "11 at 3",
+    ),
+    (
+        "4 abcd-efgh-jkmn-prst\noffice abcd-efgh-jkmn-prst\n",
+        "4 at 2",
+    ),
+    (
+        "office abcd-efgh-jkmn-prst\n4 abcd-efgh-jkmn-prst\n",
+        "4 at 2",
+    ),
 ];
 
 /// What is asked under a clerk's number, by the values of `Authorization`.
@@ -132,6 +171,12 @@ const DRAWN: [u8; 26] = [
 
 /// The codes that these bytes draw.
 const MADE: &str = "4 abcd-a7fg-2347\n5 jkmn-prst-uwxy\n";
+
+/// Bytes that draw the office's code, one letter each.
+const DRAWN_FOR_OFFICE: [u8; 16] = [0, 1, 2, 3, 4, 5, 6, 7, 8, 9, 10, 11, 12, 13, 14, 15];
+
+/// The codes that the bytes for the clerks draw, and then these.
+const MADE_WITH_OFFICE: &str = "4 abcd-a7fg-2347\n5 jkmn-prst-uwxy\noffice abcd-efgh-jkmn-prst\n";
 
 /// What is reported of a text that is a file of codes, or isn't.
 fn fault_in(alloc: Global, text: &str) -> Result<String, AllocError> {
@@ -271,27 +316,55 @@ fn limits_wrong_codes(
     Ok(())
 }
 
+/// Whom the codes of a file with a code of the office let in.
+fn office_is_let_in(rt: &(impl Abort + AllocGlobal), held: &Codes) -> Result<(), Fail> {
+    assert!(rt; held.has_office());
+    for (sent, is_its) in &TO_OFFICE {
+        assert!(rt; held.admits_office(sent.as_bytes()) == *is_its);
+    }
+    assert!(rt; held.admits(4, FOUR.as_bytes()));
+    assert!(rt; !held.admits(4, OFFICE.as_bytes()));
+    assert!(rt; !held.admits(9, OFFICE.as_bytes()));
+    assert_eq!(rt; held.weak_clerks(), [4, 9].as_slice());
+    Ok(())
+}
+
+/// The codes of a file's text.
+fn codes_of(alloc: Global, text: &str) -> Result<Codes, Fail> {
+    match Codes::read(alloc, text.as_bytes()) {
+        Ok(held) => Ok(held),
+        Err(_) => Err(Fail::from("no codes are read")),
+    }
+}
+
 #[test]
 fn codes_of_clerks(rt: HostRuntime) -> Result<(), Fail> {
     faults_are_told(&rt)?;
-    let Ok(held) = Codes::read(rt.alloc(), FILE.as_bytes()) else {
-        return Err(Fail::from("no codes are read"));
-    };
+    let held = codes_of(rt.alloc(), FILE)?;
     asks_all(&rt, gate_of(&held))?;
     asks_beside(&rt, gate_of(&held))?;
     assert_eq!(rt; held.weak_clerks(), [4, 9].as_slice());
-    limits_wrong_codes(&rt, gate_of(&held))
+    limits_wrong_codes(&rt, gate_of(&held))?;
+    // without a line of the office nothing is the office's
+    assert!(rt; !held.has_office());
+    assert!(rt; !held.admits_office(OFFICE.as_bytes()));
+    office_is_let_in(&rt, &codes_of(rt.alloc(), WITH_OFFICE)?)
 }
 
-/// What is made for clerks 4 and 5 of these bytes: the text, or why there is none.
-fn made_of(alloc: Global, bytes: &[u8]) -> Result<String, AllocError> {
+/// What is made for clerks 4 and 5, and for the office or not, of these bytes: the text, or why there is none.
+fn made_of(alloc: Global, bytes: &[u8], office: bool) -> Result<String, AllocError> {
     let clerks = ClerkRange { first: 4, last: 5 };
     let mut known = Known {
         bytes,
         at: 0,
         failures: 0,
     };
-    match make(alloc, &mut known, clerks) {
+    let made = if office {
+        make_with_office(alloc, &mut known, clerks)
+    } else {
+        make(alloc, &mut known, clerks)
+    };
+    match made {
         Ok(text) => Ok(text),
         Err(CodesError::Fault(CodesFault::NoRandom)) => format!(in alloc; "fails at {}", known.at),
         Err(CodesError::Fault(fault)) => format!(in alloc; "{} at {}", fault.number(), known.at),
@@ -302,20 +375,58 @@ fn made_of(alloc: Global, bytes: &[u8]) -> Result<String, AllocError> {
 /// Codes are made of just the bytes that are drawn; behind such a file there is none with the same code twice.
 fn makes_codes(rt: &(impl Abort + AllocGlobal)) -> Result<(), Fail> {
     let alloc = rt.alloc();
-    is_text(rt, made_of(alloc, &DRAWN)?.as_str(), MADE);
+    is_text(rt, made_of(alloc, &DRAWN, false)?.as_str(), MADE);
     let mut twice = vec![in alloc; 0; 24]?;
     twice.extend_from_slice(&DRAWN)?;
-    is_text(rt, made_of(alloc, twice.as_slice())?.as_str(), MADE);
-    is_text(rt, made_of(alloc, &DRAWN[..25])?.as_str(), "fails at 25");
-    is_text(rt, made_of(alloc, &[])?.as_str(), "fails at 0");
-    let none = vec![in alloc; 255; 2_400]?;
-    is_text(rt, made_of(alloc, none.as_slice())?.as_str(), "10 at 2400");
+    is_text(rt, made_of(alloc, twice.as_slice(), false)?.as_str(), MADE);
+    is_text(
+        rt,
+        made_of(alloc, &DRAWN[..25], false)?.as_str(),
+        "fails at 25",
+    );
+    is_text(rt, made_of(alloc, &[], false)?.as_str(), "fails at 0");
+    let none = vec![in alloc; 255; 4_000]?;
+    is_text(
+        rt,
+        made_of(alloc, none.as_slice(), false)?.as_str(),
+        "10 at 2400",
+    );
+    is_text(
+        rt,
+        made_of(alloc, none.as_slice(), true)?.as_str(),
+        "10 at 4000",
+    );
+    Ok(())
+}
+
+/// The office's code is made of the bytes behind those of the clerks' codes.
+fn makes_with_office(rt: &(impl Abort + AllocGlobal)) -> Result<(), Fail> {
+    let alloc = rt.alloc();
+    let mut bytes = vec![in alloc; 0; 40]?;
+    bytes.extend_from_slice(&DRAWN)?;
+    is_text(
+        rt,
+        made_of(alloc, &bytes.as_slice()[40..], true)?.as_str(),
+        "fails at 26",
+    );
+    bytes.extend_from_slice(&DRAWN_FOR_OFFICE)?;
+    is_text(
+        rt,
+        made_of(alloc, bytes.as_slice(), true)?.as_str(),
+        MADE_WITH_OFFICE,
+    );
+    is_text(
+        rt,
+        made_of(alloc, &bytes.as_slice()[40..], true)?.as_str(),
+        MADE_WITH_OFFICE,
+    );
     Ok(())
 }
 
 #[test]
 fn codes_are_made(rt: HostRuntime) -> Result<(), Fail> {
     makes_codes(&rt)?;
+    makes_with_office(&rt)?;
     let Some(clerks) = ClerkRange::parse("1-40") else {
         return Err(Fail::from("no clerks"));
     };

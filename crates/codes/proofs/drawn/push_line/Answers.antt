@@ -1,7 +1,5 @@
 -- Why `push_line` keeps its promise.
-use Rattle.std.proofs.Common.{◌<◌, EachIndex, drop, slice_index, subst, sym, take}
-use Rattle.std.specs.Prelude.{List, ℕ}
-use Rattle.std.proofs.lemmas.List.{take_rest}
+use Rattle.std.proofs.Common.{drop}
 use Rattle.codes.proofs.LetterLemmas.{each_drop, each_take}
 use Rattle.codes.proofs.drawn.push_line.Goals as goal
 

@@ -1,11 +1,11 @@
--- What holds each time round the loop of `make`: none of the texts that were drawn is a file of codes.
+-- What holds each time round the loop of `make_file`: none of the texts that were drawn is a file of codes.
 use Rattle.std.proofs.Common.{◌≡◌}
 use Rattle.codes.proofs.DrawingLemmas.{HasDrawn}
-use Rattle.codes.proofs.making.make.Given as goal
+use Rattle.codes.proofs.making.make_file.Given as goal
 
 abbrev pub invariant-loop-left : goal.invariant-loop-left
 invariant-loop-left g l = record {
-  drawn : HasDrawn l.clerks (g.D.Draws.drawn l.fn.draws) (g.D.Draws.drawn l.draws) l.left;
+  drawn : HasDrawn l.clerks l.office (g.D.Draws.drawn l.fn.draws) (g.D.Draws.drawn l.draws) l.left;
   failed : g.D.Draws.failed l.draws ≡ g.D.Draws.failed l.fn.draws;
 }
 
