@@ -1,4 +1,4 @@
--- Who asks under a clerk's number, and with which code.
+-- Whose code a request needs, and which code it has.
 use Rattle.std.proofs.Common.{◌≡◌, ◌<◌, ◌+◌, ◌∷◌, Bool, true, false, List, [], Some, arith, cond, get_or, length, refl, subst, suc, take, zero, ℕ}
 use Rattle.std.specs.Prelude.{IsUtf8}
 use Rattle.std.specs.Char.{is_ascii_digit}
@@ -7,17 +7,17 @@ use Rattle.std.proofs.lemmas.Bool.{and_parts}
 use Rattle.std.proofs.lemmas.Bool.Decides.{nat_tests}
 use Rattle.std.proofs.lemmas.Str.{IsUtf8-from_ascii}
 use Rattle.std.proofs.lemmas.Str.Ascii.{IsAscii-from_all}
-use Rattle.codes.specs.Codes.{Holder}
-use Rattle.wire.specs.Gates.{kept_out_by}
+use Rattle.wire.specs.Gates.{GateEntry, kept_out_by}
+use Rattle.wire.specs.declared.account.Account.{Account}
 use Rattle.wire.specs.declared.request_error.RequestError.TheVariants.{WrongCode}
 
--- ---- the clerk, and his code
+-- ---- the code of an account
 
 -- several values are a wrong code
-pub several-wrong : (holders : List Holder) (clerk : ℕ) (values : List (List ℕ)) → 1 < length values → kept_out_by holders clerk values ≡ Some (WrongCode clerk)
-several-wrong holders clerk [] many = absurd (omega (arith, many))
-several-wrong holders clerk (value ∷ []) many = absurd (omega (arith, many))
-several-wrong holders clerk (value ∷ other ∷ more) many = refl
+pub several-wrong : (gate : GateEntry) (account : Account) (values : List (List ℕ)) → 1 < length values → kept_out_by gate account values ≡ Some (WrongCode account)
+several-wrong gate account [] many = absurd (omega (arith, many))
+several-wrong gate account (value ∷ []) many = absurd (omega (arith, many))
+several-wrong gate account (value ∷ other ∷ more) many = refl
 
 below : (d : ℕ) → is_ascii_digit d ≡ true → d < 128
 below d is = grind (arith, nat_tests)

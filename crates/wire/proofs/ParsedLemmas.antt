@@ -9,7 +9,7 @@ use Rattle.httparse.specs.Grammar.{HasNoRequest, MayBecomeRequest, RequestHead, 
 use Rattle.httparse.specs.Spans.{IsRequestOf, RequestOverflows, header_bytes, name_and_value, span_bytes}
 use Rattle.httparse.specs.declared.spans.HeaderSpan.{HeaderSpan}
 use Rattle.httparse.specs.declared.spans.RequestSpans.{RequestSpans}
-use Rattle.wire.specs.Requests.{HttpRequestEntry, Asks, IsWanting, MissesBehind, MissesBytes, asked_by, http_request_entry, asked_in, asked_of, denied, reading, wanted}
+use Rattle.wire.specs.Requests.{HttpRequestEntry, Asks, IsWanting, MissesBehind, MissesBytes, asked_by, http_request_entry, asked_in, asked_of, denied, ordered_in, reading, wanted}
 use Rattle.wire.specs.declared.request.HttpRequest.{HttpRequest}
 use Rattle.wire.specs.Bodies.{KeyingEntry, body_in, keying_of}
 use Rattle.wire.specs.Gates.{GateEntry, HttpSettingsEntry, IsAuthentication, authentication_at, authentication_entry}
@@ -24,6 +24,8 @@ use Rattle.wire.specs.declared.parsed.Head.{Head}
 use Rattle.wire.specs.declared.target.Resource.{Resource}
 use Rattle.wire.specs.declared.target.Target.{Target}
 use Rattle.wire.specs.declared.target.Target.TheVariants as target
+use Rattle.wire.specs.declared.target.OfficeTarget.TheVariants as office
+use Rattle.wire.specs.ConsoleOrders.{ConsoleOrderEntry, order_of}
 use Rattle.wire.proofs.RequestLemmas.{AsksOneThing-all, begins}
 use Rattle.wire.proofs.HeadLemmas.{HasOneHead-all, within}
 
@@ -84,6 +86,10 @@ asked_stays gate (Ok (target.Keying clerk batch)) (Err why) behind more enough =
 asked_stays gate (Ok (target.Page clerk)) size behind more enough = refl
 asked_stays gate (Ok (target.Leave clerk)) size behind more enough = refl
 asked_stays gate (Ok (target.Resource what)) size behind more enough = refl
+asked_stays gate (Ok (target.Office office.Console)) size behind more enough = refl
+asked_stays gate (Ok (target.Office office.Leave)) size behind more enough = refl
+asked_stays gate (Ok (target.Office office.Orders)) (Ok n) behind more enough = ap (λ b. ordered_in (option_and_then order_of b)) (body_stays n behind more enough)
+asked_stays gate (Ok (target.Office office.Orders)) (Err why) behind more enough = refl
 asked_stays gate (Err why) size behind more enough = refl
 
 -- a request that begins with a head, for which no byte behind it is lacking
@@ -111,6 +117,10 @@ lacks_few (Ok (target.Keying clerk batch)) (Err why) behind few = absurd (omega 
 lacks_few (Ok (target.Page clerk)) body behind few = absurd (omega (arith, few))
 lacks_few (Ok (target.Leave clerk)) body behind few = absurd (omega (arith, few))
 lacks_few (Ok (target.Resource what)) body behind few = absurd (omega (arith, few))
+lacks_few (Ok (target.Office office.Console)) body behind few = absurd (omega (arith, few))
+lacks_few (Ok (target.Office office.Leave)) body behind few = absurd (omega (arith, few))
+lacks_few (Ok (target.Office office.Orders)) (Ok n) behind few = few
+lacks_few (Ok (target.Office office.Orders)) (Err why) behind few = absurd (omega (arith, few))
 lacks_few (Err why) body behind few = absurd (omega (arith, few))
 
 lacks_none : (t : Result Target RequestError) (body : Result ℕ RequestError) (behind : List ℕ) → needed t body ≤ length behind → MissesBytes t body behind → ⊥
@@ -119,6 +129,10 @@ lacks_none (Ok (target.Keying clerk batch)) (Err why) behind enough completeness
 lacks_none (Ok (target.Page clerk)) body behind enough completeness_of = completeness_of
 lacks_none (Ok (target.Leave clerk)) body behind enough completeness_of = completeness_of
 lacks_none (Ok (target.Resource what)) body behind enough completeness_of = completeness_of
+lacks_none (Ok (target.Office office.Console)) body behind enough completeness_of = completeness_of
+lacks_none (Ok (target.Office office.Leave)) body behind enough completeness_of = completeness_of
+lacks_none (Ok (target.Office office.Orders)) (Ok n) behind enough completeness_of = omega (arith, enough, completeness_of)
+lacks_none (Ok (target.Office office.Orders)) (Err why) behind enough completeness_of = completeness_of
 lacks_none (Err why) body behind enough completeness_of = completeness_of
 
 -- what a head that was parsed lacks, its head lacks
@@ -163,6 +177,10 @@ needed_small (Ok (target.Keying clerk batch)) (Err why) fits = omega arith
 needed_small (Ok (target.Page clerk)) body fits = omega arith
 needed_small (Ok (target.Leave clerk)) body fits = omega arith
 needed_small (Ok (target.Resource what)) body fits = omega arith
+needed_small (Ok (target.Office office.Console)) body fits = omega arith
+needed_small (Ok (target.Office office.Leave)) body fits = omega arith
+needed_small (Ok (target.Office office.Orders)) (Ok n) fits = fits
+needed_small (Ok (target.Office office.Orders)) (Err why) fits = omega arith
 needed_small (Err why) body fits = omega arith
 
 pub whole_is : (settings : HttpSettingsEntry) (got : List ℕ) (head : Head) (whole : ℕ) → IsHeadOf settings got head → whole ≡ min (head.size + needed head.wanted head.body) (2 ^ 64 - 1)
@@ -277,12 +295,18 @@ asks_read settings got head (Ok (target.Keying clerk batch)) same is = tt
 asks_read settings got head (Ok (target.Page clerk)) same is = tt
 asks_read settings got head (Ok (target.Leave clerk)) same is = tt
 asks_read settings got head (Ok (target.Resource what)) same is = asks_reading settings got head what same is
+asks_read settings got head (Ok (target.Office place)) same is = tt
 asks_read settings got head (Err why) same is = tt
 
 -- a keying is no read
 no_keying : (clerk batch : ℕ) (what : Resource) (entry : Option KeyingEntry) → reading what ≡ asked_in clerk batch entry → ⊥
 no_keying clerk batch what (Some entry) is = cc is
 no_keying clerk batch what None is = cc is
+
+-- an order is no read
+no_order : (what : Resource) (entry : Option ConsoleOrderEntry) → reading what ≡ ordered_in entry → ⊥
+no_order what (Some entry) is = cc is
+no_order what None is = cc is
 
 -- what is read is what the target names
 read_of : (gate : Option GateEntry) (t : Result Target RequestError) (size : Result ℕ RequestError) (behind : List ℕ) (what : Resource)
@@ -292,6 +316,11 @@ read_of gate (Ok (target.Keying clerk batch)) (Err why) behind what is = absurd 
 read_of None (Ok (target.Page clerk)) size behind what is = absurd (cc is)
 read_of (Some gate) (Ok (target.Page clerk)) size behind what is = absurd (cc is)
 read_of gate (Ok (target.Leave clerk)) size behind what is = absurd (cc is)
+read_of None (Ok (target.Office office.Console)) size behind what is = absurd (cc is)
+read_of (Some gate) (Ok (target.Office office.Console)) size behind what is = absurd (cc is)
+read_of gate (Ok (target.Office office.Leave)) size behind what is = absurd (cc is)
+read_of gate (Ok (target.Office office.Orders)) (Ok n) behind what is = absurd (no_order what (option_and_then order_of (body_in n behind)) is)
+read_of gate (Ok (target.Office office.Orders)) (Err why) behind what is = absurd (cc is)
 read_of gate (Ok (target.Resource there)) size behind what is = let same : there ≡ what = cc is in ap Some same
 read_of gate (Err why) size behind what is = absurd (cc is)
 

@@ -4,6 +4,7 @@ pub mod Targets
 pub mod Lengths
 pub mod Origins
 pub mod Bodies
+pub mod ConsoleOrders
 pub mod Gates
 pub mod Requests
 pub mod Completeness

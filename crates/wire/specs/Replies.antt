@@ -14,6 +14,16 @@ reply_data text = object (member (codes "reply") (string text) no_members)
 abbrev pub reply_body : List ℕ → List ℕ
 reply_body text = codes "{\"reply\":" ++ (quoted text ++ codes "}")
 
+-- what came of an order: what it printed as errors, what it printed, and its status
+abbrev pub order_data : ℕ → List ℕ → List ℕ → Data
+order_data status output errors = object
+    (member (codes "errors") (string errors)
+    (member (codes "output") (string output)
+    (member (codes "status") (number (unsigned status)) no_members)))
+
+abbrev pub order_body : ℕ → List ℕ → List ℕ → List ℕ
+order_body status output errors = compact_text (order_data status output errors)
+
 -- a refusal
 abbrev pub refusal_data : ℕ → List ℕ → Data
 refusal_data n text = object (member (codes "refusal") (number (unsigned n)) (member (codes "text") (string text) no_members))

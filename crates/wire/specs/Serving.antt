@@ -20,13 +20,14 @@ use Rattle.office.specs.Sheets.{text_told}
 use Rattle.office.specs.declared.answers.Stop.{Stop}
 use Rattle.office.specs.declared.answers.Stop.TheVariants.{Refused, Fault as Failed}
 use Rattle.office.specs.declared.sheets.Text.TheVariants as text
-use Rattle.wire.specs.Requests.{HttpRequestEntry, Asks, ShowEntry, denied, keying, reading, shown}
+use Rattle.wire.specs.Requests.{HttpRequestEntry, Asks, ShowEntry, console, denied, keying, order, reading, shown}
 use Rattle.wire.specs.Bodies.{KeyingEntry}
 use Rattle.wire.specs.Gates.{HttpSettingsEntry}
 use Rattle.wire.specs.Replies.{paper_body, work_body}
 use Rattle.wire.specs.Responses.{ResponseEntry, denied_response, fault_response, json_response, refusal_response, reply_response, shown_response, text_response}
 use Rattle.wire.specs.Told.{IsTold, IsWritten, told_bytes}
 use Rattle.wire.specs.declared.request_error.RequestError.{RequestError}
+use Rattle.wire.specs.declared.request_error.RequestError.TheVariants.{NotFound}
 use Rattle.wire.specs.declared.response.Response.{Response}
 use Rattle.wire.specs.declared.serving.Served.{Served}
 use Rattle.wire.specs.declared.serving.Served.TheVariants.{Answered, ReadFailed, WriteFailed}
@@ -79,11 +80,13 @@ pub record IsOutcome (s : OfficeState) (clerk batch : ℕ) (entry : KeyingEntry)
   pub is : IsHandedOn clerk batch entry request
   pub each : (other : Request) → IsHandedOn clerk batch entry other → outcome ≡ step_of s other
 
--- the response to what is asked at a state, and the state after it
+-- The response to what is asked at a state, and the state after it. An order is followed by whoever serves the office, and not here: here nothing is found at its target.
 abbrev pub IsAnswer : OfficeState → HttpRequestEntry → OfficeState → ResponseEntry → Type 0
 IsAnswer s (denied why) next answer = (next ≡ s) × (answer ≡ denied_response why)
 IsAnswer s (shown clerk show) next answer = (next ≡ s) × (answer ≡ shown_response show)
 IsAnswer s (reading what) next answer = (next ≡ s) × (answer ≡ reading_response s what)
+IsAnswer s (console show) next answer = (next ≡ s) × (answer ≡ shown_response show)
+IsAnswer s (order entry) next answer = (next ≡ s) × (answer ≡ denied_response NotFound)
 IsAnswer s (keying clerk batch entry) next answer =
     (outcome : Outcome) × IsOutcome s clerk batch entry outcome × (next ≡ state_after s outcome) × (answer ≡ told_response (told_of outcome))
 
@@ -99,6 +102,8 @@ pub record IsAnswered (s : OfficeState) (asked : HttpRequestEntry) (answer : Res
 abbrev pub FaultLeaves : OfficeState → HttpRequestEntry → Fault → Bool → State → Type 0
 FaultLeaves s (denied why) f closed st = ⊥
 FaultLeaves s (shown clerk show) f closed st = ⊥
+FaultLeaves s (console show) f closed st = ⊥
+FaultLeaves s (order entry) f closed st = ⊥
 FaultLeaves s (reading what) f closed st = IsKeptOpen s f closed st ⊎ IsClosedReading s f closed st
 FaultLeaves s (keying clerk batch entry) f closed st =
     (outcome : Outcome) × IsOutcome s clerk batch entry outcome × (IsKeptOpen s f closed st ⊎ IsClosedIn s outcome f closed st)
@@ -125,6 +130,8 @@ abbrev pub TellsAsked : OfficeState → HttpRequestEntry → Response → List R
 TellsAsked s (denied why) response sent = IsTold (denied_response why) response × (sent ≡ [])
 TellsAsked s (shown clerk show) response sent = IsTold (shown_response show) response × (sent ≡ [])
 TellsAsked s (reading what) response sent = IsTold (reading_response s what) response × (sent ≡ [])
+TellsAsked s (console show) response sent = IsTold (shown_response show) response × (sent ≡ [])
+TellsAsked s (order entry) response sent = IsTold (denied_response NotFound) response × (sent ≡ [])
 TellsAsked s (keying clerk batch entry) response sent =
     (request : Request) × IsHandedOn clerk batch entry request × IsTold (told_response (told_of (step_of s request))) response × (sent ≡ request ∷ [])
 
@@ -143,6 +150,8 @@ TellsFor settings bytes s sent response = ((asked : HttpRequestEntry) × IfSome 
 abbrev pub closed_response : HttpRequestEntry → ResponseEntry
 closed_response (denied why) = denied_response why
 closed_response (shown clerk show) = shown_response show
+closed_response (console show) = shown_response show
+closed_response (order entry) = denied_response NotFound
 closed_response (reading what) = fault_response (fault_number Closed)
 closed_response (keying clerk batch entry) = fault_response (fault_number Closed)
 
@@ -156,6 +165,11 @@ abbrev pub IsShownAlike : ShowEntry → Type 0
 IsShownAlike show =
     (clerk : ℕ) (s t next : OfficeState) (answer : ResponseEntry) → IsAnswer s (shown clerk show) next answer
     → (next ≡ s) × IsAnswer t (shown clerk show) t answer × (answer ≡ closed_response (shown clerk show))
+
+-- and for what is shown to the office
+abbrev pub IsConsoleAlike : ShowEntry → Type 0
+IsConsoleAlike show =
+    (s t next : OfficeState) (answer : ResponseEntry) → IsAnswer s (console show) next answer → (next ≡ s) × IsAnswer t (console show) t answer × (answer ≡ closed_response (console show))
 
 -- this response is ready to be written, and if the client's bytes are known, they ask exactly that
 pub record TellsClosed (settings : HttpSettingsEntry) (bytes : Option (List ℕ)) (response : Response) : Type 0 where

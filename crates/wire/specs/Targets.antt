@@ -1,5 +1,5 @@
 -- What the targets of requests name: seven routes, as `matchit` finds them for the whole target, with numbers in them.
-use Rattle.std.specs.Prelude.{◌≡◌, ◌↔◌, ◌++◌, ◌&&◌, ◌∷◌, ◌==◌, Bool, List, [], Option, Some, None, Result, Ok, Err, codes, false, if◌then◌else◌, length, nat_le, not, option_and_then, option_map, ℕ}
+use Rattle.std.specs.Prelude.{◌≡◌, ◌↔◌, ◌++◌, ◌&&◌, ◌∷◌, ◌==◌, Bool, List, [], Option, Some, None, Result, Ok, Err, bytes_eq, codes, false, if◌then◌else◌, length, nat_le, not, option_and_then, option_map, ℕ}
 use Rattle.std.specs.Char.{is_ascii, is_ascii_digit}
 use Rattle.std.specs.List.{list_all}
 use Rattle.std.specs.Str.Parse.{digits_value}
@@ -11,11 +11,13 @@ use Rattle.matchit.specs.Rows.{RowsOf}
 use Rattle.matchit.specs.Seek.{first}
 use Rattle.matchit.specs.declared.error.InsertError.{InsertError}
 use Rattle.matchit.specs.declared.params.Params.{Params}
+use Rattle.wire.specs.declared.target.OfficeTarget.{OfficeTarget}
+use Rattle.wire.specs.declared.target.OfficeTarget.TheVariants as office
 use Rattle.wire.specs.declared.target.RouteTarget.{RouteTarget}
 use Rattle.wire.specs.declared.target.RouteTarget.TheVariants as place
 use Rattle.wire.specs.declared.target.Resource.TheVariants.{Candidates, Declaration, Sheet, Work}
 use Rattle.wire.specs.declared.target.Target.{Target}
-use Rattle.wire.specs.declared.target.Target.TheVariants.{Keying, Leave, Page, Resource}
+use Rattle.wire.specs.declared.target.Target.TheVariants.{Keying, Leave, Office, Page, Resource}
 
 -- the most digits of a number
 abbrev pub most_digits : ℕ
@@ -76,9 +78,30 @@ named_at place.Declaration taken = option_map (λ ward. Resource (Declaration wa
 abbrev pub route_of : List ℕ → Option (RouteOf RouteTarget)
 route_of target = if list_all is_ascii target then first office_routes target else None
 
--- what a target names
+-- what a target names by its route
+abbrev pub routed_by : List ℕ → Option Target
+routed_by target = option_and_then (λ (route : RouteOf RouteTarget). named_at route.value (walk route.pattern route.text target route.names 0 0)) (route_of target)
+
+-- the targets of the officer's console
+abbrev pub office_path : OfficeTarget → List ℕ
+office_path office.Console = codes "/office/"
+office_path office.Leave = codes "/office/leave"
+office_path office.Orders = codes "/office/orders"
+
+-- what of the console a target is
+abbrev pub office_by : List ℕ → Option OfficeTarget
+office_by target =
+    if bytes_eq target (office_path office.Console) then Some office.Console
+    else (if bytes_eq target (office_path office.Leave) then Some office.Leave
+    else (if bytes_eq target (office_path office.Orders) then Some office.Orders else None))
+
+-- what a target names: something of the console, or what its route leads to
+abbrev pub named_in : Option OfficeTarget → List ℕ → Option Target
+named_in None target = routed_by target
+named_in (Some place) target = Some (Office place)
+
 abbrev pub named_by : List ℕ → Option Target
-named_by target = option_and_then (λ (route : RouteOf RouteTarget). named_at route.value (walk route.pattern route.text target route.names 0 0)) (route_of target)
+named_by target = named_in (office_by target) target
 
 -- ---- the same in plain words
 
@@ -92,6 +115,7 @@ IsTargetOf (Page clerk) target = (c : List ℕ) × (target ≡ codes "/clerks/" 
 IsTargetOf (Leave clerk) target = (c : List ℕ) × (target ≡ codes "/clerks/" ++ (c ++ codes "/leave")) × (number_in c ≡ Some clerk)
 IsTargetOf (Resource (Work clerk)) target = (c : List ℕ) × (target ≡ codes "/clerks/" ++ (c ++ codes "/work")) × (number_in c ≡ Some clerk)
 IsTargetOf (Resource (Sheet ward)) target = (w : List ℕ) × (target ≡ codes "/wards/" ++ (w ++ codes "/sheet")) × (number_in w ≡ Some ward)
+IsTargetOf (Office place) target = target ≡ office_path place
 IsTargetOf (Resource (Declaration ward)) target = (w : List ℕ) × (target ≡ codes "/wards/" ++ (w ++ codes "/result")) × (number_in w ≡ Some ward)
 
 -- a target names exactly what it is the path of, and so no other target names that

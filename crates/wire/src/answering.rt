@@ -148,7 +148,7 @@ fn answer_reading<S: Alter>(alloc: Global, office: &mut Office<S>, what: Resourc
     }
 }
 
-/// Processes a request in the office, and returns the response.
+/// Processes a request in the office, and returns the response. An order isn't followed here: nothing is found at its target.
 pub(crate) fn answer<S: Alter>(
     alloc: Global,
     office: &mut Office<S>,
@@ -165,5 +165,7 @@ pub(crate) fn answer<S: Alter>(
         HttpRequest::Shown(_, show) => Response::shown(alloc, show),
         HttpRequest::Keying(keying) => answer_keying(alloc, office, keying),
         HttpRequest::Resource(what) => answer_reading(alloc, office, what),
+        HttpRequest::Console(show) => Response::shown(alloc, show),
+        HttpRequest::Order(_) => Response::denied(alloc, RequestError::NotFound),
     }
 }

@@ -2,7 +2,7 @@
 
 ghost use Rattle.std.specs.Prelude.{◌≡◌, IfOk};
 ghost use Rattle.matchit.specs.Params.{AllText};
-ghost use Rattle.wire.specs.Targets.{named_at, named_by, office_routes, parameter, taken_by};
+ghost use Rattle.wire.specs.Targets.{named_at, named_by, office_by, office_routes, parameter, routed_by, taken_by};
 
 use crate::digits::number_in;
 use matchit::{InsertError, Params, Router};
@@ -22,6 +22,17 @@ pub enum Resource {
     Declaration { ward: u32 },
 }
 
+/// What a target of the officer's console names.
+#[derive(Clone, Copy, Debug, PartialEq, Eq)]
+pub(crate) enum OfficeTarget {
+    /// The console.
+    Console,
+    /// The signing out of the office.
+    Leave,
+    /// The orders, to be sent.
+    Orders,
+}
+
 /// What a target names.
 #[derive(Clone, Copy)]
 pub(crate) enum Target {
@@ -33,6 +44,8 @@ pub(crate) enum Target {
     Leave { clerk: u32 },
     /// A resource that can be read.
     Resource(Resource),
+    /// Something of the officer's console.
+    Office(OfficeTarget),
 }
 
 /// Where a route leads.
@@ -112,6 +125,22 @@ fn named_at(place: RouteTarget, params: &Params<'_, '_>) -> Option<Target>
     }
 }
 
+/// Returns what of the officer's console a target names, if it names anything there.
+fn office_by(target: &[u8]) -> Option<OfficeTarget>
+    ensures { result ≡ office_by target.now }
+{
+    if target == b"/office/" {
+        return Some(OfficeTarget::Console);
+    }
+    if target == b"/office/leave" {
+        return Some(OfficeTarget::Leave);
+    }
+    if target == b"/office/orders" {
+        return Some(OfficeTarget::Orders);
+    }
+    None
+}
+
 /// The seven routes. A server makes them once.
 #[derive(Drop)]
 pub struct Routes {
@@ -128,9 +157,9 @@ impl Routes {
         }
     }
 
-    /// Returns what a target names, if anything is served there. Allocates nothing.
-    pub(crate) fn named_by(&self, target: &[u8]) -> Option<Target>
-        ensures { result ≡ named_by target.now }
+    /// Returns what a target names by its route, if it has one. Allocates nothing.
+    fn routed_by(&self, target: &[u8]) -> Option<Target>
+        ensures { result ≡ routed_by target.now }
     {
         if !target.is_ascii() {
             return None;
@@ -141,6 +170,16 @@ impl Routes {
         match self.router.at(text) {
             Ok(found) => named_at(*found.value, &found.params),
             Err(_) => None,
+        }
+    }
+
+    /// Returns what a target names, if anything is served there. Allocates nothing.
+    pub(crate) fn named_by(&self, target: &[u8]) -> Option<Target>
+        ensures { result ≡ named_by target.now }
+    {
+        match office_by(target) {
+            Some(place) => Some(Target::Office(place)),
+            None => self.routed_by(target),
         }
     }
 }

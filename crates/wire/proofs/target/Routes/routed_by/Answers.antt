@@ -1,8 +1,8 @@
--- Why `named_by` keeps its promise.
+-- Why `routed_by` keeps its promise.
 use Rattle.std.proofs.Common.{◌∙◌, sym}
 use Rattle.std.proofs.lemmas.Str.{IsUtf8-from_ascii}
 use Rattle.wire.proofs.TargetLemmas.{route-found}
-use Rattle.wire.proofs.target.Routes.named_by.Goals as goal
+use Rattle.wire.proofs.target.Routes.routed_by.Goals as goal
 
 pub returns-in_default : goal.returns-in_default
 returns-in_default c = absurd (c.in_default.ensures.cases.0 (IsUtf8-from_ascii c.args.target.now c.if-not-is_ascii.ensures.cases))
