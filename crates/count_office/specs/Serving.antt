@@ -3,13 +3,14 @@ use Rattle.std.specs.Prelude.{◌≡◌, ◌≢◌, ◌⊎◌, ℕ, Bool, true, 
 use Rattle.sqlite.specs.Effect.{Database}
 use Rattle.sqlite.specs.Held.{Held}
 use Rattle.sqlite.specs.State.{HasCleanDisk, State}
-use Rattle.codes.specs.Codes.{Holder, holders_of}
+use Rattle.codes.specs.Codes.{holders_of, office_of}
 use Rattle.codes.specs.declared.fault.CodesError.{CodesError}
 use Rattle.codes.specs.declared.fault.CodesError.TheVariants as read_error
 use Rattle.codes.specs.declared.holders.Codes.{Codes}
 use Rattle.connections.specs.Streams.{Stream}
 use Rattle.connections.specs.Tables.{NetworkEntry}
 use Rattle.keying_page.specs.Page.{page_text, policy_text}
+use Rattle.console_page.specs.Page.{page_text as console_text, policy_text as console_policy}
 use Rattle.register.specs.Machine.{after}
 use Rattle.register.specs.Offices.{OfficeState, empty_office}
 use Rattle.register.specs.declared.command.Request.{Request}
@@ -21,7 +22,7 @@ use Rattle.tables.specs.declared.fault.Fault.TheVariants as fault
 use Rattle.store.specs.Openings.{IsLeftAt, IsToldBy}
 use Rattle.office.specs.Answers.{IsOpenAt}
 use Rattle.office.specs.Values.{OfficeValue}
-use Rattle.wire.specs.Gates.{GateEntry}
+use Rattle.wire.specs.Gates.{GateEntry, PageEntry}
 use Rattle.wire.specs.Origins.{given_by}
 use Rattle.desk.specs.Pages.{Page, codes_page, failed}
 use Rattle.desk.specs.declared.lines.Failure.{Failure}
@@ -39,19 +40,25 @@ use Rattle.count_office.specs.declared.serving.GateSettings.{GateSettings}
 
 -- ---- what the office goes by
 
--- a gate of codes, of a page and of its policy
-abbrev pub gate_with : List Holder → List ℕ → List ℕ → GateEntry
-gate_with holders text policy = record { holders = holders; page = record { text = text; policy = policy } }
+-- a gate of codes, of the page on which clerks key, and of the console
+abbrev pub gate_with : Codes → PageEntry → PageEntry → GateEntry
+gate_with own page console = record { holders = holders_of own; page = page; office = office_of own; console = console }
+
+-- a page with its policy
+abbrev pub page_with : List ℕ → List ℕ → PageEntry
+page_with text policy = record { text = text; policy = policy }
 
 -- the gate of these files
 abbrev pub gate_at : GateFiles → GateEntry
-gate_at gate_files = gate_with (holders_of gate_files.codes) (string_bytes gate_files.page) (string_bytes gate_files.policy)
+gate_at gate_files =
+    gate_with gate_files.codes (page_with (string_bytes gate_files.page) (string_bytes gate_files.policy))
+    (page_with (string_bytes gate_files.console) (string_bytes gate_files.console_policy))
 
--- The gate: none if no file of codes is named; else the codes that were read at its path, with the page on which clerks key, and the policy of that page.
+-- The gate: none if no file of codes is named; else the codes that were read at its path, with the page on which clerks key, and the officer's console.
 abbrev pub IsGateFor : CodeFiles → Option (List ℕ) → Option GateEntry → Type 0
 IsGateFor codes_at None gate = gate ≡ None
 IsGateFor codes_at (Some path) gate = (own : Codes) × IsReadAs (codes_at path) (Ok own)
-    × (gate ≡ Some (gate_with (holders_of own) page_text policy_text))
+    × (gate ≡ Some (gate_with own (page_with page_text policy_text) (page_with console_text console_policy)))
 
 -- why there is no gate although a file is named: its codes weren't read
 abbrev pub IsUngated : CodeFiles → Option (List ℕ) → CodesError → Type 0

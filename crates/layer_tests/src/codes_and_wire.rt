@@ -94,42 +94,42 @@ const SENT: [(&str, &str, &str); 19] = [
     ("GET /clerks/4/leave", FOUR, "4 leaves"),
     ("POST /clerks/4/", FOUR, "only Get"),
     ("GET /clerks/4/nothing", FOUR, "NotFound"),
-    ("GET /clerks/4/work", "", "Unauthorized { clerk: 4 }"),
-    ("PUT /clerks/4/work", "", "Unauthorized { clerk: 4 }"),
-    ("GET /clerks/4/nothing", "", "Unauthorized { clerk: 4 }"),
-    ("GET /clerks/4/work", NINE, "WrongCode { clerk: 4 }"),
-    ("GET /clerks/9/work", FOUR, "WrongCode { clerk: 9 }"),
-    ("GET /clerks/5/work", FOUR, "WrongCode { clerk: 5 }"),
+    ("GET /clerks/4/work", "", "Unauthorized(Clerk(4))"),
+    ("PUT /clerks/4/work", "", "Unauthorized(Clerk(4))"),
+    ("GET /clerks/4/nothing", "", "Unauthorized(Clerk(4))"),
+    ("GET /clerks/4/work", NINE, "WrongCode(Clerk(4))"),
+    ("GET /clerks/9/work", FOUR, "WrongCode(Clerk(9))"),
+    ("GET /clerks/5/work", FOUR, "WrongCode(Clerk(5))"),
     // in capitals, cut, with clerk 9's name, with clerk 9's code, with another number, under another scheme
     (
         "GET /clerks/4/work",
         "Basic NDpLRjdNLTJXWFQ=",
-        "WrongCode { clerk: 4 }",
+        "WrongCode(Clerk(4))",
     ),
     (
         "GET /clerks/4/work",
         "Basic NDprZjdtLTJ3eA==",
-        "WrongCode { clerk: 4 }",
+        "WrongCode(Clerk(4))",
     ),
     (
         "GET /clerks/4/work",
         "Basic OTprZjdtLTJ3eHQ=",
-        "WrongCode { clerk: 4 }",
+        "WrongCode(Clerk(4))",
     ),
     (
         "GET /clerks/4/work",
         "Basic NDp3M2hkLTRwc24=",
-        "WrongCode { clerk: 4 }",
+        "WrongCode(Clerk(4))",
     ),
     (
         "GET /clerks/4/work",
         "Basic MDQ6a2Y3bS0yd3h0",
-        "WrongCode { clerk: 4 }",
+        "WrongCode(Clerk(4))",
     ),
     (
         "GET /clerks/4/work",
         "Bearer NDprZjdtLTJ3eHQ=",
-        "WrongCode { clerk: 4 }",
+        "WrongCode(Clerk(4))",
     ),
 ];
 
@@ -141,7 +141,7 @@ const BESIDE: [(&str, &str, &str); 5] = [
     (
         "GET /clerks/4/work",
         "Authorization: Basic NDprZjdtLTJ3eHQ=\r\nAuthorization: Basic NDprZjdtLTJ3eHQ=\r\n",
-        "WrongCode { clerk: 4 }",
+        "WrongCode(Clerk(4))",
     ),
     (
         "GET /clerks/4/work",
@@ -258,7 +258,14 @@ fn gate_of(codes: &Codes) -> HttpSettings<'_> {
     };
     HttpSettings {
         origin: None,
-        gate: Some(Gate { codes, page }),
+        gate: Some(Gate {
+            codes,
+            page,
+            console: Page {
+                text: "<p>console</p>",
+                policy: "default-src 'self'",
+            },
+        }),
     }
 }
 
@@ -297,6 +304,64 @@ fn asks_all(rt: &(impl Abort + AllocGlobal), given: HttpSettings<'_>) -> Result<
 fn asks_beside(rt: &(impl Abort + AllocGlobal), given: HttpSettings<'_>) -> Result<(), Fail> {
     for (line, headers, asked) in &BESIDE {
         asks_at(rt, given, *line, *headers, *asked)?;
+    }
+    Ok(())
+}
+
+/// What is asked of the console with this value of `Authorization`, or with none where it is empty.
+const OF_CONSOLE: [(&str, &str, &str); 10] = [
+    (
+        "GET /office/",
+        OFFICE,
+        "office sees <p>console</p> by default-src 'self'",
+    ),
+    ("GET /office/leave", OFFICE, "office leaves"),
+    ("POST /office/", OFFICE, "only Get"),
+    ("GET /office/orders", OFFICE, "only Post"),
+    ("GET /office/nothing", OFFICE, "NotFound"),
+    ("GET /office", OFFICE, "NotFound"),
+    ("GET /office/", "", "Unauthorized(Office)"),
+    ("GET /office/nothing", "", "Unauthorized(Office)"),
+    ("GET /office/", FOUR, "WrongCode(Office)"),
+    ("GET /clerks/4/work", OFFICE, "WrongCode(Clerk(4))"),
+];
+
+/// The bodies of orders, and what they ask.
+const ORDERS: [(&str, &str); 12] = [
+    (
+        r#"{"files":{},"words":["wards"]}"#,
+        "office: wards",
+    ),
+    (
+        r#"{"words":["import-candidates","n.csv","--id","c1"],"files":{"n.csv":"a,b\n"}}"#,
+        "office: import-candidates n.csv --id c1 n.csv=a,b\n",
+    ),
+    (r#"{"words":["wards"]}"#, "BadRequest"),
+    (r#"{"files":{},"words":[]}"#, "BadRequest"),
+    (r#"{"files":[],"words":["wards"]}"#, "BadRequest"),
+    (r#"{"files":{},"words":"wards"}"#, "BadRequest"),
+    (r#"{"files":{},"words":["wards",7]}"#, "BadRequest"),
+    (r#"{"files":{"a":1},"words":["wards"]}"#, "BadRequest"),
+    (r#"{"files":{},"id":"x","words":["wards"]}"#, "BadRequest"),
+    (r#"{"files":{},"words":["wards"],"xords":[]}"#, "BadRequest"),
+    (
+        r#"{"files":{"0":"","1":"","2":"","3":"","4":"","5":"","6":"","7":"","8":"","9":"","a":"","b":"","c":"","d":"","e":"","f":"","g":""},"words":["wards"]}"#,
+        "BadRequest",
+    ),
+    ("wards", "BadRequest"),
+];
+
+/// What is asked of the console, if the office has a code.
+fn asks_console(rt: &(impl Abort + AllocGlobal), given: HttpSettings<'_>) -> Result<(), Fail> {
+    for (line, value, asked) in &OF_CONSOLE {
+        asks_sent(rt, given, *line, *value, *asked)?;
+    }
+    for (body, asked) in &ORDERS {
+        let length = body.len();
+        let request = format!(in rt.alloc();
+            "POST /office/orders HTTP/1.1\r\nAuthorization: {OFFICE}\r\nContent-Length: {length}\r\n\r\n{body}"
+        )?;
+        asks_of(rt, given, request.as_bytes(), *asked)?;
     }
     Ok(())
 }
@@ -348,7 +413,11 @@ fn codes_of_clerks(rt: HostRuntime) -> Result<(), Fail> {
     // without a line of the office nothing is the office's
     assert!(rt; !held.has_office());
     assert!(rt; !held.admits_office(OFFICE.as_bytes()));
-    office_is_let_in(&rt, &codes_of(rt.alloc(), WITH_OFFICE)?)
+    asks_sent(&rt, gate_of(&held), "GET /office/", OFFICE, "NotFound")?;
+    asks_sent(&rt, gate_of(&held), "GET /office/", "", "NotFound")?;
+    let with_office = codes_of(rt.alloc(), WITH_OFFICE)?;
+    asks_console(&rt, gate_of(&with_office))?;
+    office_is_let_in(&rt, &with_office)
 }
 
 /// What is made for clerks 4 and 5, and for the office or not, of these bytes: the text, or why there is none.

@@ -10,7 +10,9 @@ use std::io::{ErrorKind, Read};
 use std::process::Abort;
 use std::test::Fail;
 use streams::{Counted, Source};
-use wire::{HttpRequest, HttpSettings, Keying, ReadFailure, RequestError, Show, read_request};
+use wire::{
+    ConsoleOrder, HttpRequest, HttpSettings, Keying, ReadFailure, RequestError, Show, read_request,
+};
 
 /// How long a head may be, in bytes, how many headers it may have, and how long a body may be.
 const MAX_HEAD_BYTES: usize = 8192;
@@ -59,8 +61,8 @@ fn denial_words(alloc: Global, why: &RequestError) -> Result<String, AllocError>
     }
 }
 
-/// What a clerk is shown, in short.
-fn shown_words(alloc: Global, clerk: u32, what: &Show<'_>) -> Result<String, AllocError> {
+/// What a clerk or the office is shown, in short.
+fn shown_words(alloc: Global, clerk: &str, what: &Show<'_>) -> Result<String, AllocError> {
     match what {
         Show::Page(page) => {
             let (text, policy) = (page.text, page.policy);
@@ -70,11 +72,27 @@ fn shown_words(alloc: Global, clerk: u32, what: &Show<'_>) -> Result<String, All
     }
 }
 
+/// An order, in short: its words, and its files.
+fn order_words(alloc: Global, order: &ConsoleOrder) -> Result<String, AllocError> {
+    let mut text = String::from_str(alloc, "office:")?;
+    for word in &order.words {
+        write!(text, " {}", word.as_str())?;
+    }
+    for file in &order.files {
+        write!(text, " {}={}", file.name.as_str(), file.text.as_str())?;
+    }
+    Ok(text)
+}
+
 /// What a request asks, or why it wasn't read, in short.
 fn words_of(alloc: Global, came: &Result<HttpRequest, ReadFailure>) -> Result<String, AllocError> {
     match came {
         Ok(HttpRequest::Keying(keying)) => keying_words(alloc, keying),
-        Ok(HttpRequest::Shown(clerk, what)) => shown_words(alloc, *clerk, what),
+        Ok(HttpRequest::Shown(clerk, what)) => {
+            shown_words(alloc, format!(in alloc; "{clerk}")?.as_str(), what)
+        }
+        Ok(HttpRequest::Console(what)) => shown_words(alloc, "office", what),
+        Ok(HttpRequest::Order(order)) => order_words(alloc, order),
         Ok(HttpRequest::Resource(what)) => format!(in alloc; "{what:?}"),
         Ok(HttpRequest::Denied(why)) => denial_words(alloc, why),
         Err(ReadFailure::Broken) => String::from_str(alloc, "broken"),

@@ -263,6 +263,10 @@ fn terms_of(held: &Option<Codes>) -> ServerSettings<'_, Unaided> {
                 text: "<p>keying</p>",
                 policy: "default-src 'none'",
             },
+            console: Page {
+                text: "<p>console</p>",
+                policy: "default-src 'self'",
+            },
         }),
         None => None,
     };
