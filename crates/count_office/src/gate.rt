@@ -32,12 +32,16 @@ pub fn read_gate_files<H: Host>(
         return Ok(None);
     };
     let codes = host.read_codes(path)?;
+    let page = keying_page::page_text(alloc)?;
+    let policy = keying_page::policy_text(alloc)?;
+    let console = console_page::page_text(alloc)?;
+    let console_policy = console_page::policy_text(alloc)?;
     Ok(Some(GateFiles {
         codes,
-        page: keying_page::page_text(alloc)?,
-        policy: keying_page::policy_text(alloc)?,
-        console: console_page::page_text(alloc)?,
-        console_policy: console_page::policy_text(alloc)?,
+        page,
+        policy,
+        console,
+        console_policy,
     }))
 }
 
