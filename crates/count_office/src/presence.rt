@@ -83,6 +83,11 @@ impl<'a> Presence<'a> {
         })
     }
 
+    /// Returns the path of the database.
+    pub fn database(&self) -> &str {
+        self.found.database()
+    }
+
     /// Whether both files are still at their paths, are the same, and weren't cut since the last look. When that is first seen to be
     /// otherwise, a line on the error output says so.
     pub fn is_whole(&self, rt: &HostRuntime) -> bool {

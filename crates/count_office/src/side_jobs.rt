@@ -20,12 +20,28 @@ pub struct LocalJobs<'a> {
     pub presence: Presence<'a>,
 }
 
-/// A path as it is seen from a folder.
+/// Returns a path as it is seen from a folder.
 fn path_from(alloc: Global, folder: &str, path: &str) -> Result<String, AllocError> {
     if path.starts_with('/') {
         return String::from_str(alloc, path);
     }
     format!(in alloc; "{folder}/{path}")
+}
+
+/// Returns a path as it is seen from the folder of a file.
+fn path_next_to(alloc: Global, file: &str, path: &str) -> Result<String, AllocError> {
+    match file.rsplit_once('/') {
+        Some((folder, _)) => path_from(alloc, folder, path),
+        None => String::from_str(alloc, path),
+    }
+}
+
+/// Returns the path of a copy. A copy that the console orders is made next to the database: its folder is empty.
+fn path_of_copy(alloc: Global, database: &str, to: Destination<'_>) -> Result<String, AllocError> {
+    if to.folder.is_empty() {
+        return path_next_to(alloc, database, to.path);
+    }
+    path_from(alloc, to.folder, to.path)
 }
 
 impl SideJobs for LocalJobs<'_> {
@@ -42,7 +58,7 @@ impl SideJobs for LocalJobs<'_> {
         out: &mut O,
         err: &mut E,
     ) -> u8 {
-        match path_from(self.rt.alloc(), to.folder, to.path) {
+        match path_of_copy(self.rt.alloc(), self.presence.database(), to) {
             Ok(path) => copy_served(self.rt, office, path.as_str(), out, err),
             Err(AllocError) => tell_failure(Failure::Office(Fault::Memory), err),
         }
