@@ -1,8 +1,8 @@
-"""A stand-in for the server's side of the console: it serves the page, and does each request by running the program on the office's file.
+"""A stand-in for the server of the officer's console: it serves the page, and answers each request by running the program on an office.
 
-Each JSON is made of what the orders print, by docs/CONSOLE-API.md. The candidates of a ward that isn't sealed are in no order's output but
-the journal's, so their names, and a batch's ward, come from a copy of the file. It checks the code, and what a browser says of its page.
-`python3 -m office_tools.console_mock FILE PORT CODE`, in tools/, serves an office.
+Each JSON is made from the output of the orders, as docs/CONSOLE-API.md says. The candidates of a ward that isn't sealed are in no order's
+output but the journal's, so their names, and the ward of a batch, come from a copy of the file. It checks the code, and the headers by
+which a browser says where a request comes from. In tools/, `python3 -m office_tools.console_mock FILE PORT CODE` serves an office.
 """
 import hmac
 import json
@@ -18,7 +18,7 @@ import zlib
 from http.server import BaseHTTPRequestHandler
 from pathlib import Path
 
-from office_tools.console_page import page_and_policy
+from office_tools.checks.page import CONSOLE, page_of_sources
 from office_tools.office import program
 from office_tools.web import HERE, basic
 
@@ -40,8 +40,7 @@ DUE = re.compile(r"stage (\d+) (?:comes next, (first preferences|surplus|exclusi
 TARGETS = {name: re.compile(rf"/office/{pattern}") for name, pattern in {
     "page": "", "wards": "wards", "ward": r"wards/([1-9]\d{0,4})", "batches": r"wards/([1-9]\d{0,4})/batches", "index": "index",
     "waiting": "waiting", "doubtful": r"wards/([1-9]\d{0,4})/doubtful", "ward_page": r"wards/([1-9]\d{0,4})/page", "leave": "leave",
-        "orders": "orders",
-    "differences": r"batches/([1-9]\d{0,4})/differences", "papers": r"batches/([1-9]\d{0,4})/papers",
+    "orders": "orders", "differences": r"batches/([1-9]\d{0,4})/differences", "papers": r"batches/([1-9]\d{0,4})/papers",
     "receipts": r"receipts(?:\?actor=(0|[1-9]\d{0,4}))?"}.items()}
 STEPS = {"the close of nominations comes next": "nominations", "no batch is given out yet": "batches", "the seal comes next": "seal",
          "the seal comes once all are taken and judged": "papers", "the declaration comes next": "declaration"}
@@ -56,7 +55,7 @@ def lines(text):
 
 
 def preferences_in(marks):
-    """Returns the places that marks prefer: those of 1, 2, 3, .. as long as each is there once."""
+    """Returns the places of the numbers 1, 2, 3, .. in marks, up to the first number that isn't there exactly once."""
     fields, found = marks.split(","), []
     while fields.count(str(len(found) + 1)) == 1:
         found.append(fields.index(str(len(found) + 1)))
@@ -64,7 +63,7 @@ def preferences_in(marks):
 
 
 class Machine:
-    """The program on the file of an office, and what its orders print."""
+    """The program on the file of an office, and the output of its orders."""
 
     def __init__(self, town, title=""):
         self.town, self.title, self.lock, self.kept, self.stamp = Path(town).resolve(), title, threading.RLock(), {}, None
@@ -74,7 +73,7 @@ class Machine:
         return ended.returncode, ended.stdout.decode(), ended.stderr.decode()
 
     def output(self, *words):
-        """Returns what an order prints. While the file is as it was, it is asked once."""
+        """Returns what an order prints. The order is run once while the file stays the same."""
         log = self.town.with_name(self.town.name + "-wal")
         stamp = [zlib.crc32(path.read_bytes()) for path in (self.town, log) if path.exists() and path.stat().st_size > EMPTY_LOG]
         if stamp != self.stamp:
@@ -90,7 +89,7 @@ class Machine:
         return out
 
     def asked(self, statement, *values):
-        """Returns the rows of a table, from a copy of the file."""
+        """Returns the rows that a statement selects, from a copy of the file."""
         with tempfile.TemporaryDirectory() as folder:
             for ending in ("", "-wal"):
                 if (path := self.town.with_name(self.town.name + ending)).exists():
@@ -111,16 +110,15 @@ class Machine:
     def with_count(self, **members):
         return {**members, "receipts": self.output("receipts").count("\n")}
 
-    # The reads, each by its name in TARGETS.
+    # The reads, each with its name in TARGETS.
 
     def batch_list(self, ward):
         found = []
         for line in lines(self.output("batches", ward)):
             number, at, size, clerks, standing, doubtful, twin = BATCH.fullmatch(line).groups()
-            found.append({"batch": int(number),
-                "clerks": [{"clerk": int(clerk), "keyed": not has_not} for clerk, has_not in CLERK.findall(clerks)],
-                          "doubtful_open": int(doubtful), "round": int(at), "size": int(size), "standing": standing,
-                              "twin": int(twin or 0)})
+            keyed = [{"clerk": int(clerk), "keyed": not has_not} for clerk, has_not in CLERK.findall(clerks)]
+            found.append({"batch": int(number), "clerks": keyed, "doubtful_open": int(doubtful), "round": int(at), "size": int(size),
+                          "standing": standing, "twin": int(twin or 0)})
         return found
 
     def ward_of(self, line):
@@ -151,8 +149,8 @@ class Machine:
                 if tied == words or tied.startswith(words + ", "):
                     found.append(each["candidate"])
                     tied = tied[len(words) + 2:]
-            return {"decides": "exclusion" if decides == "who is excluded" else "surplus", "stage": int(stage), "step": "lot",
-                "tied": found}
+            decides = "exclusion" if decides == "who is excluded" else "surplus"
+            return {"decides": decides, "stage": int(stage), "step": "lot", "tied": found}
         last = text.rsplit(", ", 1)[-1]
         return {"step": STEPS.get(last, "nothing")}
 
@@ -172,8 +170,8 @@ class Machine:
                 for clerk in pile["clerks"] if pile["standing"] == "waiting" else ():
                     if not clerk["keyed"]:
                         found.setdefault(clerk["clerk"], []).append(pile["batch"])
-        return self.with_count(waiting=[{"batches": len(piles), "clerk": clerk, "first": sorted(piles)[:12]} for clerk,
-            piles in sorted(found.items())])
+        tellers = [{"batches": len(piles), "clerk": clerk, "first": sorted(piles)[:12]} for clerk, piles in sorted(found.items())]
+        return self.with_count(waiting=tellers)
 
     def doubtful(self, ward):
         candidates, papers = self.candidates(ward), []
@@ -193,7 +191,7 @@ class Machine:
         candidates = self.candidates(self.asked("SELECT ward FROM batch WHERE batch = ?", int(batch))[0][0])
 
         def named(text):
-            """Returns the candidates whom `1 Ann, 2 Cy` names."""
+            """Returns the candidates in a list such as `1 Ann, 2 Cy`."""
             found = []
             while text:
                 place = len(found) + 1
@@ -212,8 +210,8 @@ class Machine:
 
     def receipts(self, actor):
         found = [RECEIPT.fullmatch(line).groups() for line in lines(self.output("receipts", *([actor] if actor else [])))]
-        return {"receipts": [{"actor": int(actor), "id": name, "reply": reply, "subject": subject} for actor, name, subject,
-            reply in found]}
+        return {"receipts": [{"actor": int(actor), "id": name, "reply": reply, "subject": subject}
+                             for actor, name, subject, reply in found]}
 
     def titled(self):
         return ["--title", self.title] if self.title else []
@@ -228,7 +226,7 @@ class Machine:
         return {"left": True}
 
     def order(self, body):
-        """Does an order with the files that came with it, and returns what it printed."""
+        """Runs an order with the files that came with it, and returns what it printed."""
         try:
             asked = json.loads(body)
             words, files = asked["words"], asked["files"]
@@ -252,7 +250,7 @@ class Machine:
 
 
 class Asked(BaseHTTPRequestHandler):
-    """A request to the console's server."""
+    """A request to the server of the console."""
 
     protocol_version = "HTTP/1.1"
     TEXTS = {400: "bad request", 401: "unauthorized", 403: "forbidden", 404: "not found", 405: "method not allowed", 413: "too large"}
@@ -262,8 +260,8 @@ class Asked(BaseHTTPRequestHandler):
         text = body if isinstance(body, str) else json.dumps(body, separators=(",", ":"), sort_keys=True, ensure_ascii=False)
         sends = text.encode()
         self.send_response(status)
-        for name, value in {"Content-Type": kind, "Content-Length": len(sends), "Cache-Control": "no-store", "Connection": "close",
-            **more}.items():
+        headers = {"Content-Type": kind, "Content-Length": len(sends), "Cache-Control": "no-store", "Connection": "close", **more}
+        for name, value in headers.items():
             self.send_header(name, str(value))
         self.end_headers()
         self.wfile.write(sends)
@@ -277,8 +275,8 @@ class Asked(BaseHTTPRequestHandler):
         server.asked.append(f"{method} {self.path}")
         length = int(self.headers.get("Content-Length") or 0)
         body = self.rfile.read(min(length, MOST + 1)) if method == "POST" else b""
-        if self.headers.get("Origin", server.origin) != server.origin or self.headers.get("Sec-Fetch-Site",
-            "none") not in ("same-origin", "none"):
+        site = self.headers.get("Sec-Fetch-Site", "none")
+        if self.headers.get("Origin", server.origin) != server.origin or site not in ("same-origin", "none"):
             return self.deny(403)
         if not hmac.compare_digest(self.headers.get("Authorization", ""), basic("office", server.code)):
             return self.deny(401, **{"WWW-Authenticate": 'Basic realm="office", charset="UTF-8"'})
@@ -290,9 +288,9 @@ class Asked(BaseHTTPRequestHandler):
         if length > MOST:
             return self.deny(413)
         if name == "page":
-            page, policy = page_and_policy()
-            return self.reply(200, page, **{"Content-Security-Policy": policy, "X-Frame-Options": "DENY",
-                "X-Content-Type-Options": "nosniff"})
+            page, policy = page_of_sources(CONSOLE)
+            more = {"Content-Security-Policy": policy, "X-Frame-Options": "DENY", "X-Content-Type-Options": "nosniff"}
+            return self.reply(200, page, **more)
         try:
             with server.machine.lock:
                 said = server.machine.order(body) if name == "orders" else getattr(server.machine, name)(*found.groups())
@@ -311,11 +309,11 @@ class Asked(BaseHTTPRequestHandler):
         self.answer("POST")
 
     def log_message(self, *_):
-        """Nothing is written of a request."""
+        """Logs nothing."""
 
 
 class ConsoleMock(socketserver.ThreadingTCPServer):
-    """Serves the console of an office. Of the next `cuts` orders it does each, and breaks the line."""
+    """Serves the console of an office. It runs each of the next `cuts` orders, and closes the connection without a response."""
 
     allow_reuse_address = daemon_threads = True
     request_queue_size = 64
@@ -327,7 +325,7 @@ class ConsoleMock(socketserver.ThreadingTCPServer):
         threading.Thread(target=self.serve_forever, args=[0.02], daemon=True).start()
 
     def handle_error(self, *_):
-        """A connection that breaks is no fault of the server."""
+        """Ignores a connection that breaks."""
 
     def close(self, *_):
         self.shutdown()

@@ -1,11 +1,11 @@
-"""A returning officer at the console in Chromium, and the office whose console it is, served by the stand-in of console_mock.py."""
+"""A returning officer who uses the console in Chromium, and an office whose console console_mock.py serves."""
 import json
 
 from office_tools.console_mock import ConsoleMock
 from office_tools.office import SCRIPT, TOWN, Office, Wrong, free_port
 
 CODE, TITLE = "kf7m2wxth4dnw3hd4psn", "Election of 6 May 2027, Harbour Council"
-# How many seconds something may take on a machine that does much else.
+# How many seconds to wait for the page on a busy machine.
 PATIENCE = 120
 WIDTHS = ((1280, 900), (800, 900), (400, 900))
 
@@ -18,14 +18,14 @@ class Officer:
 
     def open(self, part=""):
         self.browser.open(self.evening.address(part))
-        self.shows("As of", "health")
+        self.shows("Updated at", "health")
 
     def shows(self, words, part="result"):
-        """Waits until a part of the page has these words."""
+        """Waits until an element of the page shows these words."""
         self.browser.until(f"document.getElementById('{part}')?.innerText.includes({json.dumps(words)})", PATIENCE)
 
     def go(self, part, ward=0):
-        """Goes to a part by its button, and to a ward by the list of wards."""
+        """Opens a section by its tab, and chooses a ward from the list."""
         self.click(f"tab {part}")
         if ward:
             self.has(f"ward {part}")
@@ -35,7 +35,7 @@ class Officer:
         self.drawn()
 
     def drawn(self):
-        """Waits until what is shown is of the part and the ward that were chosen last."""
+        """Waits until the section and the ward that were chosen last are shown."""
         self.browser.until("!document.body.classList.contains('stale')", 300)
 
     def found(self, key):
@@ -56,7 +56,7 @@ class Officer:
         self.browser.call("Input.insertText", text=str(text))
 
     def drop(self, place, **files):
-        """Drops files on a place."""
+        """Drops files on an element."""
         given = json.dumps([[name.replace("_", "-") + ".csv", "".join(f"{line}\n" for line in lines)] for name, lines in files.items()])
         self.browser.value(f"""(() => {{ const data = new DataTransfer();
             for (const [name, text] of {given}) data.items.add(new File([text], name));
@@ -64,14 +64,14 @@ class Officer:
             document.getElementById('{place}').dispatchEvent(event); }})()""")
 
     def asked(self, *words):
-        """Waits until something is asked, and sees that all of these words are read back."""
+        """Waits for a confirmation dialog, and checks that it has all of these words."""
         self.browser.until("document.getElementById('ask').open")
         text = self.browser.value("document.getElementById('ask').innerText")
         if missing := [word for word in words if word not in text]:
-            raise Wrong(f"{missing} isn't read back: {text!r}")
+            raise Wrong(f"the dialog lacks {missing}: {text!r}")
 
     def yes(self, *words, said="Done"):
-        """Confirms what is asked, and waits for the reply."""
+        """Confirms a dialog, and waits for the reply."""
         self.asked(*words)
         self.forget()
         self.browser.press("y")
@@ -82,7 +82,7 @@ class Officer:
         self.browser.value("document.getElementById('result').hidden = true")
 
     def tab_to(self, key):
-        """Reaches an element by the key Tab alone."""
+        """Reaches an element with the Tab key alone."""
         self.has(key)
         for _ in range(120):
             if self.browser.value("document.activeElement?.dataset?.key ?? ''") == key:
@@ -99,7 +99,7 @@ class Officer:
 
 
 class Evening:
-    """An office, its console, and the pictures that are asked for."""
+    """An office, its console, and the folder for pictures."""
 
     def __init__(self, folder, pictures):
         self.folder, self.pictures = folder, pictures

@@ -1,9 +1,10 @@
 """Checks that the pages for clerks and for the returning officer may run their own script and style, and nothing else.
 
-A page of crates/keying_page or crates/console_page is ASCII, has one script and one style, loads nothing from elsewhere, makes no markup of
-a text, and has no style or handler in an attribute, which its policy forbids. The page and the policy that the code of its crate makes are
-those of the crate's definitions, byte for byte. If COUNT_OFFICE names a program, it serves an office, and the page and the policy of its
-response are compared with the sources: the page byte for byte, and in the policy the SHA-256 of the script and of the style that were served.
+A page of crates/keying_page or crates/console_page is ASCII, has one script and one style, loads nothing from elsewhere, makes no markup
+of a text, and has no style or handler in an attribute, which its policy forbids. The page and the policy that the code of the crate makes
+are those of the crate's definitions, byte for byte. If COUNT_OFFICE names a program, it serves an office, and the clerks' page and the
+policy of its response are compared with the sources: the page byte for byte, and in the policy the SHA-256 of the script and of the style
+that were served.
 """
 import base64
 import hashlib
@@ -79,9 +80,8 @@ def wrong_in(page):
 def wrong_defined(crate):
     """Returns what of the page that the code of a crate makes, and of its policy, is otherwise than in the crate's definitions."""
     made, defined = page_of_sources(crate), page_of_definitions(crate)
-    named = [directive.split(" ", 1)[1] for directive in made[1].split("; ") if "'sha256-" in directive]
-    wrong = [] if named == [hash_source(inner(made[0], name)) for name in PARTS] else ["the policy names another script or style than the page has"]
-    return wrong + [f"{what} isn't that of the definitions" for what, one, other in zip(("the page", "the policy"), made, defined) if one != other]
+    wrong = [] if all(f"{name}-src {hash_source(inner(made[0], name))};" in made[1] for name in PARTS) else ["the policy has another hash"]
+    return wrong + [f"the {what} isn't that of the definitions" for what, one, other in zip(("page", "policy"), made, defined) if one != other]
 
 
 def wrong_served(page, policy):

@@ -1,10 +1,10 @@
-"""Plays the guide's evening through the officer's console in Chromium alone, a part of it by keyboard, and compares it with typed orders.
+"""Plays the guide's evening on the officer's console in Chromium, partly by keyboard alone, and compares the result with typed orders.
 
-The server's side of the console is the stand-in of console_mock.py, which runs the program's own orders. Tellers' keyings come as files
-that are dropped on the console, and one as an order that is typed next to it. Lines break after an order was done, the server is gone for
-a while, the page is loaded again with an order under way, two consoles are open, the file can't be read, and a page from elsewhere and a
-wrong code are denied. At the end the office has the rows that the typed orders make, but for the ids. Pictures at 1280, 800 and 400 pixels
-go into the folder PICTURES. It needs the programs `chromium` and `node`.
+console_mock.py stands in for the server, and runs the program's own orders. Tellers' keyings are dropped on the console as files, and one
+is typed as an order beside it. Connections break after an order was done, the server stops for a while, the page is reloaded while an
+order is being sent, two consoles are open, the file can't be read, and a wrong code and a page from elsewhere are denied. At the end the
+office has the rows that the typed orders make, except for the ids. Pictures at 1280, 800 and 400 pixels go into the folder PICTURES.
+It needs `chromium`.
 """
 import json
 import sqlite3
@@ -12,9 +12,7 @@ import time
 from pathlib import Path
 
 from office_tools.browser import Browser
-from office_tools.checks.page import wrong_script
 from office_tools.console_officer import CODE, PATIENCE, TITLE, Evening, Officer
-from office_tools.console_page import page_and_policy
 from office_tools.office import TOWN, Office, Wrong, needs, temporary_folder
 from office_tools.web import ask, basic, request, status
 
@@ -23,7 +21,7 @@ HEAD = {batch: {clerk: f"paper {batch}/{clerk},1,2,3,4" for clerk in (4, 5, 9)} 
 TWELVE = ["1,1,2,,", "2,1,2,,", "3,1,2,,", "4,1,,2,", "5,1,,,2", "6,D,,,", "7,1,,,", "8,,,,"]
 THIRTEEN = ["1,,1,,", "2,,1,,", "3,,1,,", "4,,,1,", "5,,,2,1", "6,D,,,"]
 OTHER = [*THIRTEEN[:4], "5,,,1,2", THIRTEEN[5]]
-# The guide's orders, as they are typed: what the console has to come to.
+# The guide's orders as they are typed: the console has to make the same office.
 TYPED = """ward 7 2 Harbour
 ward 8 2 Quay
 candidate 7 1 Ann
@@ -74,14 +72,14 @@ class GuideEvening(Evening):
             self.declaring(officer)
             self.compare()
             self.elsewhere(browser)
-            # A server that is gone, and a file that can't be read, are played above.
+            # The server was stopped, and the file couldn't be read, on purpose.
             strange = [line for line in browser.said if "ERR_" not in line and "status of 503" not in line]
             if strange:
                 raise Wrong(f"the browser said {strange[:5]}")
         self.mock.close()
 
     def compare(self):
-        """Plays the orders as they are typed, and compares all rows, but for the ids of receipts."""
+        """Plays the typed orders, and compares all rows except for the ids of receipts."""
         typed = Office(self.folder / "typed").begin([f"{line} --id i{number}" for number, line in enumerate(TYPED)])
         found, wanted = [dict(office.rows()) for office in (self.office, typed)]
         for rows in (found, wanted):
@@ -90,12 +88,11 @@ class GuideEvening(Evening):
             raise Wrong(f"the console's office has other rows of {differing}")
 
     def elsewhere(self, browser):
-        """A wrong code, a clerk's name, and a page from elsewhere aren't let in."""
+        """Checks that a wrong code, a clerk's name and a page from elsewhere are denied."""
+        right = f"Authorization: {basic('office', CODE)}"
         for headers, wanted in (((), 401), ((f"Authorization: {basic('office', 'wrong')}",), 401),
-            ((f"Authorization: {basic('4', CODE)}",), 401),
-                                ((f"Authorization: {basic('office', CODE)}", "Origin: http://elsewhere.example"), 403),
-                                ((f"Authorization: {basic('office', CODE)}", "Sec-Fetch-Site: cross-site"), 403),
-                                ((f"Authorization: {basic('office', CODE)}",), 200)):
+                                ((f"Authorization: {basic('4', CODE)}",), 401), ((right, "Origin: http://elsewhere.example"), 403),
+                                ((right, "Sec-Fetch-Site: cross-site"), 403), ((right,), 200)):
             if (found := status(ask(self.port, request("/office/wards", *headers)))) != wanted:
                 raise Wrong(f"{headers}: {found}")
 
@@ -110,7 +107,7 @@ class GuideEvening(Evening):
             if number == 7:
                 browser.until("document.getElementById('ask').open")
                 officer.picture("2-ask-ward")
-            officer.yes(f"Add ward {number}", name, "It elects 2")
+            officer.yes(f"Add ward {number}", name, "2 seats")
         officer.go("nominations", 7)
         officer.type("candidate-number", 1)
         officer.type("candidate-name", "Ann")
@@ -118,30 +115,30 @@ class GuideEvening(Evening):
         officer.submit("add-candidate")
         officer.shows("candidate 1 of ward 7 added")
         officer.drop("drop-candidates", names=[*NAMES[:3], "7,3,Dee", *NAMES[4:]])
-        officer.shows("this number is twice in the file", "preview")
+        officer.shows("This number is in the file twice", "preview")
         officer.picture("3-preview-wrong")
         officer.drop("drop-candidates", names=NAMES)
-        officer.shows("will be added", "preview")
+        officer.shows("Will be added", "preview")
         self.mock.cuts = 1
         officer.click("send-file")
         officer.shows("Not confirmed yet", "unsent")
         officer.picture("4-not-confirmed")
-        officer.shows("candidates from the file")
+        officer.shows("candidates from names.csv")
         officer.click("withdraw 5")
         officer.yes("Withdraw 5 Gil?")
         officer.picture("5-nominations")
-        for ward, names, outcome in ((7, ("1 Ann", "4 Dee"), "will be polled"), (8, ("1 Eve, jr", "2 Fay"), "no poll")):
+        for ward, names, outcome in ((7, ("1 Ann", "4 Dee"), "will be a poll"), (8, ("1 Eve, jr", "2 Fay"), "no poll")):
             officer.go("nominations", ward)
             officer.shows(f"Ward {ward}", "nominated")
             officer.click("close")
-            officer.yes(f"Ward {ward}", *names, outcome, said="closed")
+            officer.yes(f"Ward {ward}", *names, outcome, said="close nominations")
 
     def reloaded(self, officer):
-        """What was typed is there again when the page is loaded again."""
+        """Reloads the page, and checks that what was typed is still there."""
         officer.browser.reload()
-        officer.shows("As of", "health")
+        officer.shows("Updated at", "health")
         if officer.browser.value("document.getElementById('candidate-name').value") != "Ann":
-            raise Wrong("what was typed isn't kept")
+            raise Wrong("what was typed is lost")
 
     def papers(self, officer):
         browser = officer.browser
@@ -154,17 +151,17 @@ class GuideEvening(Evening):
         officer.shows("14 of 14 expected papers", "give-preview")
         officer.picture("6-giving-out")
         officer.submit("give-out")
-        officer.yes("2 batches, 14 papers", "Batch 12", "8 papers", "Batch 13", "6 papers", "tellers 4 and 9")
+        officer.yes("2 batches, 14 papers", "Batch 12", "8 papers", "Batch 13", "6 papers", "Tellers 4 and 9")
         browser.value("document.getElementById('bring').open = true")
         officer.drop("drop-keyings", k4_12=[HEAD[12][4], *TWELVE[:3], "4,1,,2", *TWELVE[4:]])
         officer.shows("file fault 2 at record 4", "brought")
         officer.picture("7-file-fault")
         officer.drop("drop-keyings", k4_12=[HEAD[12][4], *TWELVE], k4_13=[HEAD[13][4], *THIRTEEN], k9_13=[HEAD[13][9], *OTHER],
             nobody=["paper,1,2", "1,1,"])
-        officer.shows("doesn\u2019t say whose it is", "brought")
+        officer.shows("doesn\u2019t name its batch and teller", "brought")
         browser.until("document.getElementById('brought').innerText.split('accepted').length === 4", PATIENCE)
         officer.picture("8-batches")
-        # An order that is typed next to the console is seen on it by itself.
+        # The console shows an order that was typed beside it.
         self.office.do("key", 9, 12, 1, *[line.split(",", 1)[1] if "D" not in line else "D" for line in TWELVE], "--id", "typed")
         officer.shows("Agreed", "batch-list")
         officer.go("overview")
@@ -188,11 +185,11 @@ class GuideEvening(Evening):
         officer.drop("drop-keyings", k5_13=[HEAD[13][5], *THIRTEEN])
         officer.shows("teller 5, round 2: accepted", "brought")
         officer.click("papers 12")
-        officer.shows("no first preference", "batch-list")
+        officer.shows("Rejected: no first preference", "batch-list")
         officer.picture("12-read-back")
 
     def third_in_two_windows(self, officer):
-        """A second console sets the third teller, while the first one shows the batch."""
+        """Adds the third teller on a second console, while the first one shows the batch."""
         other = Officer(officer.browser.another(), self)
         other.open("#batches/7")
         other.click("third 13")
@@ -205,11 +202,11 @@ class GuideEvening(Evening):
         officer.browser.until("![...document.querySelectorAll('[data-key]')].some((it) => it.dataset.key === 'third 13')", PATIENCE)
 
     def adjudication(self, officer):
-        """By keyboard alone; the server is gone for a while, and the page is loaded again with a verdict under way."""
+        """Judges by keyboard alone. The server stops for a while, and the page is reloaded while a verdict is being sent."""
         browser = officer.browser
         browser.value("document.activeElement.blur()")
         browser.press("1")
-        officer.shows("2 doubtful papers to be judged", "steps")
+        officer.shows("2 doubtful papers to judge", "steps")
         officer.picture("13-overview-doubtful")
         officer.press_on("step doubtful 7")
         officer.shows("Batch 12, paper 6", "judging")
@@ -241,7 +238,7 @@ class GuideEvening(Evening):
         officer.picture("17-judged")
 
     def counting(self, officer):
-        """By keyboard alone up to the lot."""
+        """Counts, by keyboard alone up to the lot."""
         browser = officer.browser
         browser.value("document.activeElement.blur()")
         browser.press("6")
@@ -253,7 +250,7 @@ class GuideEvening(Evening):
         officer.shows("Next: the seal", "count-now")
         officer.picture("19-seal")
         officer.press_on("seal")
-        officer.asked("As many papers were given out as are expected: 14")
+        officer.asked("All expected papers were given out: 14")
         officer.picture("20-ask-seal")
         officer.yes("Seal Ward 7", said="ward 7 sealed: 12 valid, 2 rejected, quota 5.00000")
         self.locked(officer)
@@ -271,7 +268,7 @@ class GuideEvening(Evening):
         officer.yes("Count from stage 4 on", said="count finished")
 
     def in_two_consoles(self, officer):
-        """Two consoles ask whether to count stage 2. Both say yes, and it is counted once."""
+        """Confirms stage 2 on two consoles at once, and checks that it is counted once."""
         other = Officer(officer.browser.another(), self)
         other.open("#count/7")
         for each in (other, officer):
@@ -281,15 +278,15 @@ class GuideEvening(Evening):
         officer.picture("21-ask-stage")
         for each in (officer, other):
             each.yes(said="ward 7 stage 2 surplus of 1")
-        if " 2 stages" not in (stands := self.office.do("wards")):
-            raise Wrong(f"two consoles: {stands}")
+        if " 2 stages" not in (printed := self.office.do("wards")):
+            raise Wrong(f"two consoles: {printed}")
         other.browser.close()
 
     def locked(self, officer):
-        """Another program holds the file, so the order meets a fault. It is sent again under its id, and done once."""
+        """Another program locks the file, so the order fails. It is sent again with its id, and done once."""
         officer.shows("Next: stage 1", "count-now")
         officer.press_on("advance")
-        officer.asked("every first preference")
+        officer.asked("the first preferences")
         holder = sqlite3.connect(self.office.folder / TOWN, isolation_level=None)
         holder.execute("BEGIN EXCLUSIVE")
         officer.browser.press("y")
@@ -324,7 +321,7 @@ class GuideEvening(Evening):
         self.file_gone(officer)
 
     def printed(self, officer):
-        """The declaration and the sheet are printed as the orders print them, and the page is as before then."""
+        """Prints the declaration and the sheet, and checks that they are what the orders print and that the page is as before."""
         browser = officer.browser
         browser.value("(() => { window.print = () => { window.printed = document.querySelector('#paper pre').textContent; }; })()")
         for key, words in (("print-result", ["result", 7]), ("print-sheet", ["sheet", 7])):
@@ -332,15 +329,15 @@ class GuideEvening(Evening):
             browser.until(f"window.printed === {json.dumps(self.office.do(*words))}", PATIENCE)
             browser.value("dispatchEvent(new Event('afterprint'))")
         if browser.value("document.getElementById('paper').children.length || document.body.classList.contains('printing')"):
-            raise Wrong("what was printed stays")
+            raise Wrong("the printed text is still on the page")
 
     def saved(self, officer):
-        """The journal, the ballots and the stages are saved as the orders print them; the page and the index are shown."""
+        """Downloads the journal, the ballots and the stages, and opens the page and the index: each is what the order prints."""
         folder = self.folder / "saved"
         folder.mkdir()
         officer.browser.command("Browser.setDownloadBehavior", behavior="allow", downloadPath=str(folder))
         for key, name, words in (("save-journal", "journal.txt", ["journal"]), ("file-ballots", "ballots-7.txt", ["ballots", 7]),
-            ("file-table", "stages-7.csv", ["table", 7])):
+                                 ("file-table", "stages-7.csv", ["table", 7])):
             officer.click(key)
             end = time.monotonic() + PATIENCE
             while not (folder / name).exists() and time.monotonic() < end:
@@ -353,7 +350,7 @@ class GuideEvening(Evening):
                 raise Wrong(f"{target} isn't what the order prints")
 
     def file_gone(self, officer):
-        """While the office can't be read, the console says so, and what to do; what it shows stays."""
+        """While the office can't be read, the console says so and what to do, and still shows what it read before."""
         town = self.office.folder / TOWN
         town.rename(town.with_suffix(".away"))
         officer.shows("fault 105", "health")
@@ -364,11 +361,9 @@ class GuideEvening(Evening):
 
 
 def main(pictures: Path = None):
-    needs("chromium", "node")
+    needs("chromium")
     if pictures:
         pictures.mkdir(parents=True, exist_ok=True)
-    if wrong := wrong_script(page_and_policy()[0]):
-        return wrong
     with temporary_folder() as folder:
         GuideEvening(folder, pictures).play()
     return 0

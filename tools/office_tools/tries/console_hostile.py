@@ -1,10 +1,11 @@
-"""Plays the officer's console in Chromium with names that are hostile, an evening of twelve tellers, and the largest office.
+"""Plays the officer's console in Chromium with hostile names, an evening of twelve tellers, and the largest office.
 
-The server's side of the console is the stand-in of console_mock.py, which runs the program's own orders. Names that would be markup, that
-turn the direction of writing and of 120 bytes are read as names. Another office comes to the same address, and the console asks whether it
-is the right one. A script of batches is refused in its middle, and the code changes. Twelve tellers key 22 batches, some of which differ;
-19 doubtful papers are judged by keyboard, and each lot that comes is recorded. Then 99 wards and 9,999 batches are shown, and how long the
-console takes to draw them is printed. Pictures at 1280, 800 and 400 pixels go into the folder PICTURES. It needs the program `chromium`.
+console_mock.py stands in for the server, and runs the program's own orders. Names that look like markup, that change the direction of
+writing, or that have 120 bytes are shown as names. Another office is served at the same address, and the console asks whether it is the
+right one. A script of batches is refused halfway, and the code changes. Twelve tellers key 22 batches, some of which differ, 19 doubtful
+papers are judged by keyboard, and each lot is recorded. Then 99 wards and 9,999 batches are shown, and the time to draw them is printed.
+--only PLAY plays one of names, refused, evening_of_tellers and large. Pictures at 1280, 800 and 400 pixels go into the folder PICTURES.
+It needs `chromium`.
 """
 import json
 import random
@@ -22,7 +23,7 @@ FAKE = """(() => { const batches = Array.from({length: 9000}, (_, place) => ({
     batch: place + 1, clerks: [{clerk: 4, keyed: true}, {clerk: 9, keyed: place % 3 > 0}], doubtful_open: 0, round: 1, size: 75,
     standing: ['waiting', 'differing', 'taken'][place % 3], twin: 0}));
     office.reads.set('wards/1/batches', {receipts: office.receipts, found: Promise.resolve({says: {batches, ward: 1}})}); })()"""
-# How long a part takes to be drawn, in milliseconds, once all that it reads was read.
+# How long a section takes to draw, in milliseconds, when all that it shows was read before.
 DRAWN = """(async () => { await draw(); const began = performance.now(); await draw(); document.body.offsetHeight;
     return performance.now() - began; })()"""
 SETTLED = "document.getElementById('count-now').innerText.match(/Next:|duly elected/)?.[0] ?? ''"
@@ -41,10 +42,10 @@ def numbered(count):
 
 
 class HostileEvening(Evening):
-    """Offices that the console must bear."""
+    """The offices that the console has to show."""
 
     def names(self, browser):
-        """Names that would be markup, that turn the direction of writing, and of 120 bytes are read as names, and stay in the window."""
+        """Shows names that look like markup, change the direction of writing or have 120 bytes: as names, and within the window."""
         officer = Officer(browser, self)
         turning = ["\u05d0" * 60, "\u0627\u062d\u0645\u062f, 2 Bob", "\x85x"]
         names = [*LARGE[-2:], "A" * 120, turning[0], "Maximiliane " * 9 + "Oberhuber-F.", "=1+1", *turning[1:]]
@@ -73,7 +74,7 @@ class HostileEvening(Evening):
         officer.picture("42-names-judged")
         officer.go("count", 9)
         officer.click("seal")
-        officer.yes("all the same", said="ward 9 sealed")
+        officer.yes("Seal anyway", said="ward 9 sealed")
         officer.click("count")
         officer.yes(said="lot needed at stage 2")
         officer.picture("43-names-lot")
@@ -86,7 +87,7 @@ class HostileEvening(Evening):
             raise Wrong("a name is markup")
 
     def refused(self, browser):
-        """A script of batches is refused in its middle: the rest goes to the tellers whose turn it is. A code that is no longer right."""
+        """A script of batches is refused halfway, and the rest goes to the tellers whose turn it is. Then the code changes."""
         officer = Officer(browser, self)
         self.another([*ward_lines(1, 2, "A", numbered(4)), "batch 3 1 10 4 9 --id x"])
         officer.open()
@@ -106,12 +107,12 @@ class HostileEvening(Evening):
         officer.submit("give-out")
         officer.asked("Batch 11")
         browser.press("y")
-        officer.shows("Nothing was done", "unsent")
+        officer.shows("Nothing was changed", "unsent")
         officer.picture("47-code")
         browser.value("[...document.querySelectorAll('#unsent button')].at(-1).click()")
         browser.until("document.getElementById('unsent').hidden && pendingOrders().length === 0", PATIENCE)
         if "batch 11" in self.office.do("batches", 1):
-            raise Wrong("an order that was given up was done")
+            raise Wrong("an order that was discarded was done")
         self.mock.code = browser.code = CODE
         browser.until("!document.getElementById('health').classList.contains('down')", PATIENCE)
         browser.value("document.getElementById('sign-out').click()")
@@ -119,7 +120,7 @@ class HostileEvening(Evening):
         browser.said = [line for line in browser.said if "status of 401" not in line]
 
     def evening_of_tellers(self, browser):
-        """Two wards are polled and one isn't: 22 batches that twelve tellers key, 19 doubtful papers, and every lot that comes."""
+        """Two wards have a poll and one has none: twelve tellers key 22 batches, with 19 doubtful papers, and each lot is recorded."""
         officer, chance = Officer(browser, self), random.Random(7)
         wards = {1: ("Inchmore", 3, 6, 12), 2: ("Old Town", 4, 12, 10), 3: ("Quay", 2, 2, 0)}
         self.another([line for ward, (name, seats, count, _) in wards.items() for line in ward_lines(ward, seats, name, numbered(count))])
@@ -137,7 +138,7 @@ class HostileEvening(Evening):
             doubtful = self.keyed(chance, range(first, first + count), candidates, doubtful)
             if ward == 1:
                 officer.go("overview")
-                officer.shows("Still to be keyed", "overview")
+                officer.shows("Still to key", "overview")
                 officer.picture("30-overview-evening")
             self.settled(officer, chance, ward, name)
             first += count
@@ -149,7 +150,7 @@ class HostileEvening(Evening):
             if count:
                 officer.go("count", ward)
                 officer.type("expected-seal", 66 * (count - 1) + 61)
-                officer.shows("As many papers were given out", "count-now")
+                officer.shows("All expected papers were given out", "count-now")
             self.counted(officer, ward)
         officer.go("overview")
         officer.shows("All wards are declared", "steps")
@@ -157,7 +158,7 @@ class HostileEvening(Evening):
         self.office.do("journal")
 
     def keyed(self, chance, batches, candidates, doubtful):
-        """The tellers key batches, by orders that are typed. Every fifth batch differs in its first keyings."""
+        """Keys batches by typed orders. The keyings of every fifth batch differ."""
         self.marks = getattr(self, "marks", {})
         for place, batch in enumerate(batches):
             size, pair = 61 if place == len(batches) - 1 else 66, 2 * place % 12 + 1
@@ -176,7 +177,7 @@ class HostileEvening(Evening):
         return doubtful
 
     def settled(self, officer, chance, ward, name):
-        """Gives each batch that differs to a third teller, who keys as the first one did."""
+        """Gives each batch that differs to a third teller, who keys what the first one did."""
         officer.go("overview")
         officer.shows("differ", "steps")
         officer.click(f"step batches {ward}")
@@ -217,15 +218,15 @@ class HostileEvening(Evening):
                     pictured.add(ward)
                     officer.picture(f"31-judging-{ward}")
                 browser.press("Enter")
-                officer.asked(which, *(f"{word} preference: {number} Candidate {number}" for word,
-                    number in zip(("First", "Second", "Third"), chosen)))
+                places = zip(("First", "Second", "Third"), chosen)
+                officer.asked(which, *(f"{word} preference: {number} Candidate {number}" for word, number in places))
             officer.yes(said=which.replace("Batch", "batch").replace(",", ""))
             browser.until(f"document.querySelector('#judging .which')?.textContent !== {json.dumps(which)}")
             count += 1
         return count
 
     def counted(self, officer, ward):
-        """Seals, counts and declares a ward, and records each lot that comes."""
+        """Seals, counts and declares a ward, and records each lot."""
         browser = officer.browser
         officer.go("count", ward)
         for _ in range(40):
@@ -233,8 +234,8 @@ class HostileEvening(Evening):
             text = browser.value("document.getElementById('count-now').innerText")
             if "duly elected" in text:
                 return
-            step = next(key for word, key in (("the seal", "seal"), ("a lot", "lot"), ("the declaration", "declare"),
-                ("stage", "count")) if f"Next: {word}" in text)
+            steps = (("the seal", "seal"), ("a lot", "lot"), ("the declaration", "declare"), ("stage", "count"))
+            step = next(key for word, key in steps if f"Next: {word}" in text)
             if step == "lot":
                 tied = browser.value("document.querySelector('#count-now input[type=radio]').dataset.key")
                 officer.click(tied)
@@ -245,19 +246,19 @@ class HostileEvening(Evening):
         raise Wrong(f"ward {ward} isn't declared")
 
     def other_office(self, officer):
-        """The browser notices that this is another office than the one before."""
-        officer.shows("This is not the office that this browser saw last", "other")
+        """Checks that the console notices another office."""
+        officer.shows("This isn\u2019t the office that this browser used last", "other")
         officer.picture("39-other-office")
         officer.browser.value("document.querySelector('#other button').click()")
         officer.browser.until("document.getElementById('other').hidden")
 
     def large(self, browser):
-        """99 wards and 9,999 batches: each part is drawn within a second, a few rows of it at once; a ward of 9,000 batches too."""
+        """Shows 99 wards and 9,999 batches, then a ward of 9,000: each section is drawn within a second, at most 300 rows at once."""
         officer = Officer(browser, self)
         wards = [line for ward in range(1, 100) for line in ward_lines(ward, 3, f"Ward name {ward}", numbered(5))]
         batches = [f"batch {it} {it % 99 + 1} 500 {it % 20 * 2 + 1} {it % 20 * 2 + 2} --id b{it}" for it in range(1, 10000)]
         self.another([*wards, *batches])
-        # The stand-in reads each ward by an order of its own, and keeps what it read.
+        # The stand-in runs an order for each ward, and keeps its output.
         self.mock.machine.waiting()
         browser.open(self.address())
         browser.until("document.getElementById('waiting').innerText.includes('Teller 1')", 200)
@@ -269,7 +270,7 @@ class HostileEvening(Evening):
         officer.shows("Page 1 of 225", "batch-more")
         officer.picture("51-large-batches")
         most = browser.value("document.querySelectorAll('tr').length")
-        table = Table("part", "milliseconds to draw, its reads at hand")
+        table = Table("section", "milliseconds to draw")
         for part, seconds in spent.items():
             table.row(part, f"{seconds:.0f}")
         if max(spent.values()) > 1000 or most > 300:
