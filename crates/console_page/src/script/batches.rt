@@ -132,8 +132,8 @@ DRAW.batches = async (isNow) => {
     ?? (ward.phase === 'nominations' ? 'Nominations are still open. You can give out batches once they are closed.' : isUncontested(ward)
     ? 'This ward is uncontested, so it has no batches.' : '');
   const {batches = []} = says ?? {};
-  const expected = expectedOf(ward?.ward) ? ` of ${expectedOf(ward.ward).toLocaleString('en')} expected` : '';
-  const progress = isPolled ? `${batchesOf(batches.length)}, ${papersOf(ward.papers_given_out)}${expected}; ${papersOf(ward.papers_agreed)} agreed.` : '';
+  const expected = expectedOf(ward?.ward) ? `, ${expectedOf(ward.ward).toLocaleString('en')} expected` : '';
+  const progress = isPolled ? `${batchesOf(batches.length)} given out: ${papersOf(ward.papers_given_out)}${expected}, ${ward.papers_agreed.toLocaleString('en')} agreed` : '';
   fill(at('batches-note'), note || progress);
   suggestBatch(batches);
   if (ward?.phase === 'keying' && !batches.length) at('give').open = true;

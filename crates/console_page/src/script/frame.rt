@@ -5,7 +5,7 @@ pub(crate) const FRAME: &str = r#"// ---- the sections of the console, and how i
 
 const TABS = [
   ['overview', 'Overview'], ['nominations', 'Nominations'], ['batches', 'Batches'], ['doubtful', 'Doubtful papers'], ['count', 'Count'],
-  ['journal', 'Journal and copies'],
+  ['journal', 'Journal'],
 ];
 const SECONDS = 3;
 // Each section adds the function that draws it: overview, nominations, and so on.

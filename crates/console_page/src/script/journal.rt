@@ -16,7 +16,7 @@ const copyName = () => {
 
 const makeCopy = async () => {
   const name = copyName();
-  await order(`make copy ${name}`, ['copy', name]);
+  await order(`make the copy ${name}`, ['copy', name]);
 };
 
 const drawCopies = () => {

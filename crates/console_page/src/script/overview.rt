@@ -84,6 +84,9 @@ const compareExpected = (field, ward) => {
 
 const figure = (text, value, className = '') => made('td', {className: `figure ${className}`.trim(), data: {label: text}}, value.toLocaleString('en'));
 
+const differing = (count) => figure(noun(count, 'differing batch', 'differing batches'), count, count ? 'bad' : '');
+const toJudge = (count) => figure(noun(count, 'paper to judge', 'papers to judge'), count, count ? 'bad' : '');
+
 const phaseWord = (ward) => (ward.phase === 'sealed' && isUncontested(ward) ? 'Uncontested' : PHASES[ward.phase]);
 
 // Returns the cell with the phase of a ward and, if there is room, its progress.
@@ -104,20 +107,19 @@ const wardRow = ({ward, step}) => {
     made('td', {className: expectedOf(ward.ward) || ward.phase === 'nominations' || isKeyed ? 'figure' : 'figure none', data: {label: 'expected'}},
       ward.phase === 'nominations' || isKeyed ? expectedField(ward) : expectedOf(ward.ward) && isPolled ? expectedOf(ward.ward).toLocaleString('en') : '\u2013'),
     papers('given out', ward.papers_given_out), papers('keyed', ward.papers_keyed), papers('agreed', ward.papers_agreed),
-    isKeyed ? figure('differ', ward.differing, ward.differing ? 'bad' : '') : dash('differ'),
-    isKeyed ? figure('to judge', ward.doubtful_open, ward.doubtful_open ? 'bad' : '') : dash('to judge'),
+    isKeyed ? differing(ward.differing) : dash('differing batches'), isKeyed ? toJudge(ward.doubtful_open) : dash('papers to judge'),
     made('td', {className: 'next', data: {label: ''}},
       button(step.button, () => go(step.to, ward.ward), {key: `row ${ward.ward}`, ariaLabel: `${step.button}: ward ${ward.ward}`}), made('span', {}, step.text)));
 };
 
-const WARD_HEADS = ['Ward', 'Phase', 'Papers expected', 'Given out', 'Keyed', 'Agreed', 'Batches that differ', 'Papers to judge', 'Next step'];
+const WARD_HEADS = ['Ward', 'Phase', 'Papers expected', 'Given out', 'Keyed', 'Agreed', 'Differing batches', 'Papers to judge', 'Next step'];
 
 const sumRow = () => {
   const sum = (member) => office.wards.reduce((total, it) => total + it[member], 0);
   const expected = office.wards.reduce((total, it) => total + expectedOf(it.ward), 0);
   return made('tr', {className: 'sum'}, made('th', {scope: 'row'}, 'All wards'), made('td', {}, ''), figure('expected', expected),
     figure('given out', sum('papers_given_out')), figure('keyed', sum('papers_keyed')), figure('agreed', sum('papers_agreed')),
-    figure('differ', sum('differing')), figure('to judge', sum('doubtful_open')), made('td', {}, ''));
+    differing(sum('differing')), toJudge(sum('doubtful_open')), made('td', {}, ''));
 };
 
 const MOST_TELLERS = 40;

@@ -19,9 +19,9 @@ const sealChecks = (ward, batches) => {
   const copy = stored('copy');
   const isCopied = Boolean(copy) && Date.now() - copy.at < COPY_AFTER;
   const differs = expected - ward.papers_given_out;
-  const compared = !expected ? 'The number of papers expected is missing. Enter it above.'
+  const compared = !expected ? 'The number of expected papers is missing. Enter it above.'
     : differs ? `${papersOf(ward.papers_given_out)} given out, but ${expected.toLocaleString('en')} expected: ${papersOf(Math.abs(differs))} too ${differs > 0 ? 'few' : 'many'}.`
-      : `All expected papers were given out: ${expected.toLocaleString('en')}.`;
+      : `All expected papers were given out: ${expected.toLocaleString('en')}`;
   return {
     isReady: ward.taken === ward.batches && !ward.doubtful_open, isSure: expected > 0 && !differs && !twins.length,
     list: made('ul', {className: 'checks'},

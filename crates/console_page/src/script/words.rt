@@ -12,7 +12,8 @@ const isolated = (name) => made('bdi', {}, shownName(name));
 const withNumber = ({candidate, name}) => made('span', {className: 'person'}, made('b', {}, String(candidate)), ' ', isolated(name));
 const wardName = (ward) => made('span', {className: 'person'}, `Ward ${ward.ward} `, isolated(ward.name));
 
-const many = (count, one, more = `${one}s`) => `${count.toLocaleString('en')} ${count === 1 ? one : more}`;
+const noun = (count, one, more = `${one}s`) => (count === 1 ? one : more);
+const many = (count, one, more) => `${count.toLocaleString('en')} ${noun(count, one, more)}`;
 const papersOf = (count) => many(count, 'paper');
 const batchesOf = (count) => many(count, 'batch', 'batches');
 
