@@ -2,9 +2,8 @@
 
 A page of crates/keying_page or crates/console_page is ASCII, has one script and one style, loads nothing from elsewhere, makes no markup
 of a text, and has no style or handler in an attribute, which its policy forbids. The page and the policy that the code of the crate makes
-are those of the crate's definitions, byte for byte. If COUNT_OFFICE names a program, it serves an office, and the clerks' page and the
-policy of its response are compared with the sources: the page byte for byte, and in the policy the SHA-256 of the script and of the style
-that were served.
+are those of the crate's definitions, byte for byte, and the policy has the SHA-256 of the page's script and style. If COUNT_OFFICE names a
+program, it serves an office, and the clerks' page and the policy of its response are compared with the sources, byte for byte.
 """
 import base64
 import hashlib
@@ -22,6 +21,8 @@ HASHED = re.compile(r"let (\w+) = hash_source\(alloc, (\w+)\.as_bytes\(\)\)")
 PIECE = re.compile(r'codes "([^"]*)"|([A-Z]+)\.now|hash_source (\w+)|\b(?:its_)?(script|style)\b')
 PAGES = KEYING, CONSOLE = "keying_page", "console_page"
 PARTS, CLERK = ("script", "style"), 4
+# Where a program serves a page, and to whom. No program serves the console yet.
+SERVED = {KEYING: (f"/clerks/{CLERK}/", CLERK, CODES[CLERK])}
 FORBIDDEN = {
     "a text from elsewhere": r"""(?i)\b(src|href)\s*=(?!\s*["']?data:,)|@import|\burl\(|https?://""",
     "markup made of a text": r"innerHTML|outerHTML|insertAdjacentHTML|document\.write|\beval\b|new Function|DOMParser",
@@ -80,24 +81,22 @@ def wrong_in(page):
 def wrong_defined(crate):
     """Returns what of the page that the code of a crate makes, and of its policy, is otherwise than in the crate's definitions."""
     made, defined = page_of_sources(crate), page_of_definitions(crate)
-    wrong = [] if all(f"{name}-src {hash_source(inner(made[0], name))};" in made[1] for name in PARTS) else ["the policy has another hash"]
-    return wrong + [f"the {what} isn't that of the definitions" for what, one, other in zip(("page", "policy"), made, defined) if one != other]
+    wrong = [f"the policy has another {name}" for name in PARTS if f"{name}-src {hash_source(inner(made[0], name))};" not in made[1]]
+    differs = [what for what, one, other in zip(("page", "policy"), made, defined) if one != other]
+    return wrong + [f"the {what} isn't that of the definitions" for what in differs]
 
 
-def wrong_served(page, policy):
-    """Returns what of the page that a program serves to a clerk, and of its policy, is otherwise than in the sources."""
+def wrong_served(crate, target, name, code):
+    """Returns what of the page that a program serves at a target, and of its policy, is otherwise than in the sources."""
     with temporary_folder() as folder, evening_office(folder).serve("--codes", "codes.txt") as serving:
-        answer = serving.ask(request(f"/clerks/{CLERK}/", f"Authorization: {basic(CLERK, CODES[CLERK])}")).decode()
-    head, _, served = answer.partition("\r\n\r\n")
+        head, _, served = serving.ask(request(target, f"Authorization: {basic(name, code)}")).decode().partition("\r\n\r\n")
+    page, policy = page_of_sources(crate)
     told = re.search(r"(?i)^content-security-policy: (.*?)\r?$", head, re.M)[1]
-    if served != page:
-        return ["the page that is served isn't that of the sources"]
-    directives = dict(directive.split(" ", 1) for directive in told.split("; "))
-    wrong = [f"the policy that is served has another {name}: {directives.get(f'{name}-src')}" for name in PARTS
-             if directives.get(f"{name}-src") != hash_source(inner(served, name))]
-    return wrong or ([] if told == policy else [f"the policy that is served isn't that of the sources: {told}"])
+    wrong = [] if served == page else ["the page that is served isn't that of the sources"]
+    return wrong + ([] if told == policy else [f"the policy that is served isn't that of the sources: {told}"])
 
 
 def main():
     wrong = [f"{crate}: {fault}" for crate in PAGES for fault in wrong_in(page_of_sources(crate)[0]) or wrong_defined(crate)]
-    return wrong or (wrong_served(*page_of_sources()) if os.environ.get("COUNT_OFFICE") else [])
+    served = SERVED.items() if os.environ.get("COUNT_OFFICE") else ()
+    return wrong or [f"{crate}: {fault}" for crate, where in served for fault in wrong_served(crate, *where)]
