@@ -1,0 +1,369 @@
+"""Plays the guide's evening on the officer's console in Chromium, partly by keyboard alone, and compares the result with typed orders.
+
+console_mock.py stands in for the server, and runs the program's own orders. Tellers' keyings are dropped on the console as files, and one
+is typed as an order beside it. Connections break after an order was done, the server stops for a while, the page is reloaded while an
+order is being sent, two consoles are open, the file can't be read, and a wrong code and a page from elsewhere are denied. At the end the
+office has the rows that the typed orders make, except for the ids. Pictures at 1280, 800 and 400 pixels go into the folder PICTURES.
+It needs `chromium`.
+"""
+import json
+import sqlite3
+import time
+from pathlib import Path
+
+from office_tools.browser import Browser
+from office_tools.console_officer import CODE, PATIENCE, TITLE, Evening, Officer
+from office_tools.office import TOWN, Office, Wrong, needs, temporary_folder
+from office_tools.web import ask, basic, request, status
+
+NAMES = ["ward,candidate,name", "7,2,Bob", "7,3,Cy", "7,4,Dee", "7,5,Gil", '8,1,"Eve, jr"', "8,2,Fay"]
+HEAD = {batch: {clerk: f"paper {batch}/{clerk},1,2,3,4" for clerk in (4, 5, 9)} for batch in (12, 13)}
+TWELVE = ["1,1,2,,", "2,1,2,,", "3,1,2,,", "4,1,,2,", "5,1,,,2", "6,D,,,", "7,1,,,", "8,,,,"]
+THIRTEEN = ["1,,1,,", "2,,1,,", "3,,1,,", "4,,,1,", "5,,,2,1", "6,D,,,"]
+OTHER = [*THIRTEEN[:4], "5,,,1,2", THIRTEEN[5]]
+# The guide's orders as they are typed: the console has to make the same office.
+TYPED = """ward 7 2 Harbour
+ward 8 2 Quay
+candidate 7 1 Ann
+candidate 7 2 Bob
+candidate 7 3 Cy
+candidate 7 4 Dee
+candidate 7 5 Gil
+candidate 8 1 'Eve, jr'
+candidate 8 2 Fay
+withdraw 7 5
+close 7
+close 8
+batch 12 7 8 4 9
+batch 13 7 6 4 9
+key 4 12 1 1,2,, 1,2,, 1,2,, 1,,2, 1,,,2 D 1,,, ,,,
+key 4 13 1 ,1,, ,1,, ,1,, ,,1, ,,2,1 D
+key 9 13 1 ,1,, ,1,, ,1,, ,,1, ,,1,2 D
+key 9 12 1 1,2,, 1,2,, 1,2,, 1,,2, 1,,,2 D 1,,, ,,,
+again 13
+key 4 13 2 ,1,, ,1,, ,1,, ,,1, ,,2,1 D
+key 9 13 2 ,1,, ,1,, ,1,, ,,1, ,,1,2 D
+third 13 5
+key 5 13 2 ,1,, ,1,, ,1,, ,,1, ,,2,1 D
+judge 12 6 accept:1,,,
+judge 13 6 reject:4
+seal 7
+advance 7
+advance 7
+lot 7 3 4
+advance 7
+advance 7
+declare 7
+declare 8""".split("\n")
+
+
+class GuideEvening(Evening):
+    """The guide's evening: two wards, two batches, a lot, and an uncontested ward."""
+
+    def play(self):
+        with Browser(self.folder, "office", CODE) as browser:
+            officer = Officer(browser, self)
+            officer.open()
+            officer.picture("1-empty")
+            self.nominations(officer)
+            self.papers(officer)
+            self.adjudication(officer)
+            self.counting(officer)
+            self.declaring(officer)
+            self.compare()
+            self.elsewhere(browser)
+            # The server was stopped, and the file couldn't be read, on purpose.
+            strange = [line for line in browser.said if "ERR_" not in line and "status of 503" not in line]
+            if strange:
+                raise Wrong(f"the browser said {strange[:5]}")
+        self.mock.close()
+
+    def compare(self):
+        """Plays the typed orders, and compares all rows except for the ids of receipts."""
+        typed = Office(self.folder / "typed").begin([f"{line} --id i{number}" for number, line in enumerate(TYPED)])
+        found, wanted = [dict(office.rows()) for office in (self.office, typed)]
+        for rows in (found, wanted):
+            rows["receipt"] = sorted((actor, subject, reply) for actor, _, subject, reply in rows["receipt"])
+        if differing := [name for name in wanted if found[name] != wanted[name]]:
+            raise Wrong(f"the console's office has other rows of {differing}")
+
+    def elsewhere(self, browser):
+        """Checks that a wrong code, a clerk's name and a page from elsewhere are denied."""
+        right = f"Authorization: {basic('office', CODE)}"
+        for headers, wanted in (((), 401), ((f"Authorization: {basic('office', 'wrong')}",), 401),
+                                ((f"Authorization: {basic('4', CODE)}",), 401), ((right, "Origin: http://elsewhere.example"), 403),
+                                ((right, "Sec-Fetch-Site: cross-site"), 403), ((right,), 200)):
+            if (found := status(ask(self.port, request("/office/wards", *headers)))) != wanted:
+                raise Wrong(f"{headers}: {found}")
+
+    def nominations(self, officer):
+        browser = officer.browser
+        officer.click("step none")
+        for number, name in ((7, "Harbour"), (8, "Quay")):
+            officer.type("ward-number", number)
+            officer.type("ward-seats", 2)
+            officer.type("ward-name", name)
+            officer.submit("add-ward")
+            if number == 7:
+                browser.until("document.getElementById('ask').open")
+                officer.picture("2-ask-ward")
+            officer.yes(f"Add ward {number}", name, "2 seats")
+        officer.go("nominations", 7)
+        officer.type("candidate-number", 1)
+        officer.type("candidate-name", "Ann")
+        self.reloaded(officer)
+        officer.submit("add-candidate")
+        officer.shows("candidate 1 of ward 7 added")
+        officer.drop("drop-candidates", names=[*NAMES[:3], "7,3,Dee", *NAMES[4:]])
+        officer.shows("This number is in the file twice", "preview")
+        officer.picture("3-preview-wrong")
+        officer.drop("drop-candidates", names=NAMES)
+        officer.shows("Will be added", "preview")
+        self.mock.cuts = 1
+        officer.click("send-file")
+        officer.shows("Not confirmed yet", "unsent")
+        officer.picture("4-not-confirmed")
+        officer.shows("candidates from names.csv")
+        officer.click("withdraw 5")
+        officer.yes("Withdraw 5 Gil?")
+        officer.picture("5-nominations")
+        for ward, names, outcome in ((7, ("1 Ann", "4 Dee"), "will be a poll"), (8, ("1 Eve, jr", "2 Fay"), "no poll")):
+            officer.go("nominations", ward)
+            officer.shows(f"Ward {ward}", "nominated")
+            officer.click("close")
+            officer.yes(f"Ward {ward}", *names, outcome, said="close nominations")
+
+    def reloaded(self, officer):
+        """Reloads the page, and checks that what was typed is still there."""
+        officer.browser.reload()
+        officer.shows("Updated at", "health")
+        if officer.browser.value("document.getElementById('candidate-name').value") != "Ann":
+            raise Wrong("what was typed is lost")
+
+    def papers(self, officer):
+        browser = officer.browser
+        officer.go("overview")
+        officer.type("expected 7", 14)
+        officer.go("batches", 7)
+        browser.until("document.getElementById('give').open")
+        for name, value in (("from", 12), ("count", 2), ("size", 8), ("last", 6), ("clerks", "4 9")):
+            officer.type(f"give-{name}", value)
+        officer.shows("14 of 14 expected papers", "give-preview")
+        officer.picture("6-giving-out")
+        officer.submit("give-out")
+        officer.yes("2 batches, 14 papers", "Batch 12", "8 papers", "Batch 13", "6 papers", "Tellers 4 and 9")
+        browser.value("document.getElementById('bring').open = true")
+        officer.drop("drop-keyings", k4_12=[HEAD[12][4], *TWELVE[:3], "4,1,,2", *TWELVE[4:]])
+        officer.shows("file fault 2 at record 4", "brought")
+        officer.picture("7-file-fault")
+        officer.drop("drop-keyings", k4_12=[HEAD[12][4], *TWELVE], k4_13=[HEAD[13][4], *THIRTEEN], k9_13=[HEAD[13][9], *OTHER],
+            nobody=["paper,1,2", "1,1,"])
+        officer.shows("doesn\u2019t name its batch and teller", "brought")
+        browser.until("document.getElementById('brought').innerText.split('accepted').length === 4", PATIENCE)
+        officer.picture("8-batches")
+        # The console shows an order that was typed beside it.
+        self.office.do("key", 9, 12, 1, *[line.split(",", 1)[1] if "D" not in line else "D" for line in TWELVE], "--id", "typed")
+        officer.shows("Agreed", "batch-list")
+        officer.go("overview")
+        officer.shows("1 batch differs", "steps")
+        officer.picture("9-overview-differs")
+        officer.click("step batches 7")
+        officer.click("where 13")
+        officer.shows("paper 5", "batch-list")
+        officer.picture("10-where")
+        officer.click("again 13")
+        officer.yes("round 2", "tellers 4 and 9")
+        officer.drop("drop-keyings", k4_13=[HEAD[13][4], *THIRTEEN], k9_13=[HEAD[13][9], *OTHER])
+        officer.shows("teller 9, round 2: accepted", "brought")
+        officer.click("third 13")
+        officer.asked("third teller")
+        browser.call("Input.insertText", text="9")
+        officer.picture("11-third")
+        browser.press("Enter")
+        officer.shows("doesn\u2019t key this batch yet")
+        self.third_in_two_windows(officer)
+        officer.drop("drop-keyings", k5_13=[HEAD[13][5], *THIRTEEN])
+        officer.shows("teller 5, round 2: accepted", "brought")
+        officer.click("papers 12")
+        officer.shows("Rejected: no first preference", "batch-list")
+        officer.picture("12-read-back")
+
+    def third_in_two_windows(self, officer):
+        """Adds the third teller on a second console, while the first one shows the batch."""
+        other = Officer(officer.browser.another(), self)
+        other.open("#batches/7")
+        other.click("third 13")
+        other.asked("third teller")
+        other.browser.call("Input.insertText", text="5")
+        other.browser.press("Enter")
+        other.shows("batch 13 third clerk 5")
+        other.browser.close()
+        officer.browser.call("Page.bringToFront")
+        officer.browser.until("![...document.querySelectorAll('[data-key]')].some((it) => it.dataset.key === 'third 13')", PATIENCE)
+
+    def adjudication(self, officer):
+        """Judges by keyboard alone. The server stops for a while, and the page is reloaded while a verdict is being sent."""
+        browser = officer.browser
+        browser.value("document.activeElement.blur()")
+        browser.press("1")
+        officer.shows("2 doubtful papers to judge", "steps")
+        officer.picture("13-overview-doubtful")
+        officer.press_on("step doubtful 7")
+        officer.shows("Batch 12, paper 6", "judging")
+        browser.press("2")
+        officer.shows("Bob", "judging")
+        browser.press("Backspace")
+        browser.press("1")
+        officer.picture("14-judging")
+        browser.value("document.activeElement.blur()")
+        browser.press("Enter")
+        officer.asked("Batch 12, paper 6", "First preference: 1 Ann")
+        officer.picture("15-ask-verdict")
+        self.mock.close()
+        officer.forget()
+        browser.press("y")
+        officer.shows("Not confirmed yet", "unsent")
+        officer.picture("16-server-gone")
+        self.start()
+        officer.shows("batch 12 paper 6 accepted")
+        browser.press("r")
+        self.mock.cuts = 1
+        browser.press("4")
+        officer.asked("Batch 13, paper 6", "voter identifiable")
+        browser.press("y")
+        officer.shows("Not confirmed yet", "unsent")
+        browser.reload()
+        officer.shows("batch 13 paper 6 rejected 4")
+        officer.shows("All 2 doubtful papers of this ward are judged", "judging")
+        officer.picture("17-judged")
+
+    def counting(self, officer):
+        """Counts, by keyboard alone up to the lot."""
+        browser = officer.browser
+        browser.value("document.activeElement.blur()")
+        browser.press("6")
+        officer.press_on("copy")
+        officer.shows("copied 2 wards")
+        officer.picture("18-journal")
+        browser.value("document.activeElement.blur()")
+        browser.press("5")
+        officer.shows("Next: the seal", "count-now")
+        officer.picture("19-seal")
+        officer.press_on("seal")
+        officer.asked("All expected papers were given out: 14")
+        officer.picture("20-ask-seal")
+        officer.yes("Seal Ward 7", said="ward 7 sealed: 12 valid, 2 rejected, quota 5.00000")
+        self.locked(officer)
+        self.in_two_consoles(officer)
+        officer.shows("Next: a lot", "count-now")
+        officer.picture("22-lot")
+        officer.click("lot 4")
+        officer.click("lot")
+        officer.yes("3 Cy and 4 Dee", "4 Dee is excluded", said="lot at ward 7 stage 3: candidate 4")
+        officer.shows("Next: stage 3", "count-now")
+        officer.picture("23-stage")
+        officer.click("advance")
+        officer.yes("4 Dee has the fewest votes", said="ward 7 stage 3 exclusion of 4")
+        officer.click("count")
+        officer.yes("Count from stage 4 on", said="count finished")
+
+    def in_two_consoles(self, officer):
+        """Confirms stage 2 on two consoles at once, and checks that it is counted once."""
+        other = Officer(officer.browser.another(), self)
+        other.open("#count/7")
+        for each in (other, officer):
+            each.shows("Next: stage 2", "count-now")
+            each.press_on("advance")
+            each.asked("Count stage 2", "the surplus of 1 Ann")
+        officer.picture("21-ask-stage")
+        for each in (officer, other):
+            each.yes(said="ward 7 stage 2 surplus of 1")
+        if " 2 stages" not in (printed := self.office.do("wards")):
+            raise Wrong(f"two consoles: {printed}")
+        other.browser.close()
+
+    def locked(self, officer):
+        """Another program locks the file, so the order fails. It is sent again with its id, and done once."""
+        officer.shows("Next: stage 1", "count-now")
+        officer.press_on("advance")
+        officer.asked("the first preferences")
+        holder = sqlite3.connect(self.office.folder / TOWN, isolation_level=None)
+        holder.execute("BEGIN EXCLUSIVE")
+        officer.browser.press("y")
+        officer.shows("Fault 102: store", "unsent")
+        officer.picture("21-fault")
+        holder.execute("ROLLBACK")
+        holder.close()
+        officer.browser.value("document.querySelector('#unsent button').click()")
+        officer.shows("ward 7 stage 1 first preferences")
+
+    def declaring(self, officer):
+        officer.shows("Next: the declaration", "count-now")
+        officer.picture("24-finished")
+        officer.click("declare")
+        officer.yes("1 Ann", "2 Bob", said="ward 7 declared: 1, 2")
+        officer.shows("duly elected for Harbour", "count-now")
+        officer.picture("25-declared")
+        self.printed(officer)
+        officer.go("count", 8)
+        officer.shows("uncontested", "count-now")
+        officer.picture("26-uncontested")
+        officer.click("declare")
+        officer.yes("1 Eve, jr", "2 Fay", said="ward 8 declared: 1, 2")
+        officer.go("overview")
+        officer.shows("All wards are declared", "steps")
+        officer.picture("27-overview-declared")
+        officer.go("journal")
+        officer.type("receipt-search", "judge 13")
+        officer.shows("batch 13 paper 6 rejected 4", "receipts")
+        officer.picture("28-search")
+        self.saved(officer)
+        self.file_gone(officer)
+
+    def printed(self, officer):
+        """Prints the declaration and the sheet, and checks that they are what the orders print and that the page is as before."""
+        browser = officer.browser
+        browser.value("(() => { window.print = () => { window.printed = document.querySelector('#paper pre').textContent; }; })()")
+        for key, words in (("print-result", ["result", 7]), ("print-sheet", ["sheet", 7])):
+            officer.click(key)
+            browser.until(f"window.printed === {json.dumps(self.office.do(*words))}", PATIENCE)
+            browser.value("dispatchEvent(new Event('afterprint'))")
+        if browser.value("document.getElementById('paper').children.length || document.body.classList.contains('printing')"):
+            raise Wrong("the printed text is still on the page")
+
+    def saved(self, officer):
+        """Downloads the journal, the ballots and the stages, and opens the page and the index: each is what the order prints."""
+        folder = self.folder / "saved"
+        folder.mkdir()
+        officer.browser.command("Browser.setDownloadBehavior", behavior="allow", downloadPath=str(folder))
+        for key, name, words in (("save-journal", "journal.txt", ["journal"]), ("file-ballots", "ballots-7.txt", ["ballots", 7]),
+                                 ("file-table", "stages-7.csv", ["table", 7])):
+            officer.click(key)
+            end = time.monotonic() + PATIENCE
+            while not (folder / name).exists() and time.monotonic() < end:
+                officer.browser.wait(0.1)
+            if (folder / name).read_text(encoding="utf-8") != self.office.do(*words):
+                raise Wrong(f"{name} isn't what the order prints")
+        for target, words in (("wards/7/page", ["page", 7]), ("index", ["index"])):
+            sends = request(f"/office/{target}", f"Authorization: {basic('office', CODE)}")
+            if self.office.do(*words, "--title", TITLE) not in ask(self.port, sends).decode():
+                raise Wrong(f"{target} isn't what the order prints")
+
+    def file_gone(self, officer):
+        """While the office can't be read, the console says so and what to do, and still shows what it read before."""
+        town = self.office.folder / TOWN
+        town.rename(town.with_suffix(".away"))
+        officer.shows("fault 105", "health")
+        officer.go("overview")
+        officer.picture("29-file-gone")
+        town.with_suffix(".away").rename(town)
+        officer.browser.until("!document.getElementById('health').classList.contains('down')", PATIENCE)
+
+
+def main(pictures: Path = None):
+    needs("chromium")
+    if pictures:
+        pictures.mkdir(parents=True, exist_ok=True)
+    with temporary_folder() as folder:
+        GuideEvening(folder, pictures).play()
+    return 0
