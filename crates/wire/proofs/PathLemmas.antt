@@ -326,17 +326,23 @@ office-own : (target : List ℕ) (what : OfficeTarget) → office_by target ≡ 
 office-own target what named = console (bytes_eq target (office_path office.Console)) refl named
   where
     orders : (b : Bool) → bytes_eq target (office_path office.Orders) ≡ b → (if b then Some office.Orders else None) ≡ Some what → target ≡ office_path what
-    orders true same named = (bytes_eq-Decides target (office_path office.Orders)).0 same ∙ ap office_path (cc named)
+    orders true same named =
+        let one : office.Orders ≡ what = cc in
+        (bytes_eq-Decides target (office_path office.Orders)).0 same ∙ ap office_path one
     orders false other named = let no : ⊥ = cc in absurd no
     leave : (b : Bool) → bytes_eq target (office_path office.Leave) ≡ b
         → (if b then Some office.Leave else (if bytes_eq target (office_path office.Orders) then Some office.Orders else None)) ≡ Some what → target ≡ office_path what
-    leave true same named = (bytes_eq-Decides target (office_path office.Leave)).0 same ∙ ap office_path (cc named)
+    leave true same named =
+        let one : office.Leave ≡ what = cc in
+        (bytes_eq-Decides target (office_path office.Leave)).0 same ∙ ap office_path one
     leave false other named = orders (bytes_eq target (office_path office.Orders)) refl named
     console : (b : Bool) → bytes_eq target (office_path office.Console) ≡ b
         → (if b then Some office.Console
             else (if bytes_eq target (office_path office.Leave) then Some office.Leave else (if bytes_eq target (office_path office.Orders) then Some office.Orders else None))) ≡ Some what
         → target ≡ office_path what
-    console true same named = (bytes_eq-Decides target (office_path office.Console)).0 same ∙ ap office_path (cc named)
+    console true same named =
+        let one : office.Console ≡ what = cc in
+        (bytes_eq-Decides target (office_path office.Console)).0 same ∙ ap office_path one
     console false other named = leave (bytes_eq target (office_path office.Leave)) refl named
 
 -- ---- both

@@ -129,13 +129,13 @@ fn named_at(place: RouteTarget, params: &Params<'_, '_>) -> Option<Target>
 fn office_by(target: &[u8]) -> Option<OfficeTarget>
     ensures { result ≡ office_by target.now }
 {
-    if target == b"/office/" {
+    if target == "/office/".as_bytes() {
         return Some(OfficeTarget::Console);
     }
-    if target == b"/office/leave" {
+    if target == "/office/leave".as_bytes() {
         return Some(OfficeTarget::Leave);
     }
-    if target == b"/office/orders" {
+    if target == "/office/orders".as_bytes() {
         return Some(OfficeTarget::Orders);
     }
     None
