@@ -2,6 +2,7 @@
 pub mod HeadLemmas
 pub mod BodyLemmas
 pub mod TextLemmas
+pub mod FileLemmas
 pub mod DigitLemmas
 pub mod TargetLemmas
 pub mod RowLemmas
