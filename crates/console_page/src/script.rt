@@ -54,6 +54,8 @@ use std::alloc::{AllocError, Global};
 pub(crate) fn script_text(alloc: Global) -> Result<String, AllocError>
     ensures { IfOk result (λ text. string_bytes text ≡ script) }
 {
-    format!(in alloc; "{BASICS}{ADVICE}{WORDS}{REQUESTS}{PENDING}{DIALOGS}{FRAME}{OVERVIEW}{NOMINATIONS}{GIVING}{BATCHES}\
-{KEYINGS}{ADJUDICATION}{VERDICTS}{SEALING}{CHART}{COUNTING}{DECLARING}{JOURNAL}{EVENTS}")
+    format!(in alloc;
+        "{BASICS}{ADVICE}{WORDS}{REQUESTS}{PENDING}{DIALOGS}{FRAME}{OVERVIEW}{NOMINATIONS}{GIVING}{BATCHES}\
+{KEYINGS}{ADJUDICATION}{VERDICTS}{SEALING}{CHART}{COUNTING}{DECLARING}{JOURNAL}{EVENTS}"
+    )
 }

@@ -14,7 +14,7 @@ from office_tools.election import CODES, evening_office
 from office_tools.office import ROOT, temporary_folder
 from office_tools.web import basic, request
 
-CONSTANT = re.compile(r'const (\w+): &str = r#"(.*?)"#;', re.DOTALL)
+CONSTANT = re.compile(r'const (\w+): &str =\s+r#"(.*?)"#;', re.DOTALL)
 FORMAT = re.compile(r'format!\(in alloc;\s*"(.*?)"\s*\)', re.DOTALL)
 HASHED = re.compile(r"let (\w+) = hash_source\(alloc, (\w+)\.as_bytes\(\)\)")
 # What a definition is made of: a text, a constant, how a policy names a text, or another definition by its name.

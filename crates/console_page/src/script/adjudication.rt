@@ -1,7 +1,7 @@
 //! Part of the script: the decision on a doubtful paper.
 
 /// Declares how a doubtful paper is accepted or rejected, by mouse or by keyboard.
-pub(crate) const ADJUDICATION: &str = r#"// ---- adjudication: the officer chooses candidates by name to accept a doubtful paper, or rejects it
+pub(crate) const ADJUDICATION: &str = r#"// ---- doubtful papers
 
 // The paper that is shown, and the numbers of the candidates chosen for it so far, first preference first.
 const judging = {ward: 0, batch: 0, paper: 0, chosen: [], candidates: [], digits: ''};

@@ -1,7 +1,7 @@
 //! Part of the script: what the officer can do about each refusal, fault and status.
 
 /// Declares what each error means, and what to do about it.
-pub(crate) const ADVICE: &str = r#"// ---- what each message means, and what to do about it
+pub(crate) const ADVICE: &str = r#"// ---- messages
 
 const AFTER_REFUSAL = {
   1: 'The console sent an invalid id. Report this to whoever maintains the program.',

@@ -1,7 +1,7 @@
 //! Part of the script: the batches of a ward.
 
 /// Declares the list of batches, and what the officer does about one that differs.
-pub(crate) const BATCHES: &str = r#"// ---- the batches of a ward, a page at a time, with those that differ first
+pub(crate) const BATCHES: &str = r#"// ---- the batches of a ward
 
 const ON_PAGE = 40;
 const STANDINGS = [['', 'All'], ['differing', 'Differ'], ['waiting', 'Being keyed'], ['taken', 'Agreed']];

@@ -1,7 +1,7 @@
 //! Part of the script: the count of a ward.
 
 /// Declares how stages are counted and how a lot is recorded.
-pub(crate) const COUNTING: &str = r#"// ---- the count: one stage at a time, or up to the next lot or the end
+pub(crate) const COUNTING: &str = r#"// ---- the count
 
 // The candidate chosen for a lot that isn't recorded yet.
 let drawn = {ward: 0, stage: 0, candidate: 0};

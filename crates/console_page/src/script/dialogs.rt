@@ -1,7 +1,7 @@
 //! Part of the script: questions before an order is sent, drafts of forms, dropped files, and printing.
 
 /// Declares the question before an order, and what forms, files and printing share.
-pub(crate) const DIALOGS: &str = r#"// ---- confirmation: what an order will do is shown before it is sent
+pub(crate) const DIALOGS: &str = r#"// ---- confirmation, forms, files and printing
 
 let answerAsked = () => {};
 

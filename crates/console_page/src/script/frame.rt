@@ -1,7 +1,7 @@
 //! Part of the script: the tabs, the choice of a ward, and how the page stays up to date.
 
 /// Declares the tabs, how one of them is opened and drawn, and how the page is refreshed.
-pub(crate) const FRAME: &str = r#"// ---- the sections of the console, and how it stays up to date
+pub(crate) const FRAME: &str = r#"// ---- sections
 
 const TABS = [
   ['overview', 'Overview'], ['nominations', 'Nominations'], ['batches', 'Batches'], ['doubtful', 'Doubtful papers'], ['count', 'Count'],

@@ -1,7 +1,7 @@
 //! Part of the script: how batches are given out.
 
 /// Declares how many batches at once are given out to pairs of tellers.
-pub(crate) const GIVING: &str = r#"// ---- giving out: many batches at once, each to two tellers, shown before they are sent
+pub(crate) const GIVING: &str = r#"// ---- giving out batches
 
 const MOST_GIVEN = 400;
 

@@ -1,7 +1,7 @@
 //! Part of the script: copies, downloads, and the accepted orders.
 
 /// Declares copies, the journal, the list of accepted orders, and the list of what this browser sent.
-pub(crate) const JOURNAL: &str = r#"// ---- copies, downloads, accepted orders, and orders sent from this browser
+pub(crate) const JOURNAL: &str = r#"// ---- copies, downloads and accepted orders
 
 const MOST_SHOWN = 100;
 

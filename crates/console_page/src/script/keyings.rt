@@ -1,7 +1,7 @@
 //! Part of the script: keyings from files.
 
 /// Declares how tellers' keyings are imported from files.
-pub(crate) const KEYINGS: &str = r#"// ---- tellers' files: the first line of each names its batch and its teller
+pub(crate) const KEYINGS: &str = r#"// ---- keyings from tellers' files
 
 // The files that were dropped last, each with its result.
 let brought = [];

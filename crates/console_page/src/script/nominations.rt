@@ -1,7 +1,7 @@
 //! Part of the script: wards and candidates.
 
 /// Declares how wards and candidates are added, candidates also from a file, and how nominations are closed.
-pub(crate) const NOMINATIONS: &str = r#"// ---- nominations: candidates are added one by one, or from a file that is shown first
+pub(crate) const NOMINATIONS: &str = r#"// ---- wards and candidates
 
 const MOST_CANDIDATES = 30;
 const SHOWN_RECORDS = 60;

@@ -1,7 +1,7 @@
 //! Part of the script: the overview of all wards.
 
 /// Declares the overview: what to do next, how far each ward is, and which tellers still have to key.
-pub(crate) const OVERVIEW: &str = r#"// ---- the overview: what to do next, the state of each ward, and the tellers who still have to key
+pub(crate) const OVERVIEW: &str = r#"// ---- the overview
 
 const COPY_AFTER = 45 * 60000;
 const MOST_STEPS = 8;

@@ -1,7 +1,7 @@
 //! Part of the script: orders that are sent until the office has replied.
 
 /// Declares how an order is sent. It is stored first, and sent again under its id until the office has replied.
-pub(crate) const PENDING: &str = r#"// ---- orders: each is stored before it is sent, and sent again with the same id until the office replies
+pub(crate) const PENDING: &str = r#"// ---- sending orders
 
 const WAITS = [2, 5, 10, 20, 30];
 const PENDING = 'order ';

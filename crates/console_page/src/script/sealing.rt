@@ -1,7 +1,7 @@
 //! Part of the script: the seal of a ward.
 
 /// Declares what is checked before a ward is sealed, and the seal itself.
-pub(crate) const SEALING: &str = r#"// ---- the seal: what is checked before it, and the seal itself
+pub(crate) const SEALING: &str = r#"// ---- the seal
 
 const check = (isRight, ...text) => made('li', {className: isRight ? 'right' : 'wrong'}, made('b', {}, isRight ? 'OK' : 'Check'), ' ', ...text);
 

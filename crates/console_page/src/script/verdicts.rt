@@ -1,7 +1,7 @@
 //! Part of the script: the verdicts of a ward.
 
 /// Declares the list of verdicts, and what comes after the last of them.
-pub(crate) const VERDICTS: &str = r#"// ---- the verdicts of a ward, to show to the agents
+pub(crate) const VERDICTS: &str = r#"// ---- verdicts
 
 const MOST_VERDICTS = 200;
 
