@@ -26,6 +26,7 @@
 #![tactic(auto)]
 
 // orders: what they ask, and their responses
+mod console_order;
 mod frame_sink;
 mod order_arrival;
 mod order_response;
