@@ -149,7 +149,8 @@ module _ (settings : ServerSettingsEntry) where
     -- ---- two services
 
     pub answered_alike : (view view_too : OfficeState) (exchanges others own same : List Exchange) → view ≡ view_too → AnswersAsSeen state_of settings clerk view exchanges
-        → AnswersAsSeen state_of settings clerk view_too others → AreClients settings.clients exchanges → AreClients settings.clients others → AreOwn settings.clients clerk exchanges own → AreOwn settings.clients clerk others same
+        → AnswersAsSeen state_of settings clerk view_too others → AreClients settings.clients exchanges → AreClients settings.clients others
+        → AreOwn settings.clients clerk exchanges own → AreOwn settings.clients clerk others same
         → map (λ (exchange : Exchange). exchange.got) own ≡ map (λ (exchange : Exchange). exchange.got) same → AreAnsweredAlike settings own same
     answered_alike view view_too exchanges others own same alike one two clients clients_too are are_too is =
         alike_at view own same (own_seen view exchanges own one clients are)

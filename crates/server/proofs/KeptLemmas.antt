@@ -308,7 +308,8 @@ module _ {S : Type 0} (settings : ServerSettingsEntry) (state_of : Held S → St
   asked_leaves s exchange old new (inr (it, emptied)) clean is_open at right =
       let had = it.follows in
       let told = had.tells in
-      let tells : (sent last : List Request) → TellsSo state_of (folder_of had.files) s had.asked told.cut told.page sent last → TellsConsole state_of settings s exchange.got exchange.answer sent last =
+      let tells : (sent last : List Request) → TellsSo state_of (folder_of had.files) s had.asked told.cut told.page sent last
+          → TellsConsole state_of settings s exchange.got exchange.answer sent last =
       λ sent last so. record {
         entry = it.entry;
         asks = it.asks;

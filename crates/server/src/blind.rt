@@ -13,8 +13,9 @@ use sqlite::Alter;
 /// number: the wards and their phases, the candidates, the batches, the clerk's own keyings and receipts. Nothing that another
 /// clerk sends changes it. An order may, since it is the office's.
 ///
-/// So take two services whose offices look alike to a clerk, and that receive no orders. If both receive the same bytes under the
-/// clerk's number, in the same order, both send the clerk the same, whatever other clerks keyed.
+/// So take two services whose offices look alike to a clerk, and that receive no orders, neither handed over nor from the
+/// console. If both receive the same bytes under the clerk's number, in the same order, both send the clerk the same, whatever
+/// other clerks keyed.
 ///
 /// The law doesn't cover faults, nor the responses that the client must wait (429) and that the file is gone (113). It says
 /// nothing of how long a response takes, nor of public reads: a stage sheet or a declaration.

@@ -43,7 +43,7 @@ fn words_of<'a>(alloc: Global, words: &'a [String]) -> Result<Vec<&'a str>, Allo
 
 /// Returns the files of an order, as those of a message. The only error is a failed allocation.
 fn files_of<'a>(alloc: Global, files: &'a [ConsoleFile]) -> Result<Vec<MessagePart<'a>>, AllocError>
-    ensures { IfOk result (λ parts. message_part_entries parts.items ≡ map (λ file. sent_file (console_file_entry file)) files.now) }
+    ensures { IfOk result (λ parts. message_part_entries parts.items ≡ map sent_file (map console_file_entry files.now)) }
 {
     let mut parts = Vec::new(alloc);
     for file in files {
@@ -58,7 +58,7 @@ fn files_of<'a>(alloc: Global, files: &'a [ConsoleFile]) -> Result<Vec<MessagePa
 /// Returns the words and the files of an order. The only error is a failed allocation.
 fn read_order<'a>(alloc: Global, order: &'a ConsoleOrder) -> Result<ReadOrder<'a>, AllocError>
     ensures words { IfOk result (λ read. map (λ text. text.now) read.words.items ≡ map string_bytes order.now.words.items) }
-    ensures files { IfOk result (λ read. message_part_entries read.files.items ≡ map (λ file. sent_file (console_file_entry file)) order.now.files.items) }
+    ensures files { IfOk result (λ read. message_part_entries read.files.items ≡ map sent_file (map console_file_entry order.now.files.items)) }
 {
     let words = words_of(alloc, &order.words)?;
     let files = files_of(alloc, &order.files)?;
@@ -70,13 +70,13 @@ fn read_order<'a>(alloc: Global, order: &'a ConsoleOrder) -> Result<ReadOrder<'a
 fn printed_response(alloc: Global, status: u8, out: &[u8], err: &[u8]) -> Response
     ensures { IsTold (printed_response status out.now err.now) result }
 {
-    let Ok(output) = str::from_utf8(out) else {
-        return Response::output_failed();
-    };
-    let Ok(errors) = str::from_utf8(err) else {
-        return Response::output_failed();
-    };
-    Response::of_order(alloc, status, output, errors)
+    match str::from_utf8(out) {
+        Ok(output) => match str::from_utf8(err) {
+            Ok(errors) => Response::of_order(alloc, status, output, errors),
+            Err(_) => Response::output_failed(),
+        },
+        Err(_) => Response::output_failed(),
+    }
 }
 
 /// Does what an order asks, and returns the response with what it printed.

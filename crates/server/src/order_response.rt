@@ -89,7 +89,10 @@ fn print_closed<O: Sink, E: Sink>(asked: &ServedOrder<'_>, out: &mut O, err: &mu
 fn is_bare_name(path: &str) -> bool
     ensures { result ≡ true → IsBareName path.now }
 {
-    !path.is_empty() && !path.as_bytes().contains(&b'/')
+    if path.is_empty() {
+        return false;
+    }
+    !path.as_bytes().contains(&b'/')
 }
 
 /// Returns the destination of a copy: a path, as seen from the folder in which the order was typed. From the console that folder
