@@ -165,14 +165,17 @@ module _ (itself : SeenIsAlike) (alike : AlikeOfficesAnswerAlike) (seen : SeenIs
             record {
               own = λ under. (
                 request ∷ [],
-                inr (free, (
-                  served,
-                  record {
-                    response = response;
-                    ready = inl (keying n batch entry, asks, (request, handed, subst (λ (t : Told). IsTold (told_response t) response) (told_seen s request its) told, refl));
-                    put = put;
-                  },
-                )),
+                inr (
+                  free,
+                  (
+                    served,
+                    record {
+                      response = response;
+                      ready = inl (keying n batch entry, asks, (request, handed, subst (λ (t : Told). IsTold (told_response t) response) (told_seen s request its) told, refl));
+                      put = put;
+                    },
+                  ),
+                ),
                 own_seen s request state its,
               );
               denied = none_denied;

@@ -252,16 +252,18 @@ module _ {S : Type 0} (settings : ServerSettingsEntry) (state_of : Held S → St
   asked_away exchange old new (inl (free, it)) closed = let (told, stays) = it.turned_away closed in (inl (inr (free, told)), stays)
   asked_away exchange old new (inr (it, emptied)) closed =
       let had = it.follows.tells in
-      let (page, stays) = had.turned_away closed in
-      (inr (record {
-        entry = it.entry;
-        asks = it.asks;
-        files = it.follows.files;
-        asked = it.follows.asked;
-        is = it.follows.is;
-        cut = had.cut;
-        told = subst (λ (p : Page). IsInResponse had.cut p exchange.answer) page had.told;
-      }), stays)
+      let (page, stays) = had.turned_away closed in (
+        inr (record {
+          entry = it.entry;
+          asks = it.asks;
+          files = it.follows.files;
+          asked = it.follows.asked;
+          is = it.follows.is;
+          cut = had.cut;
+          told = subst (λ (p : Page). IsInResponse had.cut p exchange.answer) page had.told;
+        }),
+        stays,
+      )
 
   clean_at : (listener : Listener) (exchange : Exchange) (old new : ServedOffice S) → ServesAt listener settings state_of old exchange new
       → HasCleanDisk (state_of new.office.held) → HasCleanDisk (state_of old.office.held)
@@ -309,7 +311,7 @@ module _ {S : Type 0} (settings : ServerSettingsEntry) (state_of : Held S → St
       let had = it.follows in
       let told = had.tells in
       let tells : (sent last : List Request) → TellsSo state_of (folder_of had.files) s had.asked told.cut told.page sent last
-          → TellsConsole state_of settings s exchange.got exchange.answer sent last =
+      → TellsConsole state_of settings s exchange.got exchange.answer sent last =
       λ sent last so. record {
         entry = it.entry;
         asks = it.asks;

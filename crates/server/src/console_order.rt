@@ -92,7 +92,11 @@ fn follow_asked<A: SideJobs, S: Alter>(order: &Handing<'_, A>, office: &mut Offi
 }
 
 /// Returns the response to an order that isn't followed because an allocation failed.
-fn follow_none<A: SideJobs, S: Alter>(alloc: Global, side_jobs: &A, office: &mut Office<S>) -> Response
+fn follow_none<A: SideJobs, S: Alter>(
+    alloc: Global,
+    side_jobs: &A,
+    office: &mut Office<S>,
+) -> Response
     ensures { Follows (state S.Store) office.old [] (ServedOrder.Refused (Failure.Office Fault.Memory)) (λ cut page. HasPrinted cut page result) office.new }
 {
     let order = Handing {
