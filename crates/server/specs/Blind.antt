@@ -29,16 +29,19 @@ use Rattle.server.specs.declared.serve_error.ServeError.{ServeError}
 
 -- ---- one request, next to a clerk's view of the office
 
--- These bytes ask for something under a clerk's number: to keep a keying, for the clerk's work, for the candidates of a batch, for the clerk's page, or to sign out. So they ask
--- no order.
+-- These bytes ask for something under a clerk's number: to keep a keying, for the clerk's work, for the candidates of a batch, for the clerk's page, or to sign out.
 pub record IsUnder (settings : HttpSettingsEntry) (clerk : ℕ) (bytes : List ℕ) : Type 0 where
   pub asked : HttpRequestEntry
   pub asks : Asks settings bytes asked
   pub its : clerk_asked asked ≡ Some clerk
 
--- A client that asks no order was served, next to a clerk's view of the office. If it asked under the clerk's number, the view alone determines the response, as the office's machine and its
--- reads answer there, and the client's own request makes the next view. A request that is rejected is answered by its own bytes. A client that didn't ask under the clerk's
--- number leaves the view as it was. This says nothing of the responses to other clerks and to public reads.
+-- The law: whoever asks for something under a clerk's number asks no order.
+abbrev pub ClerksAskNoOrder : Type 0
+ClerksAskNoOrder = (settings : HttpSettingsEntry) (clerk : ℕ) (bytes : List ℕ) → IsUnder settings clerk bytes → AsksNoOrder settings bytes
+
+-- A client that asks no order was served, next to a clerk's view of the office. If it asked under the clerk's number, the view alone determines the response, as the office's
+-- machine and its reads answer there, and the client's own request makes the next view. A request that is rejected is answered by its own bytes. A client that didn't ask under
+-- the clerk's number leaves the view as it was. This says nothing of the responses to other clerks and to public reads.
 pub record IsAnsweredBySeen (settings : ServerSettingsEntry) (clerk : ℕ) (view : OfficeState) (exchange : Exchange) (next : OfficeState) : Type 0 where
   pub own : IsUnder settings.clients clerk exchange.got → (sent : List Request) × IsClientAnsweredAt settings view exchange sent × (next ≡ after view sent)
   pub denied : (why : RequestError) → Asks settings.clients exchange.got (denied why) → IsClientAnsweredAt settings view exchange []
@@ -131,8 +134,8 @@ AreAnsweredAlike settings [] others = others ≡ []
 AreAnsweredAlike settings (one ∷ ones) [] = ⊥
 AreAnsweredAlike settings (one ∷ ones) (two ∷ twos) = (AreSentTheSame one two × AreAnsweredAlike settings ones twos) ⊎ (IsUnanswered settings one ⊎ IsUnanswered settings two)
 
--- The law: two offices look alike to a clerk, and both serve only clients that ask no orders. Under the clerk's number both receive the same bytes, in the same order. Then both send the
--- clerk the same, whatever other clerks send.
+-- The law: two offices look alike to a clerk, and both serve only clients that ask no orders. Under the clerk's number both receive the same bytes, in the same order. Then
+-- both send the clerk the same, whatever other clerks send.
 abbrev pub ClerksCannotTell : {S : Type 0} → (Held S → State) → Type 0
 ClerksCannotTell state_of =
     (settings : ServerSettingsEntry) (clerk : ℕ) (s t : OfficeState) (exchanges others own same : List Exchange) (answered last told next : List Request)
