@@ -243,7 +243,7 @@ module _ (itself : SeenIsAlike) (alike : AlikeOfficesAnswerAlike) (seen : SeenIs
 
     stop_seen : (listener : Listener) (s : OfficeState) (exchange : Exchange) (answered last : List Request) → IsStoppedAt listener state_of settings s exchange answered last
         → IsStoppedBySeen listener state_of settings clerk (seen_by clerk s) exchange
-    stop_seen Clients s exchange answered last (inl it) = inl (it.asks, it.told)
+    stop_seen Clients s exchange answered last (inl it) = inl (it.no_order, it.told)
     stop_seen Clients s exchange answered last (inr it) =
         inr (seen_by clerk (after s answered), record { s = s; seen = refl; sent = answered; last = last; tells = it; made = refl })
     stop_seen Orders s exchange answered last it = (seen_by clerk (after s answered), record { s = s; seen = refl; sent = answered; last = last; tells = it; made = refl })

@@ -299,7 +299,7 @@ module _ {S : Type 0} (settings : ServerSettingsEntry) (state_of : Held S → St
   served_leaves s exchange old new free it clean is_open at right =
       elim (client_leaves settings.clients s exchange new.office.closed (state_of new.office.held) (it.serves clean is_open s at right)) [
         | inl (sent, told, open_at) ↦ inl (sent, inl (inr (free, told)), kept_right s exchange old new it clean is_open at right sent told, open_at)
-        | inr (last, ends, is_last, (is_closed, leaves)) ↦ inr ([], last, inl (record { asks = free; told = ends; none = refl; is_last = is_last }), is_closed, leaves)
+        | inr (last, ends, is_last, (is_closed, leaves)) ↦ inr ([], last, inl (record { no_order = free; told = ends; none = refl; is_last = is_last }), is_closed, leaves)
       ]
 
   -- so it was, or its order was followed

@@ -166,7 +166,7 @@ IsAnsweredAt Orders state_of settings s exchange sent = (last : List Request) ×
 
 -- a fault, which is the response, closed the office while a client that asks no order was served: no command was answered for it, and its keying may be kept or not
 pub record IsClientStopped (settings : ServerSettingsEntry) (exchange : Exchange) (answered last : List Request) : Type 0 where
-  pub asks : AsksNoOrder settings.clients exchange.got
+  pub no_order : AsksNoOrder settings.clients exchange.got
   pub told : EndsSo exchange (IsServed TellsFault)
   pub none : answered ≡ []
   pub is_last : IsLastFor settings.clients exchange.got last
