@@ -19,7 +19,7 @@ use Rattle.order_protocol.specs.declared.order_message.MessagePart.{MessagePart}
 use Rattle.order_protocol.proofs.MessageParts.{handed_again}
 use Rattle.desk.specs.Pages.{Cut, IsShown, Outputs, Page, Shows, Tells, cut_behind, cut_error, uncut}
 use Rattle.desk.specs.declared.lines.Failure.TheVariants.{Office}
-use Rattle.server.specs.ServedOrders.{AsksSo, IsOrderOutcome, FollowsOrder, IsForFile, IsMessage, IsUnread, TellsAsked, folder_of, shut_page, untold, words_in}
+use Rattle.server.specs.ServedOrders.{AsksSo, Follows, IsOrderOutcome, FollowsOrder, IsForFile, IsMessage, IsUnread, TellsAsked, folder_of, shut_page, untold, words_in}
 use Rattle.server.specs.FrameSinks.{IsEnded}
 use Rattle.server.specs.Settings.{ServerSettingsEntry}
 use Rattle.server.specs.declared.served_order.ServedOrder.{ServedOrder}
@@ -45,6 +45,33 @@ shown_said : (cut : Cut) (told : Outputs) (page : Page) (status : ℕ) → IsSho
 shown_said uncut told page status it = taken_known told.out page.out it.out
 shown_said (cut_behind took) told page status it = taken_known told.out took it.out
 shown_said cut_error told page status it = taken_known told.out page.out it.out
+
+-- what is asked had its turn, and so much of its page was sent so
+pub follows_asked : {S : Type 0} (state_of : Held S → State) (old new : OfficeValue S) (files : List MessagePartEntry) (what : ServedOrder) (before after : Outputs) (status : ℕ)
+    (IsSent : Cut → Page → Type 0) → before ≡ untold → ((cut : Cut) (page : Page) → IsShown cut untold after page status → IsSent cut page)
+    → Tells before after status (λ cut page. WhenOpenAt state_of old new (λ s. IsOrderOutcome (state_of old.held) new.closed (state_of new.held) (folder_of files) s what cut page)
+    × (old.closed ≡ true → page ≡ shut_page what)) → (old.closed ≡ true → new ≡ old) → (HasCleanDisk (state_of new.held) → HasCleanDisk (state_of old.held))
+    → Follows state_of old files what IsSent new
+follows_asked {S} state_of old new files what before after status IsSent start sends it stays clean = record {
+  cut = it.cut;
+  page = it.page;
+  told = sends it.cut it.page (subst (λ (o : Outputs). IsShown it.cut o after it.page status) start it.shown);
+  does = it.is.0;
+  turned_away = λ closed. (it.is.1 closed, stays closed);
+  clean = clean;
+}
+
+-- the same, sent in another way
+pub follows_sent : {S : Type 0} (state_of : Held S → State) (old new : OfficeValue S) (files : List MessagePartEntry) (what : ServedOrder) (IsSent IsSentToo : Cut → Page → Type 0)
+    → ((cut : Cut) (page : Page) → IsSent cut page → IsSentToo cut page) → Follows state_of old files what IsSent new → Follows state_of old files what IsSentToo new
+follows_sent {S} state_of old new files what IsSent IsSentToo turns it = record {
+  cut = it.cut;
+  page = it.page;
+  told = turns it.cut it.page it.told;
+  does = it.does;
+  turned_away = it.turned_away;
+  clean = it.clean;
+}
 
 -- what is asked had its turn, and its page was told in frames
 pub tells_asked : {L S : Type 0} (stream : Stream L) (state_of : Held S → State) (old new : OfficeValue S) (files : List MessagePartEntry) (what : ServedOrder)
@@ -141,7 +168,7 @@ follows_unread {S} settings state_of old new got frames files what unread none t
 -- what is read is followed, by the words and with the files as they were read
 pub follows_read : {S : Type 0} (settings : ServerSettingsEntry) (state_of : Held S → State) (old new : OfficeValue S) (got frames : List ℕ) (h : OrderMessage)
     (files : List MessagePart) (what : ServedOrder)
-    → IsMessage got (order_message_entry h) → IsForFile settings.file (order_message_entry h) → files ≡ h.files.items → AsksSo settings.whole (order_message_entry h) what
+    → IsMessage got (order_message_entry h) → IsForFile settings.file (order_message_entry h) → files ≡ h.files.items → AsksSo settings.whole (words_in (order_message_entry h)) what
     → TellsAsked state_of old (message_part_entries files) what frames new → FollowsOrder settings state_of old got frames new
 follows_read {S} settings state_of old new got frames h files what message for_file same asks tells =
     record { files = message_part_entries files; asked = what; is = inl (order_message_entry h, message, for_file, ap message_part_entries same, asks); tells = tells }

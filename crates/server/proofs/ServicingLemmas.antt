@@ -30,7 +30,8 @@ use Rattle.connections.proofs.StreamLemmas.{heard_more, told_more, told_none}
 use Rattle.server.specs.Settings.{ServerSettingsEntry}
 use Rattle.server.specs.Servicing.{Services, HasComeAt, HasResponded, HasExchanges, IsAtGate, IsCome, IsLostOnly, LooksAtGate, MayHaveResponded, WasServiced, answer_of, moment_of, response_at}
 use Rattle.server.specs.Reads.{ServedOffice}
-use Rattle.server.specs.Exchanges.{EndsIn, IsGoneResponse, IsWaitResponse, ServesExchange, Exchange}
+use Rattle.server.specs.Endings.{EndsIn}
+use Rattle.server.specs.Exchanges.{IsGoneResponse, IsWaitResponse, ServesExchange, Exchange}
 
 pub none_from : {X : Type 0} (found : Option X) → is_some found ≡ false → found ≡ None
 none_from None is = refl

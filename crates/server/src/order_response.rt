@@ -1,15 +1,17 @@
-//! The response to an order: it is processed in the open office, and its output is sent in frames.
+//! The response to an order that is handed over: it is processed in the open office, and its output is sent in frames.
+//! `console_order` shares how an order is processed.
 
-ghost use Rattle.std.specs.Prelude.{◌≡◌, ⊤, ◌-◌, ◌^◌, ◌<◌, ℕ, List, [], true};
+ghost use Rattle.std.specs.Prelude.{◌≡◌, ⊤, ◌-◌, ◌^◌, ◌<◌, ℕ, IfSome, List, [], None, true};
+ghost use Rattle.clap.specs.Words.{Text};
 ghost use Rattle.sqlite.specs.State.{HasCleanDisk};
 ghost use Rattle.sqlite.specs.Held.{state};
 ghost use Rattle.office.specs.Answers.{IsReadAt, WhenOpenAt};
 ghost use Rattle.connections.specs.Streams.{HasTaken, stream_of};
 ghost use Rattle.connections.specs.Clients.{IsSent};
-ghost use Rattle.order_protocol.specs.Messages.{OrderMessageEntry, order_message_entry, message_part_entries};
+ghost use Rattle.order_protocol.specs.Messages.{order_message_entry, message_part_entries};
 ghost use Rattle.desk.specs.Pages.{Shows, Tells, outputs_of};
 ghost use Rattle.server.specs.Settings.{settings_in};
-ghost use Rattle.server.specs.ServedOrders.{AsksSo, IsOrderOutcome, FollowsOrder, HasCameWhole, IsCopyTold, IsMessage, TellsAsked, folder_of, shut_page};
+ghost use Rattle.server.specs.ServedOrders.{AsksSo, IsBareName, IsOrderOutcome, FollowsOrder, HasCameWhole, IsCopyTold, IsMessage, TellsAsked, folder_of, shut_page};
 
 use crate::frame_sink::FrameSink;
 use crate::order_arrival::LENGTH;
@@ -25,11 +27,12 @@ use std::alloc::{AllocError, Global};
 use store::Fault;
 use streams::Sink;
 
-/// The files that came with an order, and the folder in which it was typed. At any other path there is no file.
+/// The files that came with an order, and the folder in which it was typed: `None` for an order of the console. At any other path
+/// there is no file.
 #[derive(Clone, Copy)]
-struct AttachedFiles<'b> {
-    folder: &'b [u8],
-    files: &'b [MessagePart<'b>],
+pub struct AttachedFiles<'b> {
+    pub folder: Option<&'b [u8]>,
+    pub files: &'b [MessagePart<'b>],
 }
 
 impl<'b> Folder for AttachedFiles<'b> {
@@ -48,11 +51,11 @@ impl<'b> Folder for AttachedFiles<'b> {
 }
 
 /// An order that is processed: what it asks, the files that came with it, and what it needs besides the office.
-struct Handing<'t, A> {
-    alloc: Global,
-    side_jobs: &'t A,
-    asked: &'t ServedOrder<'t>,
-    attached: AttachedFiles<'t>,
+pub struct Handing<'t, A> {
+    pub alloc: Global,
+    pub side_jobs: &'t A,
+    pub asked: &'t ServedOrder<'t>,
+    pub attached: AttachedFiles<'t>,
 }
 
 impl<A> Clone for Handing<'_, A> {
@@ -82,7 +85,37 @@ fn print_closed<O: Sink, E: Sink>(asked: &ServedOrder<'_>, out: &mut O, err: &mu
     }
 }
 
-/// Copies the office for an order, to a path as seen from the order's folder. There is no folder if its name isn't UTF-8.
+/// Returns whether a path is a name alone: it isn't empty, and has no `/`.
+fn is_bare_name(path: &str) -> bool
+    ensures { result ≡ true → IsBareName path.now }
+{
+    if path.is_empty() {
+        return false;
+    }
+    !path.as_bytes().contains(&b'/')
+}
+
+/// Returns the destination of a copy: a path, as seen from the folder in which the order was typed. From the console that folder
+/// is empty, and the path is a name alone. `None` if it is none, or if the folder's name isn't UTF-8.
+fn destination_of<'t>(folder: Option<&'t [u8]>, path: &'t str) -> Option<Destination<'t>>
+    ensures { folder.entry ≡ None → IfSome result (λ to. (to.folder.now ≡ []) × IsBareName to.path.now) }
+{
+    match folder {
+        Some(folder) => match str::from_utf8(folder) {
+            Ok(folder) => Some(Destination { folder, path }),
+            Err(_) => None,
+        },
+        None => {
+            if is_bare_name(path) {
+                Some(Destination { folder: "", path })
+            } else {
+                None
+            }
+        }
+    }
+}
+
+/// Copies the office for an order, to a path as seen from the order's folder, if there is such a path.
 fn copy_for_order<A: SideJobs, S: Alter, O: Sink, E: Sink>(
     order: &Handing<'_, A>,
     path: &str,
@@ -96,12 +129,9 @@ fn copy_for_order<A: SideJobs, S: Alter, O: Sink, E: Sink>(
         (λ _ page. WhenOpenAt (state S.Store) office.old office.new (λ s. IsCopyTold s page × IsReadAt s office.new.closed (state S.Store office.new.held))) }
     ensures clean { HasCleanDisk (state S.Store office.new.held) → HasCleanDisk (state S.Store office.old.held) }
 {
-    match str::from_utf8(order.attached.folder) {
-        Ok(folder) => {
-            let to = Destination { folder, path };
-            order.side_jobs.copy(office, to, out, err)
-        }
-        Err(_) => tell_failure(Failure::CopyFailed, err),
+    match destination_of(order.attached.folder, path) {
+        Some(to) => order.side_jobs.copy(office, to, out, err),
+        None => tell_failure(Failure::CopyFailed, err),
     }
 }
 
@@ -131,7 +161,7 @@ fn do_open<A: SideJobs, S: Alter, O: Sink, E: Sink>(
 
 /// Does what an order asks in the office, which is open or closed, and returns the status. A closed office reports that it is
 /// closed, for anything it would do otherwise.
-fn do_asked<A: SideJobs, S: Alter, O: Sink, E: Sink>(
+pub fn do_asked<A: SideJobs, S: Alter, O: Sink, E: Sink>(
     order: &Handing<'_, A>,
     office: &mut Office<S>,
     out: &mut O,
@@ -172,8 +202,8 @@ fn respond_to_asked<L: Stream, A: SideJobs, S: Alter>(
 }
 
 /// Returns what an order asks; or that it isn't followed, if it asks for a job and the office's file is gone or replaced.
-fn unless_gone<'w, A: SideJobs>(asked: ServedOrder<'w>, side_jobs: &A) -> ServedOrder<'w>
-    ensures { (h : OrderMessageEntry) → AsksSo (A.whole side_jobs.now) h asked.entry → AsksSo (A.whole side_jobs.now) h result }
+pub fn unless_gone<'w, A: SideJobs>(asked: ServedOrder<'w>, side_jobs: &A) -> ServedOrder<'w>
+    ensures { (words : List Text) → AsksSo (A.whole side_jobs.now) words asked.entry → AsksSo (A.whole side_jobs.now) words result }
 {
     match asked {
         ServedOrder::Do(job) => {
@@ -204,7 +234,7 @@ fn tell_refused<L: Stream, A: SideJobs, S: Alter>(
         side_jobs,
         asked: &ServedOrder::Refused(Failure::Office(fault)),
         attached: AttachedFiles {
-            folder: &[],
+            folder: None,
             files: &[],
         },
     };
@@ -243,7 +273,7 @@ fn respond_to_message<L: Stream, A: SideJobs, S: Alter>(
         side_jobs: server_settings.side_jobs,
         asked: &asked,
         attached: AttachedFiles {
-            folder: message.folder,
+            folder: Some(message.folder),
             files: &message.files,
         },
     };

@@ -18,8 +18,10 @@ ghost use Rattle.wire.specs.Requests.{Asks, http_request_entry, reading};
 ghost use Rattle.wire.specs.declared.target.Resource.{Resource};
 ghost use Rattle.codes.specs.RateLimits.{limit_entry};
 ghost use Rattle.server.specs.Reads.{IsRead, TellsNoFault, served_office, memory_entry};
-ghost use Rattle.server.specs.Exchanges.{ChangesNothing, EndsIn, HasAnswered, IsGoneResponse, IsWaitResponse, RespondsToClient, ServesClient, Exchange};
+ghost use Rattle.server.specs.Endings.{EndsIn};
+ghost use Rattle.server.specs.Exchanges.{ChangesNothing, HasAnswered, IsGoneResponse, IsWaitResponse, RespondsToClient, ServesAsked, ServesClient, Exchange};
 
+use crate::console_order::answer_console;
 use crate::order_arrival::receive_message;
 use crate::order_response::answer_order;
 use crate::server_memory::ServerMemory;
@@ -180,21 +182,21 @@ fn written(alloc: Global, response: &Response) -> PendingResponse
 }
 
 /// Returns the response to a client that is let in, of which these bytes were received; nothing of it was sent yet. The cache is
-/// emptied before a keying, and if an allocation for the request fails.
-fn answer_request<S: Alter>(
-    settings: HttpSettings<'_>,
+/// emptied before a keying or an order, and if an allocation for the request fails.
+fn answer_request<A: SideJobs, S: Alter>(
+    server_settings: ServerSettings<'_, A>,
     parsed: Parsed,
     got: &[u8],
     office: &mut Office<S>,
     kept: &mut ServerMemory,
 ) -> PendingResponse
-    requires { IsParsed (settings_entry settings) got.now parsed }
-    ensures served { (number moment : ℕ) → ServesClient (settings_entry settings.entry) (state S.Store) (served_office office.old (memory_entry kept.old))
+    requires { IsParsed (settings_entry server_settings.http) got.now parsed }
+    ensures served { (number moment : ℕ) → ServesAsked (settings_in A.whole server_settings.entry) (state S.Store) (served_office office.old (memory_entry kept.old))
         (record { listener = Listener.Clients; number = number; moment = moment; got = got.now; answer = result.bytes.items }) (served_office office.new (memory_entry kept.new)) }
     ensures limit { limit_entry kept.new.limit ≡ limit_entry kept.old.limit }
     ensures untold { result.sent ≡ 0 }
 {
-    let Ok(asked) = parsed.asked(kept.alloc, settings, got) else {
+    let Ok(asked) = parsed.asked(kept.alloc, server_settings.http, got) else {
         kept.reads.empty();
         return no_memory_response(kept.alloc);
     };
@@ -212,6 +214,15 @@ fn answer_request<S: Alter>(
         HttpRequest::Shown(clerk, show) => {
             let (bytes, _) = response_to(kept.alloc, HttpRequest::Shown(clerk, show), office);
             PendingResponse { bytes, sent: 0 }
+        }
+        HttpRequest::Console(show) => {
+            let (bytes, _) = response_to(kept.alloc, HttpRequest::Console(show), office);
+            PendingResponse { bytes, sent: 0 }
+        }
+        HttpRequest::Order(order) => {
+            kept.reads.empty();
+            let response = answer_console(kept.alloc, server_settings, &order, office);
+            written(kept.alloc, &response)
         }
     }
 }
@@ -303,7 +314,7 @@ fn answer_client<A: SideJobs, S: Alter>(
     if is_without_file(server_settings.side_jobs, parsed, office.is_closed()) {
         return gone_response(kept.alloc);
     }
-    let answer = answer_request(server_settings.http, parsed, got, office, kept);
+    let answer = answer_request(server_settings, parsed, got, office, kept);
     kept.note(authentication, moment);
     answer
 }

@@ -16,6 +16,7 @@ ghost use Rattle.wire.specs.Told.{IsTold};
 use crate::bodies::{fault_body, refusal_body, reply_body};
 use crate::candidates::paper_body;
 use crate::request::{HttpRequest, Keying};
+use crate::request_error::RequestError;
 use crate::response::{Content, Response};
 use crate::target::Resource;
 use crate::work::work_body;

@@ -75,6 +75,10 @@ const WAITS: &str =
 const GONE: &str =
     "HTTP/1.1 503 Service Unavailable\r\nContent-Type: application/json\r\nContent-Length: 13\r\nConnection: close\r\n\r\n{\"fault\":113}";
 
+/// The response to an order whose output isn't UTF-8.
+const OUTPUT_FAILED: &str =
+    "HTTP/1.1 503 Service Unavailable\r\nContent-Type: application/json\r\nContent-Length: 13\r\nConnection: close\r\n\r\n{\"fault\":107}";
+
 /// The response to signing out.
 const LEFT: &str =
     "HTTP/1.1 200 OK\r\nContent-Type: application/json\r\nContent-Length: 13\r\nClear-Site-Data: \"cookies\"\r\nCache-Control: no-store\r\nConnection: close\r\n\r\n{\"left\":true}";
@@ -313,6 +317,16 @@ impl Response {
         Response {
             status: 503,
             bytes: Bytes::Fixed(GONE),
+        }
+    }
+
+    /// Returns the response to an order whose output isn't UTF-8, so that it can't be sent (107).
+    pub fn output_failed() -> Response
+        ensures { IsWritten (fault_response 107) result }
+    {
+        Response {
+            status: 503,
+            bytes: Bytes::Fixed(OUTPUT_FAILED),
         }
     }
 

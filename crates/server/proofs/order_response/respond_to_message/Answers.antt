@@ -1,9 +1,10 @@
 -- Why `respond_to_message` keeps its promise.
-use Rattle.std.proofs.Common.{refl}
+use Rattle.std.proofs.Common.{List, refl, subst, sym, ℕ}
 use Rattle.sqlite.specs.Held.{state}
 use Rattle.tables.specs.declared.fault.Fault.TheVariants.{Store}
 use Rattle.order_protocol.specs.Messages.{order_message_entry}
 use Rattle.desk.specs.declared.lines.Failure.TheVariants.{Office}
+use Rattle.server.specs.ServedOrders.{AsksSo, words_in}
 use Rattle.server.specs.Settings.{settings_in}
 use Rattle.server.specs.declared.served_order.ServedOrder.TheVariants as asked
 use Rattle.server.proofs.OrderLemmas.{follows_read, follows_unread, other_file, words_same, words_unread}
@@ -24,10 +25,11 @@ returns-in-Err-clause-followed g c = λ got message.
 
 pub returns-clause-followed : goal.returns-clause-followed
 returns-clause-followed g c = λ got message.
+    let whole = g.A.SideJobs.whole c.args.server_settings.side_jobs.now in
+    let words = words_in (order_message_entry c.args.message.now) in
+    let same = words_same c.args.message.now c.deref.result.now c.in-Ok.words.items c.deref-2.result.now c.deref.ensures.value c.in-Ok.ensures.ok c.deref-2.ensures.value in
     follows_read (settings_in g.A.SideJobs.whole c.args.server_settings) (state g.S.Store) c.args.office.now c.respond_to_asked.new.office got
     c.respond_to_asked.result.1.bytes.items c.args.message.now c.deref-3.result.now c.unless_gone-asked.result message
     (c.is_for_file.ensures.0 (cc c.if-not-is_for_file.false)) c.deref-3.ensures.value
-    (c.unless_gone-asked.ensures (order_message_entry c.args.message.now) (c.served_order_by.ensures (g.A.SideJobs.whole c.args.server_settings.side_jobs.now)
-    (order_message_entry c.args.message.now) (words_same c.args.message.now c.deref.result.now c.in-Ok.words.items c.deref-2.result.now
-    c.deref.ensures.value c.in-Ok.ensures.ok c.deref-2.ensures.value)))
+    (c.unless_gone-asked.ensures words (subst (λ (ws : List (List ℕ)). AsksSo whole ws c.served_order_by.result) (sym same) (c.served_order_by.ensures whole)))
     c.respond_to_asked.ensures.followed
