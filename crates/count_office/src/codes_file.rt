@@ -7,12 +7,8 @@ ghost use Rattle.desk.specs.Pages.{IsErrorTold, Shows, Tells, outputs_of};
 ghost use Rattle.count_office.specs.NewCodes.{IsFileOfNewCodes, IsPageOfNewCodes, made_page};
 ghost use Rattle.count_office.specs.Serving.{untaken};
 
-use codes::{
-    ClerkRange, Codes, CodesError, CodesFault, DrawFailed, Draws, make, make_with_office,
-};
-use desk::{
-    Failure, tell_codes_and_office_made, tell_codes_fault, tell_codes_made, tell_failure,
-};
+use codes::{ClerkRange, Codes, CodesError, CodesFault, DrawFailed, Draws, make, make_with_office};
+use desk::{Failure, tell_codes_and_office_made, tell_codes_fault, tell_codes_made, tell_failure};
 use std::alloc::Global;
 use std::fs::{self, File, OpenOptions};
 use std::io::{self, Read, Write};

@@ -233,11 +233,13 @@ fn follow<O: Sink, E: Sink>(rt: &HostRuntime, words: &[&str], out: &mut O, err: 
 {
     match order(rt.alloc(), &*words) {
         // codes are made without a database
-        Ok(Order::Codes {
-            path,
-            clerks,
-            with_office,
-        }) => {
+        Ok(
+            Order::Codes {
+                path,
+                clerks,
+                with_office,
+            },
+        ) => {
             let asked = NewCodes {
                 path,
                 clerks,

@@ -295,7 +295,11 @@ pub fn tell_codes_and_office_made<O: Sink, E: Sink>(count: u32, out: &mut O, err
     ensures { let outputs = outputs_of O.taken O.failed E.taken E.failed in Shows (outputs out.old err.old) (outputs out.new err.new) (codes_and_office_made_page count) result }
 {
     let mut digits = Buffer::new();
-    let pieces = ["codes written: ", digits.format(count), ", and the office's\n"];
+    let pieces = [
+        "codes written: ",
+        digits.format(count),
+        ", and the office's\n",
+    ];
     tell_text(&pieces, out, err)
 }
 
