@@ -141,8 +141,7 @@ fn codes_for<D: Draws>(
     }
 }
 
-/// Prints for how many clerks codes were made, and that the office has one if it has, and returns the status: 0, or 3 if the output
-/// fails.
+/// Prints that codes were made for so many clerks, and for the office or not, and returns the status: 0, or 3 if the output fails.
 fn tell_made<O: Sink, E: Sink>(with_office: bool, count: u32, out: &mut O, err: &mut E) -> u8
     requires out { O.failed out.old < 2 ^ 64 - 1 }
     requires err { E.failed err.old < 2 ^ 64 - 1 }
@@ -163,8 +162,8 @@ pub struct NewCodes<'a> {
     pub with_office: bool,
 }
 
-/// Writes a new file of codes, and returns the status: 0 if the file was written; 1 with a codes fault; 3 if memory was wanting or an
-/// output failed. It writes over no file.
+/// Writes a new file of codes, prints how many clerks it is for or why there is none, and returns the status: 0; 1 for a codes fault;
+/// 3 if an allocation or an output failed. It never overwrites a file.
 pub fn make_codes_file<O: Sink, E: Sink>(
     rt: &HostRuntime,
     asked: NewCodes<'_>,
