@@ -57,6 +57,8 @@ let_in() {
     ask /clerks/4/work -u 4:KF7M-2WXT
     ask /clerks/4/work -u 9:w3hd-4psn
     ask /clerks/9/work -u 4:kf7m-2wxt
+    ask /clerks/4/work -u office:h4dn-p3cs-kf7m-2wxt
+    ask /clerks/4/work -u 4:h4dn-p3cs-kf7m-2wxt
     ask /clerks/4/batches/12/candidates -u 4:kf7m-2wxt
     ask /clerks/4/batches/13/candidates -u 4:kf7m-2wxt
     ask /clerks/4/batches/12/keying -d "$keyed"
@@ -95,6 +97,10 @@ let_in() {
     sed 's/.* //' "$folder/made.txt" "$folder/second.txt" | sort | uniq -d | wc -l
     # what is there is left
     play town.db codes made.txt 1-40
+    # with a code for the office, which is longer, in a last line
+    play town.db codes office.txt 4-5 --office
+    sed 's/\(-\{0,1\}[a-z2-7]\{4\}\)\{4\}$/LONG CODE/; s/\(-\{0,1\}[a-z2-7]\{4\}\)\{3\}$/CODE/' "$folder/office.txt"
+    stat --format '%a' "$folder/office.txt"
     # it needs no database
     play nothing.db codes other.txt 4-4
     play town.db codes more.txt 40-1
@@ -110,10 +116,13 @@ let_in() {
     refuse 600 '4 kf7m-2wxt\r\n9 short\r\n'
     refuse 600 '4 kf7m-2wxt\n4 w3hd-4psn\n'
     refuse 600 '4 kf7m-2wxt\n9 kf7m-2wxt\n'
+    refuse 600 'office h4dn-p3cs-kf7m-2wxt\n4 kf7m-2wxt\noffice w3hd-4psn-kf7m-2wxt\n'
+    refuse 600 '4 kf7m-2wxt\noffice w3hd-4psn-h4dn\n'
+    refuse 600 '4 h4dn-p3cs-kf7m-2wxt\noffice h4dn-p3cs-kf7m-2wxt\n'
     play town.db serve "$port" 1 --codes missing.txt | sed "s/ $port / PORT /"
     play town.db serve "$port" 1 --codes . | sed "s/ $port / PORT /"
 
-    (umask 077 && printf '4 kf7m-2wxt\n9 w3hd-4psn\n' >"$folder/codes.txt")
+    (umask 077 && printf '4 kf7m-2wxt\n9 w3hd-4psn\noffice h4dn-p3cs-kf7m-2wxt\n' >"$folder/codes.txt")
     serve let_in
 } >"$folder/played" 2>&1
 

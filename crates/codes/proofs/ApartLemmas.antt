@@ -116,7 +116,8 @@ held_apart : (entries : List CodeEntry) (code : Option (List ℕ)) → AreApart 
 held_apart entries None clerk text is = refl
 held_apart entries (Some own) clerk text is = code_apart entries own clerk text is
 
-pub read_apart : (holders : List Holder) (own : Option (List ℕ)) (entries : List CodeEntry) (code : Option (List ℕ)) → holders ≡ holders_by entries → own ≡ office_held code → AreApart holders own
+pub read_apart : (holders : List Holder) (own : Option (List ℕ)) (entries : List CodeEntry) (code : Option (List ℕ))
+    → holders ≡ holders_by entries → own ≡ office_held code → AreApart holders own
 read_apart holders own entries code of_clerks offices clerk text is =
     ap (λ (o : Option (List ℕ)). is_office o text) offices
     ∙ held_apart entries code clerk text (ap (λ (hs : List Holder). is_of hs clerk text) (sym of_clerks) ∙ is)

@@ -1,5 +1,6 @@
 -- Lines after others, and files without a line of the office.
-use Rattle.std.proofs.Common.{◌≡◌, ◌∙◌, ◌==◌, ◌+◌, ◌++◌, ◌∷◌, ◌||◌, Bool, true, false, List, [], Err, None, Ok, Result, ap, if◌then◌else◌, length, map, refl, sym, ℕ}
+use Rattle.std.proofs.Common.{◌≡◌, ◌∙◌, ◌==◌, ◌+◌, ◌++◌, ◌∷◌, ◌||◌, Bool, true, false, List, [], ℕ}
+use Rattle.std.proofs.Common.{Err, None, Ok, Result, ap, if◌then◌else◌, length, map, refl, sym}
 use Rattle.std.specs.Prelude.{bytes_eq}
 use Rattle.std.specs.List.{list_any}
 use Rattle.codes.specs.Files.{CodeEntry, FileEntry, clerks_by, code_entry, codes_in, entry_behind, entry_in, file_by, file_from, has_code, is_office_line, lines_from}
@@ -71,13 +72,15 @@ behind_alone : (before : List CodeEntry) (read : Result CodeEntry CodeFlaw) → 
 behind_alone before (Err flaw) = refl
 behind_alone before (Ok entry) = rw (none_more (list_any (λ (other : CodeEntry). bytes_eq other.code entry.code) before)) refl
 
-by_alone : (others : FileEntry → Result FileEntry CodesFault) (alone : List CodeEntry → Result (List CodeEntry) CodesFault) (number : ℕ) (before : List CodeEntry) (found : Result CodeEntry CodeFlaw)
+by_alone : (others : FileEntry → Result FileEntry CodesFault) (alone : List CodeEntry → Result (List CodeEntry) CodesFault)
+    (number : ℕ) (before : List CodeEntry) (found : Result CodeEntry CodeFlaw)
     → ((all : List CodeEntry) → others (clerks_alone all) ≡ file_alone (alone all))
     → file_by others number (with_clerk (clerks_alone before) found) ≡ file_alone (alone_by alone number before found)
 by_alone others alone number before (Err flaw) more = refl
 by_alone others alone number before (Ok entry) more = more (before ++ entry ∷ [])
 
-line_alone : (skipped : Bool) (others : FileEntry → Result FileEntry CodesFault) (alone : List CodeEntry → Result (List CodeEntry) CodesFault) (number : ℕ) (before : List CodeEntry) (line : List ℕ)
+line_alone : (skipped : Bool) (others : FileEntry → Result FileEntry CodesFault) (alone : List CodeEntry → Result (List CodeEntry) CodesFault)
+    (number : ℕ) (before : List CodeEntry) (line : List ℕ)
     → is_office_line line ≡ false → ((all : List CodeEntry) → others (clerks_alone all) ≡ file_alone (alone all))
     → (if skipped then others (clerks_alone before) else file_by others number (with_line (clerks_alone before) line))
     ≡ file_alone (if skipped then alone before else alone_by alone number before (alone_behind before (entry_in line)))

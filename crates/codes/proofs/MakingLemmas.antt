@@ -34,7 +34,8 @@ clerks_apart code (e ∷ entries) long made =
 -- ---- what the test of a file says
 
 -- a text that passes the test is a file of codes for these clerks
-of_clerks : (clerks : ClerkRange) (office : Bool) (text : List ℕ) (file : FileEntry) → file_in text ≡ Ok file → is_file_for clerks office (Ok file) ≡ true → IsMadeFor (clerks_of clerks) text
+of_clerks : (clerks : ClerkRange) (office : Bool) (text : List ℕ) (file : FileEntry) → file_in text ≡ Ok file
+    → is_file_for clerks office (Ok file) ≡ true → IsMadeFor (clerks_of clerks) text
 of_clerks clerks office text file same is =
     let parts = and_parts (are_from clerks.first (clerks.last + 1) file.clerks) _ is in
     record {

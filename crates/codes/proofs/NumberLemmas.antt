@@ -1,5 +1,6 @@
 -- Clerks in a row, and their lines.
-use Rattle.std.proofs.Common.{◌≡◌, ◌∙◌, ◌+◌, ◌-◌, ◌<◌, ◌≤◌, ◌++◌, ◌∷◌, ◌==◌, true, [], List, ap, append-nil, append_assoc, arith, drop, length, map, refl, sym, suc, take, zero, ℕ}
+use Rattle.std.proofs.Common.{◌≡◌, ◌∙◌, ◌+◌, ◌-◌, ◌<◌, ◌≤◌, ◌++◌, ◌∷◌, ◌==◌, true, [], List, ℕ, suc, zero}
+use Rattle.std.proofs.Common.{ap, append-nil, append_assoc, arith, drop, length, map, refl, sym, take}
 use Rattle.std.proofs.lemmas.Bool.{and_parts}
 use Rattle.std.proofs.lemmas.Bool.Decides.{nat_tests}
 use Rattle.codes.specs.Files.{CodeEntry}

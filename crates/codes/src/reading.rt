@@ -58,6 +58,7 @@ fn with_digit(value: Option<u32>, byte: u8) -> Option<u32>
     requires { IfSome value (λ v. v ≤ 99) }
     ensures is { result ≡ option_and_then (λ v. option_map (λ d. v * 10 + d) (digit_in byte)) value }
     ensures bound { IfSome value (λ v. v ≤ 9) → IfSome result (λ v. v ≤ 99) }
+    ensures top { IfSome result (λ v. v ≤ 999) }
 {
     match (value, digit_in(byte)) {
         (Some(value), Some(digit)) => Some(value * 10 + digit),
@@ -67,7 +68,8 @@ fn with_digit(value: Option<u32>, byte: u8) -> Option<u32>
 
 /// Parses a clerk's number: 1 to 3 digits, the first not 0.
 pub(crate) fn clerk_in(text: &[u8]) -> Option<u32>
-    ensures { result ≡ clerk_in text.now }
+    ensures is { result ≡ clerk_in text.now }
+    ensures bound { IfSome result (λ clerk. clerk ≤ 999) }
 {
     match text {
         [b'0', ..] => None,
@@ -272,7 +274,8 @@ impl<'a> FileLines<'a> {
     /// Parses one line more. The errors are that an allocation failed, and what is wrong with the line, whose number is given.
     fn add(&mut self, number: usize, line: &'a [u8]) -> Result<(), CodesError>
         ensures ok { IfOk result (λ _. with_line (file_entry self.old) line.now ≡ Ok (file_entry self.new)) }
-        ensures err { IfErr result (λ why. (why ≡ read_error.Memory) ⊎ ((flaw : CodeFlaw) × (why ≡ read_error.Fault (Line number flaw)) × (with_line (file_entry self.old) line.now ≡ Err flaw))) }
+        ensures err { IfErr result (λ why. (why ≡ read_error.Memory)
+            ⊎ ((flaw : CodeFlaw) × (why ≡ read_error.Fault (Line number flaw)) × (with_line (file_entry self.old) line.now ≡ Err flaw))) }
     {
         if is_office_line(line) {
             match office_behind(self, line) {
@@ -316,7 +319,8 @@ pub(crate) fn lines_of(alloc: Global, text: &[u8]) -> Result<Vec<Vec<u8>>, Alloc
 /// Parses all lines. The errors are that an allocation failed, and the first line that is wrong.
 pub(crate) fn entries_of(alloc: Global, lines: &[Vec<u8>]) -> Result<FileLines<'_>, CodesError>
     ensures ok { IfOk result (λ found. file_from 1 no_codes (map (λ line. line.items) lines.now) ≡ Ok (file_entry found)) }
-    ensures err { IfErr result (λ why. (why ≡ read_error.Memory) ⊎ ((fault : CodesFault) × (why ≡ read_error.Fault fault) × (file_from 1 no_codes (map (λ line. line.items) lines.now) ≡ Err fault))) }
+    ensures err { IfErr result (λ why. (why ≡ read_error.Memory)
+        ⊎ ((fault : CodesFault) × (why ≡ read_error.Fault fault) × (file_from 1 no_codes (map (λ line. line.items) lines.now) ≡ Err fault))) }
 {
     let mut found = FileLines {
         clerks: Vec::new(alloc),

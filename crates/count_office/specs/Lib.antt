@@ -2,4 +2,5 @@
 pub mod Done
 pub mod Screens
 pub mod Hosts
+pub mod NewCodes
 pub mod Serving

@@ -43,7 +43,7 @@ mod screen;
 mod serving;
 mod side_jobs;
 
-use codes_file::make_codes_file;
+use codes_file::{NewCodes, make_codes_file};
 use copies::copy;
 use desk::perform::perform;
 use desk::{
@@ -165,7 +165,18 @@ fn perform_on<H: Host, S: Alter, O: Sink, E: Sink>(
         }
         Order::Copy { path } => copy(rt, conn, path, out, err),
         Order::Journal => journal(rt, conn, out, err),
-        Order::Codes { path, clerks } => (make_codes_file(rt, path, clerks, out, err), conn),
+        Order::Codes {
+            path,
+            clerks,
+            with_office,
+        } => {
+            let asked = NewCodes {
+                path: *path,
+                clerks: *clerks,
+                with_office: *with_office,
+            };
+            (make_codes_file(rt, asked, out, err), conn)
+        }
     }
 }
 
@@ -222,7 +233,20 @@ fn follow<O: Sink, E: Sink>(rt: &HostRuntime, words: &[&str], out: &mut O, err: 
 {
     match order(rt.alloc(), &*words) {
         // codes are made without a database
-        Ok(Order::Codes { path, clerks }) => make_codes_file(rt, path, clerks, out, err),
+        Ok(
+            Order::Codes {
+                path,
+                clerks,
+                with_office,
+            },
+        ) => {
+            let asked = NewCodes {
+                path,
+                clerks,
+                with_office,
+            };
+            make_codes_file(rt, asked, out, err)
+        }
         Ok(order) => {
             let request = OrderRun {
                 rt: &*rt,

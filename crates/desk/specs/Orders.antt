@@ -169,7 +169,7 @@ pub data Meant : Type 0 where
   replay : Text → Bool → Meant
   copy : Text → Meant
   journal : Meant
-  make_codes : Text → Text → Meant
+  make_codes : Text → Text → Bool → Meant
   serve : ℕ → Option ℕ → Option Text → Option Text → Meant
   no_verdict : Meant
   no_origin : Meant
@@ -200,7 +200,7 @@ told (order.Perform (task.InOffice (job.Run errand))) = told_errand errand
 told (order.Perform (task.InOffice (job.Replay file keep_going))) = replay file.now keep_going
 told (order.Copy path) = copy path.now
 told order.Journal = journal
-told (order.Codes path clerks) = make_codes path.now clerks.now
+told (order.Codes path clerks with_office) = make_codes path.now clerks.now with_office
 told (order.Serve port connections origin file) = serve port connections (option_map origin_text origin) (option_map (λ path. path.now) file)
 
 -- the task that an order is to perform, if it is such an order
@@ -289,7 +289,7 @@ orders =
     ∷ takes (codes "journal") [] journal
     ∷ takes (codes "replay") (text (codes "FILE") ∷ flag (codes "keep-going") ∷ []) replay
     ∷ takes (codes "copy") (text (codes "NEW") ∷ []) copy
-    ∷ takes (codes "codes") (text (codes "FILE") ∷ text (codes "CLERKS") ∷ []) make_codes
+    ∷ takes (codes "codes") (text (codes "FILE") ∷ text (codes "CLERKS") ∷ flag (codes "office") ∷ []) make_codes
     ∷ takes (codes "ballots") (number (codes "WARD") ∷ []) (λ ward. print ward ward_text.Ballots)
     ∷ takes (codes "page") (number (codes "WARD") ∷ title ∷ []) print_page
     ∷ takes (codes "table") (number (codes "WARD") ∷ []) (λ ward. print ward ward_text.Table)

@@ -127,6 +127,10 @@ codes_page fault = record {
 abbrev pub codes_made_page : ℕ → Page
 codes_made_page count = printed (joined (codes "codes written: " ∷ decimal count ∷ codes "\n" ∷ []))
 
+-- that codes were made for so many clerks, and one for the office
+abbrev pub codes_and_office_made_page : ℕ → Page
+codes_and_office_made_page count = printed (joined (codes "codes written: " ∷ decimal count ∷ codes ", and the office's\n" ∷ []))
+
 -- why the program gives up
 abbrev pub failed : Failure → Page
 failed failure = record { out = []; err = numbered_line (codes "fault ") (failure_number failure) (failure_text failure); status = 3 }

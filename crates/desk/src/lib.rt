@@ -53,7 +53,10 @@ mod ward_status;
 pub use copying::{CopyState, copy_office, copy_open};
 pub use folders::Folder;
 pub use journal_check::{journal_office, journal_open};
-pub use lines::{Failure, tell_codes_fault, tell_codes_made, tell_failure, tell_words};
+pub use lines::{
+    Failure, tell_codes_and_office_made, tell_codes_fault, tell_codes_made, tell_failure,
+    tell_words,
+};
 pub use orders::{Errand, Job, KeyingFile, Order, Question, Task};
 pub use progress::ProgressSink;
 pub use replaying::follow;

@@ -5,7 +5,8 @@ ghost use Rattle.std.specs.List.{flat_map};
 ghost use Rattle.keyfile.specs.Faults.{flaw_batch, flaw_between, flaw_clerk};
 ghost use Rattle.desk.specs.Pages.{IsErrorTold, IsPut, Shows, fronted, line_front, migrated_text, note_line, noted, numbered_line, outputs_of, printed, status_of_file};
 ghost use Rattle.codes.specs.Faults.{fault_line, fault_text as codes_text};
-ghost use Rattle.desk.specs.Pages.{codes_made_page, codes_page, codes_place, failed, failure_number, failure_of, failure_text, page_of, refused, script_page, unjournalled, unread, words_page};
+ghost use Rattle.desk.specs.Pages.{codes_and_office_made_page, codes_made_page, codes_page, codes_place};
+ghost use Rattle.desk.specs.Pages.{failed, failure_number, failure_of, failure_text, page_of, refused, script_page, unjournalled, unread, words_page};
 
 use crate::scripts::ScriptFault;
 use crate::words::{BAD_DIGEST, BAD_ORIGIN, WordsFault};
@@ -284,6 +285,21 @@ pub fn tell_codes_made<O: Sink, E: Sink>(count: u32, out: &mut O, err: &mut E) -
 {
     let mut digits = Buffer::new();
     let pieces = ["codes written: ", digits.format(count), "\n"];
+    tell_text(&pieces, out, err)
+}
+
+/// Prints that codes were made for so many clerks, and one for the office, and returns the status: 0, or 3 if the output fails.
+pub fn tell_codes_and_office_made<O: Sink, E: Sink>(count: u32, out: &mut O, err: &mut E) -> u8
+    requires out { O.failed out.old < 2 ^ 64 - 1 }
+    requires err { E.failed err.old < 2 ^ 64 - 1 }
+    ensures { let outputs = outputs_of O.taken O.failed E.taken E.failed in Shows (outputs out.old err.old) (outputs out.new err.new) (codes_and_office_made_page count) result }
+{
+    let mut digits = Buffer::new();
+    let pieces = [
+        "codes written: ",
+        digits.format(count),
+        ", and the office's\n",
+    ];
     tell_text(&pieces, out, err)
 }
 

@@ -147,6 +147,9 @@ pub(crate) const CODES_FILE: Word =
 pub(crate) const CLERKS: Word =
     word!(Text "CLERKS", "The clerks from one number to another, 1 to 999, as 1-40");
 
+pub(crate) const WITH_OFFICE: Word =
+    word!(Flag "office", "Also writes a code for the office, for its console in the browser");
+
 pub(crate) const TITLE: Word =
     word!(Title "title", "What stands above, as the names of the election and of the council;\nin quotes where it has spaces");
 

@@ -16,7 +16,7 @@ ghost use Rattle.desk.specs.Words.{flag_at, texts_at};
 use crate::order_entry::{
     ACTOR, BATCH, CANDIDATE, CLERK, CLERKS, CODES, CODES_FILE, CONNECTIONS, DIGEST, Entry, FILE,
     FIRST_CLERK, Heading, ID, KEEP_GOING, MARKS, NAME, NEW, ORIGIN, PAPER, PORT, ROUND, SCRIPT,
-    SEATS, SECOND_CLERK, SIZE, STAGE, TITLE, VERDICT, WARD, Word,
+    SEATS, SECOND_CLERK, SIZE, STAGE, TITLE, VERDICT, WARD, WITH_OFFICE, Word,
 };
 use crate::orders::{Errand, Job, KeyingFile, Order, Question, Task};
 use crate::requests::{by_clerk, by_office};
@@ -88,7 +88,7 @@ const ORDERS_FROM_SEAL: [Entry; 25] = [
     order!(Office "journal" [], "Prints the accepted orders of the office as a script, whole:\ncount-office town.db journal"),
     order!(Office "replay" [SCRIPT, KEEP_GOING], "Sends the orders of a text file, a line each, up to a refusal:\ncount-office town.db replay evening.txt"),
     order!(Office "copy" [NEW], "Makes a copy of the office, in a file that isn't there yet:\ncount-office town.db copy evening.db"),
-    order!(Office "codes" [CODES_FILE, CLERKS], "Writes a new file of codes, one for each of these clerks:\ncount-office town.db codes codes.txt 1-40"),
+    order!(Office "codes" [CODES_FILE, CLERKS, WITH_OFFICE], "Writes a new file of codes, one for each of these clerks:\ncount-office town.db codes codes.txt 1-40"),
     order!(Everyone "ballots" [WARD], "Prints the ballots of a sealed ward, in a form that counting programs read:\ncount-office town.db ballots 7"),
     order!(Everyone "page" [WARD, TITLE], "Prints the result of a sealed ward as a page for a browser, to print and sign:\ncount-office town.db page 7"),
     order!(Everyone "table" [WARD], "Prints the stages of a sealed ward as a table for a spreadsheet:\ncount-office town.db table 7"),
@@ -467,6 +467,7 @@ fn order_named<'a>(
         "codes" => Ok(Order::Codes {
             path: text_in(matches, CODES_FILE),
             clerks: text_in(matches, CLERKS),
+            with_office: flag_in(matches, WITH_OFFICE),
         }),
         _ => sending(alloc, matches, command_named(alloc, name, matches)?),
     }

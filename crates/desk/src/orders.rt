@@ -149,10 +149,12 @@ pub enum Order<'a> {
     },
     /// Print the journal of the office.
     Journal,
-    /// Write a new file of codes, which isn't there yet, for the clerks that a word names.
+    /// Write a new file of codes, which isn't there yet, for the clerks that a word names, and for the office too if that is
+    /// asked for.
     Codes {
         path: &'a str,
         clerks: &'a str,
+        with_office: bool,
     },
     /// Answer connections on a port of this machine, and pages of an origin through a proxy, if one is given. It ends
     /// after so many connections, or with no number never. Clerks' codes are asked for, if the path of a file of them is

@@ -66,7 +66,7 @@ abbrev pub IsForNone : Order → Type 0
 IsForNone (order.Perform task.Init) = ⊤
 IsForNone (order.Perform task.Migrate) = ⊤
 IsForNone (order.Serve port connections origin codes) = ⊤
-IsForNone (order.Codes path clerks) = ⊤
+IsForNone (order.Codes path clerks with_office) = ⊤
 IsForNone other = ⊥
 
 -- What the words of an order ask that is for this file: a job, a copy, the journal. Or why it isn't followed: they are no order; or the file is gone, which isn't known to be
