@@ -1,4 +1,4 @@
--- Why `count_done` keeps its promise.
+-- Proof that `count_done` meets its contract.
 use Rattle.std.proofs.Common.{◌≡◌, ◌+◌, ◌==◌, map, reverse, length, ap, subst, sym, ◌∙◌, eqb-true}
 use Rattle.std.specs.List.{range_with_len}
 use Rattle.std.proofs.lemmas.Bool.{and_parts}
