@@ -42,7 +42,7 @@ two_taken b c taken = agreed_two b c ∙ go (is_keyed b && same_marks b c) (ap i
 
 -- ---- of any number of keyings
 
--- a test that each keying passes, and the empty one if none agree, is passed by the agreed keying
+-- the agreed keying passes a test if every keying does, and the empty one does in case no two agree
 pub agreed_passes : (p : List KeyedEntry → Bool) (ks : List (List KeyedEntry)) → list_all p ks ≡ true → (are_taken ks ≡ false → p [] ≡ true) → p (agreed ks) ≡ true
 agreed_passes p [] all none = none refl
 agreed_passes p (k ∷ ks) all none = go (list_any (same_marks k) ks) (λ left. agreed_passes p ks (and_parts (p k) (list_all p ks) all).1 left) none

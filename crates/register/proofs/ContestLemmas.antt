@@ -225,7 +225,7 @@ few_among s columns (b ∷ bs) fine rounds =
       few_among s columns bs good.1 all.1,
     )
 
--- there are no more ascending numbers than the highest
+-- ascending numbers are at most as many as the highest of them
 few_rising : (low : ℕ) (bs : List BatchEntry) → low ≤ 9999 → AllByRecursion (λ b. low < b.number) bs → list_all is_batch bs ≡ true → IsStrictlySortedBy batch_cmp bs → low + length bs ≤ 9999
 unfolding IsStrictlySortedBy
 few_rising low [] few above fine up = omega (arith, few)

@@ -63,11 +63,11 @@ then_equal Greater p is same = is
 
 -- ---- bundles of other wards
 
--- none of some bundles is of a ward
+-- none of these bundles belongs to the ward
 abbrev pub of_others : ℕ → List PlacedEntry → Bool
 of_others n xs = list_all (λ (x : PlacedEntry). not (n == x.ward)) xs
 
--- all of some bundles are of a ward
+-- all of these bundles belong to the ward
 abbrev pub of_ward : ℕ → List PlacedEntry → Bool
 of_ward n ms = list_all (λ (m : PlacedEntry). n == m.ward) ms
 

@@ -9,8 +9,8 @@ use Rattle.register.specs.Offices.{WardEntry, CandidateEntry, BatchEntry, ThirdE
 use Rattle.register.specs.Offices.{candidate_cmp, batch_cmp, third_cmp, keyed_cmp, judged_cmp, lot_cmp, receipt_cmp, ward_compared, candidate_compared, batch_compared, ward_entry}
 use Rattle.register.specs.Offices.{candidate_entry, batch_entry, third_entry, keyed_entry, judged_entry, lot_entry, receipt_entry}
 
--- What a command does to the state, apart from its receipt: a ward is added, or enters a phase; a candidate is added, or withdrawn; a batch is added,
--- reopened in another round, or assigned to a third clerk; papers are keyed; a paper is judged; a number of stages of a ward's count is done; or a lot is
+-- What a command does to the state, apart from its receipt. A ward is added, or enters a phase; a candidate is added, or withdrawn; a batch is added,
+-- reopened in another round, or assigned to a third clerk. Papers are keyed; a paper is judged; a number of stages of a ward's count is done; or a lot is
 -- drawn.
 pub data EffectEntry : Type 0 where
   ward_added : WardEntry → EffectEntry

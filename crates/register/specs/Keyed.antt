@@ -41,7 +41,7 @@ unfoldable pub are_numbered : ℕ → List KeyedEntry → Bool
 are_numbered paper [] = true
 are_numbered paper (k ∷ ks) = (k.paper == paper) && are_numbered (paper + 1) ks
 
--- a keying that has each of this number of papers once
+-- a keying with exactly the papers from 1 to this number, in order
 abbrev pub is_whole : ℕ → List KeyedEntry → Bool
 is_whole size keying = (length keying == size) && are_numbered 1 keying
 

@@ -130,8 +130,8 @@ changed compared change xs = map (λ x. if is_eq (compared x) then change x else
 
 -- ---- the state
 
--- The state of an office, as maps. Wards are keyed by number, candidates by ward and number, batches by number, third clerks by batch, keyed papers by
--- batch, round, clerk and number, judged papers by batch and number, lots by ward and stage, and receipts by actor and id.
+-- The state of an office, as maps. Wards are keyed by number, candidates by ward and number. Batches are keyed by number, third clerks by batch, keyed
+-- papers by batch, round, clerk and number, and judged papers by batch and number. Lots are keyed by ward and stage, receipts by actor and id.
 pub record OfficeState : Type 0 where
   pub wards : List WardEntry
   pub candidates : List CandidateEntry

@@ -11,8 +11,8 @@ use Rattle.register.specs.Marks.{columns_of}
 use Rattle.register.specs.Papers.{is_keyed, is_its_clerk, batches_of, taken_of, differing_of, open_among}
 use Rattle.register.specs.Parts.{is_in_phase}
 
--- a ward and its phase; its numbers of candidates and batches, and how many batches are taken and how many differ; how many doubtful papers of the taken
--- batches have no verdict yet, and how many stages of the count are done
+-- A ward and its phase; its numbers of candidates and batches, and how many of the batches are taken and how many differ. How many doubtful papers of the
+-- taken batches have no verdict yet, and how many stages of the count are done.
 pub record StatusEntry : Type 0 where
   pub ward : ℕ
   pub phase : Phase

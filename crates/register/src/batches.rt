@@ -19,8 +19,8 @@ use crate::view::Part;
 use crate::wards::is_in_phase;
 use std::alloc::{AllocError, Global};
 
-/// A batch of ballot papers: its number (1 to 9999, unique across all wards), its ward (1 to 99), its number of papers (1 to
-/// 500), its current round (1 to 99), and the two clerks (1 to 999) assigned to key it.
+/// A batch of ballot papers: its number (1 to 9999, unique across all wards), its ward (1 to 99), and its number of papers
+/// (1 to 500). It also has its current round (1 to 99), and the two clerks (1 to 999) assigned to key it.
 #[derive(PartialEq, Drop)]
 pub struct Batch {
     pub number: u32,

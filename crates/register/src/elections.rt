@@ -166,7 +166,7 @@ impl Count {
 }
 
 impl Election {
-    /// Returns the poll of the ward; none if its number of seats is 0 or above the limit, as in no ward of an office.
+    /// Returns the poll of the ward; none if its number of seats is 0 or above the limit, which never happens in an office.
     /// Allocates nothing.
     pub fn poll(&self) -> Option<PollTally>
         ensures is { IfSome result (λ poll. (e : ElectionEntry) → IsElection self.now e → poll_entry poll ≡ poll_of e.ward.seats e.ballots) }
@@ -185,7 +185,7 @@ impl Election {
     }
 
     /// Returns the ward with its count at the beginning, no stage done, and how many of its papers are rejected. None if its
-    /// number of seats is above the limit, as in no ward of an office. `AllocError` if an allocation fails.
+    /// number of seats is above the limit, which never happens in an office. `AllocError` if an allocation fails.
     pub fn begin(self, alloc: Global) -> Result<Option<WardSheet>, AllocError>
         ensures same { IfOk result (λ found. IfSome found (λ begun. (begun.counted.ward ≡ self.ward) × (begun.counted.candidates ≡ self.candidates))) }
         ensures is { IfOk result (λ found. IfSome found (λ begun. (e : ElectionEntry) → IsElection self e → e.ward.done ≡ 0 → IsContest (contest_of e) → IsCount e begun.counted.count)) }

@@ -217,7 +217,7 @@ pub fn paper_is_seen()
 {}
 
 /// An office worked by hand, request by request from the empty one: each reply, and the state that follows. A ward is added
-/// once. Three candidates contest its two seats, and its batches are given out. Two clerks' keyings of a batch agree, and
+/// once. Three candidates contest its two seats, and its batches are assigned. Two clerks' keyings of a batch agree, and
 /// its doubtful paper is judged; or they differ, and the batch is keyed again, or by a third clerk as well. In a ward with
 /// as many candidates as seats, all are elected. A repeated request is compared with what the state keeps of it.
 pub fn rows_are_worked()

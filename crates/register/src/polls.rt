@@ -37,8 +37,8 @@ pub trait KeepsPapers {
     // It holds these papers, added in this order.
     ghost holds: { Self → List (List ℕ) → Type 0 };
 
-    /// Adds one more paper. Fails if an allocation fails or the papers would exceed the `MAX_PAPERS` that an office can
-    /// have; then the earlier papers are no longer reliable.
+    /// Adds one more paper. `AllocError` if an allocation fails or there would be more than the `MAX_PAPERS` that an office
+    /// can have; then the earlier papers are no longer reliable.
     fn keep(&mut self, paper: Prefs) -> Result<(), AllocError>
         ensures { IfOk result (λ _. (papers : List (List ℕ)) → holds self.old papers → holds self.new (papers ++ paper ∷ [])) };
 }
@@ -190,7 +190,7 @@ impl<P: KeepsPapers> Ballots<P> {
 
     /// Adds the papers of one more batch, from its three clerks' keyings of the current round and the verdicts on its
     /// papers. The keyings are in the order of the clerks' numbers; a missing one is empty. A batch that isn't taken adds no
-    /// paper and leaves the ward unsettled. Fails if an allocation fails; then the earlier papers are no longer reliable.
+    /// paper and leaves the ward unsettled. `AllocError` if an allocation fails; then the earlier papers are no longer reliable.
     pub fn add(
         &mut self,
         columns: Columns,
@@ -211,8 +211,8 @@ impl<P: KeepsPapers> Ballots<P> {
         self.count_each(columns, verdicts, papers)
     }
 
-    /// Adds one more paper, of a settled batch, as keyed and with the verdicts on the batch's papers. Fails if an allocation
-    /// fails; then the earlier papers are no longer reliable.
+    /// Adds one more paper, of a settled batch, as keyed and with the verdicts on the batch's papers. `AllocError` if an
+    /// allocation fails; then the earlier papers are no longer reliable.
     pub fn add_settled(
         &mut self,
         columns: Columns,

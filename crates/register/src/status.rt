@@ -5,9 +5,10 @@ use crate::phase::Phase;
 use crate::wards::Ward;
 use paper::Columns;
 
-/// The status of a ward's election: the ward (1 to 99), its phase, its numbers of candidates and batches; how many of the
-/// batches are taken (two keyings of the current round are equal) and how many differ (at least two exist and no two are
-/// equal); how many doubtful papers of the taken batches have no verdict yet; and how many stages of the count are done.
+/// The status of a ward's election: the ward (1 to 99), its phase, its numbers of candidates and batches, and how many
+/// stages of its count are done. A batch is counted as taken if two keyings of its current round are equal, and as differing
+/// if at least two exist and no two are equal. A doubtful paper of a taken batch is counted as open if it has no verdict
+/// yet.
 #[derive(Clone, Copy, PartialEq, Eq)]
 pub struct Status {
     pub ward: u32,

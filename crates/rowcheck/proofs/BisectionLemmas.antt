@@ -58,7 +58,7 @@ among Equal least most = refl
 among Greater least most = absurd (cc)
 
 module _ {X : Type 0} (o : X → Ordering) where
-  -- in a part of which none is before them, the rows with the key come first
+  -- if no row of a part is before the key, those with the key are its first ones
   run_in : (left : List X) (run : ℕ) → run ≤ length left → ((k : ℕ) (d : X) → k < length left → is_lt (o (get_or left k d)) ≡ false)
       → IsPartitionPoint (λ x. is_le (o x) ≡ true) (λ x. is_le (o x) ≡ false) left run
       → filter (λ x. is_eq (o x)) left ≡ take run left

@@ -101,7 +101,7 @@ fn are_numbered(keying: &[KeyedPaper]) -> bool
     true
 }
 
-/// Returns whether a keying is missing, or has each of this number of papers once.
+/// Returns whether a keying is missing, or has exactly the papers from 1 to `size`, in order.
 fn is_whole_if_keyed(size: u32, keying: &[KeyedPaper]) -> bool
     ensures { result ≡ (not (is_keyed (map keyed_entry keying.now)) || is_whole size (map keyed_entry keying.now)) }
 {
@@ -112,7 +112,7 @@ fn is_whole_if_keyed(size: u32, keying: &[KeyedPaper]) -> bool
     full & are_numbered(keying)
 }
 
-/// Returns whether every keying that exists has each of this number of papers once.
+/// Returns whether every keying that exists has exactly the papers from 1 to `size`, in order.
 fn are_whole(size: u32, keyings: &RoundKeyings) -> bool
     ensures { result ≡ list_all (is_whole size) (of_three (map keyed_entry keyings.now.first.now) (map keyed_entry keyings.now.second.now) (map keyed_entry keyings.now.third.now)) }
 {
