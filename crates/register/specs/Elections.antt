@@ -98,7 +98,7 @@ abbrev pub is_among : ℕ → Option Due → Bool
 is_among c None = false
 is_among c (Some due) = is_tied due c
 
--- the lot is for a stage up to the next one that needed or needs a lot, and names one of those tied
+-- the lot is for a stage, up to the next one, at which a lot was or is needed, and it names one of those tied
 abbrev pub is_drawn_for : ElectionEntry → (ℕ × ℕ) → Bool
 is_drawn_for e lot = nat_le lot.0 (e.ward.done + 1) && is_tied (due_after (contest_of e) (stages_to (contest_of e) e.lots (lot.0 - 1))) lot.1
 

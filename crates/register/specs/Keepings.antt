@@ -1,5 +1,5 @@
 -- Whether what an office keeps of a request differs from the request. A receipt holds the request's id and subject, and none of its other words: so a
--- different request, sent under the same id, may get the same reply.
+-- request repeated under the same id may have different words, and still gets the same reply.
 use Rattle.std.specs.Prelude.{ℕ, Bool, true, false, not, ◌&&◌, ◌==◌, List, [], ◌∷◌, string_bytes, Option, Some, None}
 use Rattle.std.specs.List.{list_any, filter}
 use Rattle.std.specs.Str.{bytes_eq}
@@ -64,7 +64,7 @@ is_judged_alike other v = (v.code == other.code) && bytes_eq v.marks other.marks
 abbrev pub is_drawn : ℕ → ℕ → LotEntry → Bool
 is_drawn stage candidate l = (l.stage == stage) && (l.candidate == candidate)
 
--- ---- what is compared for each command. One that its subject says completely never differs from what is kept.
+-- ---- what is compared for each command. One that its subject describes in full never differs from what is kept.
 
 -- a ward: its seats and its name
 abbrev pub is_ward_otherwise : OfficeState → WardCommand → Bool

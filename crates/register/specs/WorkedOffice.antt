@@ -265,7 +265,7 @@ pub record UncontestedRows : Type 0 where
       ≡ accepted (with_quay Declared both_there (told_of_both ++ told_closed ∷ told (codes "z1") (codes "declare 8") (codes "ward 8 declared: 1, 2") ∷ [])) (codes "ward 8 declared: 1, 2")
 
 -- A repeated command matches what is kept of it, or differs: in seats, name, size, third clerk, marks or verdict. Nothing is kept of a withdrawn
--- candidate; a later candidate with that number is another one. A command that its subject says completely never differs.
+-- candidate; a later candidate with that number is another one. A command that its subject describes in full never differs.
 pub record KeepingRows : Type 0 where
   pub same_ward : Written (codes "Harbour") (λ name. is_otherwise (in_nominations [] []) 0 (adds_ward 7 2 name) ≡ false)
   pub other_seats : Written (codes "Harbour") (λ name. is_otherwise (in_nominations [] []) 0 (adds_ward 7 3 name) ≡ true)

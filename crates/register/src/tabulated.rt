@@ -73,7 +73,7 @@ impl Addition {
 }
 
 impl Tabulation {
-    /// Returns the tabulation of no counts. Allocates nothing.
+    /// Returns an empty tabulation. Allocates nothing.
     pub fn empty(alloc: Global) -> Tabulation
         ensures bundles { result.bundles.items ≡ [] }
         ensures figures { result.figures.items ≡ [] }

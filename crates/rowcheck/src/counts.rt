@@ -117,7 +117,7 @@ fn add_stages(
     if ward.done == 0 {
         return Ok(());
     }
-    // the clauses of `len` show the proof that the lists are distinct, so these are the book's bundles
+    // the proof learns from the clauses of `len` that the lists are distinct, so that these are the book's bundles
     let _ = bundles.len();
     tabulation.add(
         alloc,

@@ -78,7 +78,7 @@ fn are_papers_for(
         .all(|keyed| is_keyed_for(batch, third, columns, keyed))
 }
 
-/// Returns whether every keyed paper of a batch is valid for the batch.
+/// Returns whether every keyed paper of a batch is keyed as `is_keyed_for` requires.
 fn are_keyed_for(rows: &Rows, batch: &Batch) -> bool
     requires { MapsRise (state_of rows.now) }
     ensures { result ≡ are_keyed_for (state_of rows.now) (batch_entry batch.now) }

@@ -1,4 +1,4 @@
--- The rows of all tables, and their presence in a connection or after a stop.
+-- The rows of all tables, and what a connection or a stop holds of them.
 use Rattle.std.specs.Prelude.{◌≡◌, true, false, not, if◌then◌else◌, ◌==◌, List, [], ◌∷◌, ◌++◌, map, filter, fold, IsTrue}
 use Rattle.std.specs.List.{list_all}
 use Rattle.std.specs.List.Sorted.{IsPermutation}

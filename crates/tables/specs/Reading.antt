@@ -34,7 +34,7 @@ abbrev pub is_query_text : Checked Parsed → Bool
 is_query_text (Ok p) = is_query p.statement
 is_query_text (Err e) = false
 
--- with any schema, the text returns no rows of a write
+-- under any schema, the text returns no rows of a write
 abbrev pub IsQuery : List ℕ → Type 0
 IsQuery sql = (s : Schema) (c : Compiled) → understood s sql ≡ Ok c → c.returning ≡ None
 

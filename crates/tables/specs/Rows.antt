@@ -116,7 +116,7 @@ pub record Keyed (rows : List Row) : Type 0 where
   pub ints : (r : Row) → Has rows r → is_int (rowid r) ≡ true
   pub once : (a b : Row) → Has rows a → Has rows b → rowid a ≡ rowid b → a ≡ b
 
--- a rowid is not an integer
+-- some rowid is not an integer
 abbrev pub HasWrongRowid : List Row → Type 0
 HasWrongRowid rows = (r : Row) × Has rows r × (is_int (rowid r) ≡ false)
 

@@ -17,7 +17,7 @@ use crate::texts::{set_text, update_text};
 use sqlite::{Alter, Transaction};
 use sqlite_value::value::ValueRef;
 
-/// Replaces the row with the same key by these values, one per column and of its kind, in a table whose rows change. Without
+/// Updates the row with the same key to these values, one per column and of its kind, in a table whose rows change. Without
 /// such a row the table stays as it is. A fault leaves the last commit as it was.
 pub fn replace<S: Alter>(
     tx: &mut Transaction<'_, S>,

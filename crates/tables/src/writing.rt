@@ -51,7 +51,7 @@ pub fn add_both<E: Entries, F: Entries, S: Alter>(
     add_entries::<F, S>(alloc, tx, others)
 }
 
-/// Replaces the row that has the key of an entry by the entry's row; without such a row nothing changes. A fault leaves the
+/// Updates the row with an entry's key to the entry's row; without such a row nothing changes. A fault leaves the
 /// last commit as it was.
 pub fn replace_entry<E: Entries, S: Alter>(
     alloc: Global,
@@ -65,7 +65,7 @@ pub fn replace_entry<E: Entries, S: Alter>(
     replace(tx, E::TABLE, &values)
 }
 
-/// Replaces the rows that have the keys of entries, one after another, each as `replace_entry` does. A fault leaves the last
+/// Updates the rows with the keys of entries, one after another, each as `replace_entry` does. A fault leaves the last
 /// commit as it was.
 pub fn replace_entries<E: Entries, S: Alter>(
     alloc: Global,
