@@ -1,4 +1,4 @@
--- The contest of a ward is one that the rules of the count speak of.
+-- The contest of a ward is one that the rules of the count apply to.
 use Rattle.std.proofs.Common.{◌≡◌, ℕ, zero, suc, ◌+◌, ◌*◌, ◌<◌, ◌≤◌, ◌==◌, ◌&&◌, ◌||◌, nat_eq, nat_le, Bool, true, false, cond, List, [], ◌∷◌, ◌++◌, length, map, filter, find, fold, Option}
 use Rattle.std.proofs.Common.{Some, None, Result, Ok, Err, codes, refl, sym, ap, arith, length-append}
 use Rattle.std.specs.List.{AllByRecursion, list_all, list_any, flat_map, zip}
@@ -52,13 +52,13 @@ columns_set columns (c ∷ cs) set = columns_set (and_column columns c) cs (go (
         with_column-IsColumnSet columns c.number (leb-true 1 c.number parts.0) (leb-true c.number 30 parts.1) set
     go false is = set
 
--- the columns of any candidates are a set of candidates' numbers
+-- the columns of any candidates are a set of candidate numbers
 pub columns_are_set : (cs : List CandidateEntry) → IsColumnSet (columns_of cs)
 columns_are_set cs = columns_set [] cs (columns_from_ascends 0 [] tt)
 
--- ---- each preference is for a candidate
+-- ---- every preference is for a candidate
 
--- numbers that are all among some columns
+-- numbers that are all among these columns
 abbrev AreAmong : List ℕ → List ℕ → Type 0
 AreAmong columns cs = AllByRecursion (λ c. In c columns) cs
 
@@ -66,7 +66,7 @@ each_append : {X : Type 0} (P : X → Type 0) (xs ys : List X) → AllByRecursio
 each_append P [] ys first second = second
 each_append P (x ∷ xs) ys first second = (first.0, each_append P xs ys first.1 second)
 
--- one beside whom a number stands has a column
+-- a candidate with a number next to the name has a column
 marked_in : (columns marks : List ℕ) (n c : ℕ) → In c (marked_with n (zip columns marks)) → In c columns
 marked_in [] marks n c found = found
 marked_in (column ∷ columns) [] n c found = absurd (cc)
@@ -92,7 +92,7 @@ preferred_in columns marks (suc most) n = go (marked_with n (zip columns marks))
     go (c ∷ []) each behind = (each c (or_left (nat_eq c c) false (eq-eqb c c refl)), behind)
     go (c ∷ d ∷ cs) each behind = tt
 
--- what holds of the preferences that any valid marks give in these columns holds of those that each judgement gives
+-- what holds of the preferences of any valid marks in these columns holds of the preferences of every judgement
 module _ (columns : List ℕ) (P : List ℕ → Type 0) (each : (marks : List ℕ) → rejection_of (zip columns marks) ≡ None → P (preferences (zip columns marks))) where
   abbrev Gives : Judgement → Type 0
   Gives judgement = AllByRecursion P (preferences_by judgement)
@@ -139,17 +139,17 @@ module _ (columns : List ℕ) (P : List ℕ → Type 0) (each : (marks : List �
   papers_given : (piles : List Pile) → AllByRecursion P (ballots_in columns piles).papers
   papers_given piles = given_papers (judgements columns piles) (given_piles piles)
 
--- each preference of a ward's papers is for one of its candidates
+-- every preference of a ward's papers is for one of its candidates
 pub papers_are_fair : (columns : List ℕ) (piles : List Pile) → AreForCandidates columns (ballots_in columns piles).papers
 papers_are_fair columns piles = papers_given columns (AreAmong columns) (λ marks valid. preferred_in columns marks 30 1) piles
 
--- the columns beside some marks are the first ones
+-- the columns of some marks are the first ones
 first_columns : (low : ℕ) (columns marks : List ℕ) → Ascends low columns → Ascends low (marking.candidates_of (zip columns marks))
 first_columns low [] marks up = tt
 first_columns low (column ∷ columns) [] up = tt
 first_columns low (column ∷ columns) (mark ∷ marks) up = (up.0, up.1, first_columns column columns marks up.2)
 
--- and each paper lists them in an order, none twice
+-- and each paper ranks candidates without repetition
 pub papers_are_rankings : (columns : List ℕ) (piles : List Pile) → IsColumnSet columns → AreRankings (ballots_in columns piles).papers
 papers_are_rankings columns piles set =
     go (ballots_in columns piles).papers (papers_given columns IsRanking
@@ -159,7 +159,7 @@ papers_are_rankings columns piles set =
     go [] each = tt
     go (paper ∷ papers) each = (each.0, go papers each.1)
 
--- and has a preference at least
+-- and has at least one preference
 preferred_some : (marking : Marking) → rejection_of marking ≡ None → 1 ≤ length (preferences marking)
 unfolding preferences_from
 preferred_some marking valid = go (marked_with 1 marking) valid
@@ -172,7 +172,7 @@ preferred_some marking valid = go (marked_with 1 marking) valid
 pub papers_have_some : (columns : List ℕ) (piles : List Pile) → AllByRecursion (λ paper. 1 ≤ length paper) (ballots_in columns piles).papers
 papers_have_some columns piles = papers_given columns (λ paper. 1 ≤ length paper) (λ marks valid. preferred_some (zip columns marks) valid) piles
 
--- ---- the papers are not too many
+-- ---- the papers are within the limit
 
 few_by : (js : List Judgement) → length (flat_map preferences_by js) ≤ length js
 few_by [] = omega arith
@@ -183,7 +183,7 @@ few_by (j ∷ js) = omega (arith, length-append (preferences_by j) (flat_map pre
     one (Rejected code) = omega arith
     one Open = omega arith
 
--- a batch is taken with at most as many papers as it has
+-- a batch is taken with at most as many papers as its size
 whole_few : (size : ℕ) (ks : List (List KeyedEntry)) → list_all (is_whole size) ks ≡ true → length (agreed ks) ≤ size
 whole_few size [] whole = omega arith
 whole_few size (k ∷ ks) whole = elim (list_any (same_marks k) ks) as (λ b. length (cond b k (agreed ks)) ≤ size) [
@@ -225,7 +225,7 @@ few_among s columns (b ∷ bs) fine rounds =
       few_among s columns bs good.1 all.1,
     )
 
--- numbers that rise are not more than the highest
+-- ascending numbers are at most as many as the highest of them
 few_rising : (low : ℕ) (bs : List BatchEntry) → low ≤ 9999 → AllByRecursion (λ b. low < b.number) bs → list_all is_batch bs ≡ true → IsStrictlySortedBy batch_cmp bs → low + length bs ≤ 9999
 unfolding IsStrictlySortedBy
 few_rising low [] few above fine up = omega (arith, few)
@@ -262,7 +262,7 @@ papers_are_few s columns ward fine rounds up =
 
 -- ---- the contest
 
--- what a ward can have at most: seats from 1 on, and papers
+-- the limits of a ward: at least one seat, and at most the limits of seats and papers
 pub seats_and_papers_are_few : (s : OfficeState) (w : WardEntry) → all_in_range s ≡ true → all_keyed s ≡ true → MapsRise s → ward_at s w.number ≡ Some w
     → (1 ≤ w.seats) × (w.seats ≤ max_seats) × (length (election_of s w).ballots.papers ≤ max_papers)
 unfolding is_ward
@@ -279,7 +279,7 @@ seats_and_papers_are_few s w first fourth rise there =
 candidates_are : (s : OfficeState) → all_in_range s ≡ true → list_all is_candidate s.candidates ≡ true
 candidates_are s first = (and_parts _ _ (and_parts _ _ first).1).0
 
--- What is in range, keyed as it has to be, and in the order of its keys, has contests that the rules speak of.
+-- If numbers are in range, keyings are whole and entries are in key order, the contests are ones that the rules apply to.
 pub contest_is_fair : (s : OfficeState) (w : WardEntry) → all_in_range s ≡ true → all_keyed s ≡ true → MapsRise s → ward_at s w.number ≡ Some w → is_contested w (candidates_of s w.number) ≡ true
     → IsContest (contest_of (election_of s w))
 contest_is_fair s w first fourth rise there contested =

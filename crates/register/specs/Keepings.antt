@@ -1,5 +1,5 @@
--- Whether what an office keeps of a request differs from what the request says. A receipt has the request's id and subject, and none of its other words: so a
--- request that is sent again under its id may say something else than what is kept, and gets the same reply.
+-- Whether what an office keeps of a request differs from the request. A receipt holds the request's id and subject, and none of its other words: so a
+-- request repeated under the same id may have different words, and still gets the same reply.
 use Rattle.std.specs.Prelude.{ℕ, Bool, true, false, not, ◌&&◌, ◌==◌, List, [], ◌∷◌, string_bytes, Option, Some, None}
 use Rattle.std.specs.List.{list_any, filter}
 use Rattle.std.specs.Str.{bytes_eq}
@@ -23,18 +23,18 @@ use Rattle.register.specs.Papers.{is_third_clerk}
 use Rattle.register.specs.Keyings.{texts_of}
 use Rattle.register.specs.Verdicts.{judged_as}
 
--- ---- what is kept, compared with words
+-- ---- comparing what is kept with the words of a command
 
--- an entry is there, and passes a test
+-- an entry exists and passes a test
 abbrev pub is_there : {X : Type 0} → (X → Bool) → Option X → Bool
 is_there test None = false
 is_there test (Some x) = test x
 
--- a ward of so many seats, with this name
+-- a ward with this number of seats and this name
 abbrev pub is_ward_of : ℕ → List ℕ → WardEntry → Bool
 is_ward_of seats name w = (w.seats == seats) && bytes_eq w.name name
 
--- a candidate with another name
+-- a candidate with a different name
 abbrev pub has_other_name : List ℕ → CandidateEntry → Bool
 has_other_name name c = not (bytes_eq c.name name)
 
@@ -42,15 +42,15 @@ has_other_name name c = not (bytes_eq c.name name)
 abbrev pub has_subject : List ℕ → ReceiptEntry → Bool
 has_subject subject r = bytes_eq r.subject subject
 
--- the receipts of the returning officer, who alone adds and withdraws candidates
+-- the receipts of the returning officer, the only actor to add and withdraw candidates
 abbrev pub office_receipts : OfficeState → List ReceiptEntry
 office_receipts s = filter (λ (r : ReceiptEntry). r.actor == 0) s.receipts
 
--- a batch of this ward, of so many papers, given to these two clerks
+-- a batch of this ward and this size, assigned to these two clerks
 abbrev pub is_batch_of : ℕ → ℕ → ℕ → ℕ → BatchEntry → Bool
 is_batch_of ward size first_clerk second_clerk b = (b.ward == ward) && ((b.size == size) && ((b.first_clerk == first_clerk) && (b.second_clerk == second_clerk)))
 
--- a keying with these marks texts, one for each paper, in order
+-- a keying with exactly these marks texts, one per paper, in order
 unfoldable pub has_texts : List KeyedEntry → List (List ℕ) → Bool
 has_texts [] [] = true
 has_texts (k ∷ ks) (text ∷ texts) = bytes_eq k.marks text && has_texts ks texts
@@ -60,22 +60,22 @@ has_texts ks texts = false
 abbrev pub is_judged_alike : JudgedEntry → JudgedEntry → Bool
 is_judged_alike other v = (v.code == other.code) && bytes_eq v.marks other.marks
 
--- a lot of this stage, by which this candidate was drawn
+-- a lot for this stage that drew this candidate
 abbrev pub is_drawn : ℕ → ℕ → LotEntry → Bool
 is_drawn stage candidate l = (l.stage == stage) && (l.candidate == candidate)
 
--- ---- what is kept of each command. One whose subject says all of it is never kept otherwise.
+-- ---- what is compared for each command. One that its subject describes in full never differs from what is kept.
 
 -- a ward: its seats and its name
 abbrev pub is_ward_otherwise : OfficeState → WardCommand → Bool
 is_ward_otherwise s (wards.Add ward seats name) = not (is_there (is_ward_of seats (string_bytes name)) (ward_at s ward))
 is_ward_otherwise s (wards.Close ward) = false
 
--- a candidate of this number has withdrawn from the ward
+-- a candidate with this number has withdrawn from the ward
 abbrev pub has_withdrawn : OfficeState → ℕ → ℕ → Bool
 has_withdrawn s ward candidate = list_any (has_subject (subject_of (candidates.Withdraw ward candidate))) (office_receipts s)
 
--- a candidate: the name. Where a candidate of that number has withdrawn, nothing is kept of the one who did, and whoever has the number since is another.
+-- a candidate: the name. If a candidate with that number has withdrawn, nothing is kept of that candidate; any candidate with the number since then is another one.
 abbrev pub is_candidate_otherwise : OfficeState → CandidateCommand → Bool
 is_candidate_otherwise s (candidates.Add ward candidate name) =
     is_there (has_other_name (string_bytes name)) (candidate_at s ward candidate) && not (has_withdrawn s ward candidate)
@@ -87,7 +87,7 @@ is_batch_otherwise s (batches.Add batch ward size first_clerk second_clerk) = no
 is_batch_otherwise s (batches.Again batch) = false
 is_batch_otherwise s (batches.Third batch clerk) = not (is_third_clerk clerk (third_at s batch))
 
--- a keying: its papers, of those that the clerk keyed of the batch in the round
+-- a keying: the papers that the clerk keyed of the batch in the round
 abbrev pub is_keying_otherwise : OfficeState → ℕ → KeyingCommand → Bool
 is_keying_otherwise s clerk command = not (has_texts (keying_of s command.batch command.round clerk) (texts_of command))
 
@@ -102,7 +102,7 @@ is_count_otherwise s (counts.Advance ward) = false
 is_count_otherwise s (counts.Lot ward stage candidate) = not (list_any (is_drawn stage candidate) (lots_of s ward))
 is_count_otherwise s (counts.Declare ward) = false
 
--- what the state has of an actor's command isn't what the command says
+-- what the state has for an actor's command differs from the command
 abbrev pub is_otherwise : OfficeState → ℕ → Command → Bool
 is_otherwise s actor (Ward command) = is_ward_otherwise s command
 is_otherwise s actor (Candidate command) = is_candidate_otherwise s command
@@ -111,6 +111,6 @@ is_otherwise s actor (Keying command) = is_keying_otherwise s actor command
 is_otherwise s actor (Verdict command) = is_verdict_otherwise s command
 is_otherwise s actor (Count command) = is_count_otherwise s command
 
--- the same of a request, which was kept before
+-- the same for a request, which was kept before
 abbrev pub is_kept_otherwise : OfficeState → Request → Bool
 is_kept_otherwise s r = is_otherwise s r.actor r.command

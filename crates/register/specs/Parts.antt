@@ -12,9 +12,9 @@ use Rattle.register.specs.Papers.{of_three}
 use Rattle.register.specs.Polls.{PollEntry, poll_entry}
 use Rattle.register.specs.Offices.{WardEntry, CandidateEntry, BatchEntry, ThirdEntry, KeyedEntry, JudgedEntry, ward_entry, candidate_entry, batch_entry, third_entry, keyed_entry, judged_entry}
 
--- what any command may need, each there only where the command needs it. Of the ward that it names, or to which the batch that it names belongs: the
--- ward, its candidates, its poll, what is due in its count, and who is elected. The candidate that it names. The batch that it names, and its third
--- clerk; the actor's own keying of it; the keyings of its current round that are there; and the verdict on the paper that it names.
+-- What a command may need; each item is present only if the command needs it. For the ward that it names, or whose batch it names: the ward, its
+-- candidates, its poll, what is due in its count, and who is elected. The candidate that it names. The batch that it names, and its third clerk; the
+-- actor's own keying of it; the keyings that exist in its current round; and the verdict on the paper that it names.
 pub record PartEntries : Type 0 where
   pub ward : Option WardEntry
   pub candidate : Option CandidateEntry
@@ -28,29 +28,29 @@ pub record PartEntries : Type 0 where
   pub due : Option Due
   pub elected : List ℕ
 
--- no part, to which a command adds what it needs
+-- an empty part, to be filled with what a command needs
 abbrev pub empty_part : PartEntries
 empty_part = record { ward = None; candidate = None; candidates = []; batch = None; third = None; own = []; keyings = []; verdict = None; poll = None; due = None; elected = [] }
 
--- the ward is there, in this phase
+-- the ward exists and is in this phase
 abbrev pub is_in_phase : Phase → Option WardEntry → Bool
 is_in_phase phase None = false
 is_in_phase phase (Some w) = phase_number w.phase == phase_number phase
 
--- what stands against a command that needs a ward in a phase: there is none, or it is in another phase
+-- the objections to a command that needs a ward in a phase: there is none, or it is in another phase
 abbrev pub phase_objections : Phase → Option WardEntry → List (Option Reason)
 phase_objections phase ward = objection (is_none ward) NoSuchWard ∷ objection (not (is_in_phase phase ward)) WrongPhase ∷ []
 
--- what stands against a command that needs a batch of a ward in keying: there is no such batch, or its ward is in another phase
+-- the objections to a command that needs a batch of a ward in keying: there is no such batch, or its ward is in another phase
 abbrev pub batch_objections : PartEntries → List (Option Reason)
 batch_objections part = objection (is_none part.batch) NoSuchBatch ∷ objection (not (is_in_phase Keying part.ward)) WrongPhase ∷ []
 
--- a batch that is there passes a test
+-- the batch exists and passes a test
 abbrev pub passes : (BatchEntry → Bool) → Option BatchEntry → Bool
 passes test None = false
 passes test (Some b) = test b
 
--- the entries that a part stands for
+-- the entries of a part
 abbrev pub part_entries : Part → PartEntries
 part_entries part =
     record {

@@ -1,4 +1,4 @@
--- How the election of a ward stands, the columns of a batch's papers, the work of a clerk, and what stands on the papers of a batch.
+-- The status of a ward's election, the columns of a batch's papers, the work of a clerk, and the text of a batch's papers.
 use Rattle.std.specs.Prelude.{ℕ, Bool, ◌&&◌, List, map, length, Option, None, option_map, option_and_then, string_bytes, if◌then◌else◌}
 use Rattle.std.specs.List.{filter}
 use Rattle.register.specs.declared.phase.Phase.{Phase}
@@ -11,8 +11,8 @@ use Rattle.register.specs.Marks.{columns_of}
 use Rattle.register.specs.Papers.{is_keyed, is_its_clerk, batches_of, taken_of, differing_of, open_among}
 use Rattle.register.specs.Parts.{is_in_phase}
 
--- a ward and its phase. How many candidates and batches it has; how many of the batches are taken, and how many differ. How many doubtful papers of
--- the taken batches have no verdict yet, and how many stages of the count are done.
+-- A ward and its phase; its numbers of candidates and batches, and how many of the batches are taken and how many differ. How many doubtful papers of the
+-- taken batches have no verdict yet, and how many stages of the count are done.
 pub record StatusEntry : Type 0 where
   pub ward : ℕ
   pub phase : Phase
@@ -23,7 +23,7 @@ pub record StatusEntry : Type 0 where
   pub doubtful_open : ℕ
   pub stages : ℕ
 
--- how a ward stands
+-- the status of a ward
 abbrev pub status_of : OfficeState → WardEntry → StatusEntry
 status_of s w =
     record {
@@ -37,7 +37,7 @@ status_of s w =
       stages = w.done;
     }
 
--- how the ward of a number stands, if there is one
+-- the status of the ward with this number, if there is one
 abbrev pub status_at : OfficeState → ℕ → Option StatusEntry
 status_at s ward = option_map (status_of s) (ward_at s ward)
 
@@ -45,7 +45,7 @@ status_at s ward = option_map (status_of s) (ward_at s ward)
 abbrev pub columns_at : OfficeState → ℕ → Option (List ℕ)
 columns_at s batch = option_map (λ (b : BatchEntry). columns_of (candidates_of s b.ward)) (batch_at s batch)
 
--- what a status stands for
+-- the entry of a status
 abbrev pub status_entry : Status → StatusEntry
 status_entry t =
     record {
@@ -61,8 +61,7 @@ status_entry t =
 
 -- ---- the work of a clerk
 
--- a batch that a clerk keys: its number, its ward, the columns of its papers, how many they are, its current round, and
--- whether he has keyed that
+-- a batch assigned to a clerk: its number, its ward, the columns and the number of its papers, its current round, and whether the clerk has keyed that round
 pub record WorkEntry : Type 0 where
   pub batch : ℕ
   pub ward : ℕ
@@ -71,7 +70,7 @@ pub record WorkEntry : Type 0 where
   pub round : ℕ
   pub keyed : Bool
 
--- a batch is a clerk's to key: he is one of its clerks, and its ward is in keying
+-- a batch is a clerk's work: it is assigned to the clerk, and its ward is in keying
 abbrev pub is_work : OfficeState → ℕ → BatchEntry → Bool
 is_work s clerk b = is_its_clerk clerk b (third_at s b.number) && is_in_phase Keying (ward_at s b.ward)
 
@@ -80,17 +79,17 @@ abbrev pub work_on : OfficeState → ℕ → BatchEntry → WorkEntry
 work_on s clerk b =
     record { batch = b.number; ward = b.ward; columns = columns_of (candidates_of s b.ward); size = b.size; round = b.round; keyed = is_keyed (keying_of s b.number b.round clerk) }
 
--- the work of a clerk: his batches in wards in keying, in the order of their numbers
+-- the work of a clerk: the clerk's batches in wards in keying, by number
 abbrev pub work_of : OfficeState → ℕ → List WorkEntry
 work_of s clerk = map (work_on s clerk) (filter (is_work s clerk) s.batches)
 
--- what a piece of work stands for
+-- the entry of a piece of work
 abbrev pub work_entry : Work → WorkEntry
 work_entry w = record { batch = w.batch; ward = w.ward; columns = w.columns; size = w.size; round = w.round; keyed = w.keyed }
 
--- ---- what stands on the papers of a batch
+-- ---- the text of a batch's papers
 
--- the ward that a ballot paper is of: its number, its name, and its candidates
+-- the text of a ballot paper: its ward's number and name, and the candidates
 pub record BallotPaperEntry : Type 0 where
   pub ward : ℕ
   pub name : List ℕ
@@ -100,14 +99,14 @@ pub record BallotPaperEntry : Type 0 where
 abbrev pub paper_of : OfficeState → WardEntry → BallotPaperEntry
 paper_of s w = record { ward = w.number; name = w.name; candidates = candidates_of s w.number }
 
--- the ballot paper of a batch for one of its clerks; for anybody else none
+-- the ballot paper of a batch for one of its clerks; none for any other actor
 abbrev pub paper_for : OfficeState → ℕ → BatchEntry → Option BallotPaperEntry
 paper_for s clerk b = if is_its_clerk clerk b (third_at s b.number) then option_map (paper_of s) (ward_at s b.ward) else None
 
--- the same of the batch of a number, if there is one
+-- the same for the batch with this number, if there is one
 abbrev pub paper_at : OfficeState → ℕ → ℕ → Option BallotPaperEntry
 paper_at s clerk batch = option_and_then (paper_for s clerk) (batch_at s batch)
 
--- what a ballot paper stands for
+-- the entry of a ballot paper
 abbrev pub paper_entry : BallotPaper → BallotPaperEntry
 paper_entry p = record { ward = p.ward.number; name = string_bytes p.ward.name; candidates = map candidate_entry p.candidates.items }

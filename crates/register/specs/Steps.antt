@@ -1,4 +1,4 @@
--- What comes next in the election of a ward.
+-- The next step in the election of a ward.
 use Rattle.std.specs.Prelude.{ℕ, List, map, length, Option, option_map}
 use Rattle.count.specs.declared.stages.Due.{Due}
 use Rattle.register.specs.declared.phase.Phase.{Phase}
@@ -10,15 +10,16 @@ use Rattle.register.specs.Elections.{election_of, due_of}
 use Rattle.register.specs.Standings.{StatusEntry, status_of, status_entry}
 use Rattle.register.specs.Counts.{stage_after}
 
--- What comes next in a ward. In nominations it is their end, with so many candidates for so many seats so far. In keying it is the rest of the
--- papers, which stand so. In the count it is what is due, at the stage of this number, with its candidates. Once it is declared, it is nothing.
+-- The next step in a ward. During nominations it is to close them, with this number of candidates for this number of seats so far. During keying it is the
+-- rest of the papers, with this status. During the count it is what is due, at the stage with this number, with the ward's candidates. Once the ward is
+-- declared, there is none.
 pub data StepEntry : Type 0 where
   nominations_end : ℕ → ℕ → StepEntry
   papers_stand : StatusEntry → StepEntry
   count_goes : ℕ → Due → List CandidateEntry → StepEntry
   nothing_comes : StepEntry
 
--- what comes next in a ward of a state that is in a phase
+-- the next step in a ward of a state, by its phase
 abbrev pub next_in : Phase → OfficeState → WardEntry → StepEntry
 next_in Nominations s w = nominations_end (length (candidates_of s w.number)) w.seats
 next_in Keying s w = papers_stand (status_of s w)
@@ -28,11 +29,11 @@ next_in Declared s w = nothing_comes
 abbrev pub next_of : OfficeState → WardEntry → StepEntry
 next_of s w = next_in w.phase s w
 
--- the same of the ward of a number, if there is one
+-- the same for the ward with this number, if there is one
 abbrev pub next_at : OfficeState → ℕ → Option StepEntry
 next_at s ward = option_map (next_of s) (ward_at s ward)
 
--- what a step stands for
+-- the entry of a step
 abbrev pub step_entry : NextStep → StepEntry
 step_entry (step.Nominations candidates seats) = nominations_end candidates seats
 step_entry (step.Papers status) = papers_stand (status_entry status)

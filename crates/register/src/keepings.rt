@@ -1,7 +1,8 @@
-//! What is kept of a request, compared with the words of one that is sent again under its id.
+//! What the state keeps of a request, compared with a request repeated under the same id.
 //!
-//! A receipt has the id and the subject of its request, and none of the other words. So whether a repeated request says the same is
-//! seen from the entry that the first one left. Where a candidate has withdrawn, nothing is left to compare with.
+//! A receipt holds the id and the subject of its request, and none of its other words. So whether a repeated request is the
+//! same is determined from the entry that the first one made. After a candidate's withdrawal no entry is left to compare
+//! with.
 
 ghost use Rattle.std.specs.Prelude.{◌≡◌, map, option_map, string_bytes, IfOk};
 ghost use Rattle.std.specs.List.{list_any};
@@ -20,7 +21,7 @@ use crate::verdicts::{ACCEPTED, JudgedPaper, Verdict, VerdictCommand};
 use crate::wards::Ward;
 use std::alloc::{AllocError, Global};
 
-/// Returns whether a ward is there, of so many seats and with this name.
+/// Returns whether a ward exists, with this number of seats and this name.
 pub fn is_ward_of(found: &Option<Ward>, seats: u32, name: &str) -> bool
     ensures { result ≡ is_there (is_ward_of seats name.now) (option_map ward_entry found.now) }
 {
@@ -30,7 +31,7 @@ pub fn is_ward_of(found: &Option<Ward>, seats: u32, name: &str) -> bool
     }
 }
 
-/// Returns whether a candidate is there, with another name.
+/// Returns whether a candidate exists, with a different name.
 pub fn has_other_name(found: &Option<Candidate>, name: &str) -> bool
     ensures { result ≡ is_there (has_other_name name.now) (option_map candidate_entry found.now) }
 {
@@ -40,7 +41,7 @@ pub fn has_other_name(found: &Option<Candidate>, name: &str) -> bool
     }
 }
 
-/// Returns whether one of some receipts has this subject.
+/// Returns whether any of these receipts has this subject.
 fn has_subject(receipts: &[Receipt], subject: &str) -> bool
     ensures { result ≡ list_any (has_subject subject.now) (map receipt_entry receipts.now) }
 {
@@ -52,8 +53,8 @@ fn has_subject(receipts: &[Receipt], subject: &str) -> bool
     false
 }
 
-/// Returns whether a candidate of this number has withdrawn from a ward, by the receipts of the returning officer. `AllocError` if
-/// memory is refused.
+/// Returns whether a candidate with this number has withdrawn from a ward, according to the returning officer's receipts.
+/// `AllocError` if an allocation fails.
 pub fn has_withdrawn(
     alloc: Global,
     receipts: &[Receipt],
@@ -66,7 +67,7 @@ pub fn has_withdrawn(
     Ok(has_subject(receipts, &subject))
 }
 
-/// Returns whether a batch is there, of this ward and this size, given to these two clerks.
+/// Returns whether a batch exists, of this ward and this size, assigned to these two clerks.
 pub fn is_batch_of(
     found: &Option<Batch>,
     ward: u32,
@@ -86,7 +87,7 @@ pub fn is_batch_of(
 }
 
 #[tactic(auto, unfolding(crate::specs::Keepings::has_texts))]
-/// Returns whether a keying has these marks texts, one for each paper, in order.
+/// Returns whether a keying has exactly these marks texts, one per paper, in order.
 pub fn has_texts(keying: &[KeyedPaper], texts: &[String]) -> bool
     ensures { result ≡ has_texts (map keyed_entry keying.now) (map string_bytes texts.now) }
 {
@@ -101,7 +102,7 @@ pub fn has_texts(keying: &[KeyedPaper], texts: &[String]) -> bool
     true
 }
 
-/// Returns whether a verdict is there, with the code and the marks of this one.
+/// Returns whether a verdict exists, with the code and the marks of this one.
 pub fn is_judged_alike(found: &Option<JudgedPaper>, command: &VerdictCommand) -> bool
     ensures { result ≡ is_there (is_judged_alike (judged_as command.now.batch command.now.paper command.now.verdict)) (option_map judged_entry found.now) }
 {
@@ -116,7 +117,7 @@ pub fn is_judged_alike(found: &Option<JudgedPaper>, command: &VerdictCommand) ->
     }
 }
 
-/// Returns whether one of some lots is of this stage, and drew this candidate.
+/// Returns whether one of these lots is for this stage and drew this candidate.
 pub fn is_drawn(lots: &[DrawnLot], stage: u32, candidate: u32) -> bool
     ensures { result ≡ list_any (is_drawn stage candidate) (map lot_entry lots.now) }
 {

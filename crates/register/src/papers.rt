@@ -1,4 +1,4 @@
-//! How the papers of a batch stand: keyed by its clerks, taken where two keyings agree.
+//! The keyings of a batch's papers: a batch is taken if two of them agree.
 
 ghost use Rattle.std.specs.Prelude.{◌≡◌, ℕ, length, map, option_map};
 ghost use Rattle.std.specs.List.{filter};
@@ -11,7 +11,7 @@ use crate::batches::{Batch, ThirdClerk};
 use crate::keyings::KeyedPaper;
 use crate::verdicts::JudgedPaper;
 
-/// Whether a keying is there.
+/// Returns whether a keying exists.
 pub fn is_keyed(keying: &[KeyedPaper]) -> bool
     ensures { result ≡ is_keyed (map keyed_entry keying.now) }
 {
@@ -19,7 +19,7 @@ pub fn is_keyed(keying: &[KeyedPaper]) -> bool
 }
 
 #[tactic(auto, unfolding(crate::specs::Papers::same_marks))]
-/// Whether two keyings have the same marks on each paper.
+/// Returns whether two keyings have the same marks on each paper.
 fn same_marks(first: &[KeyedPaper], second: &[KeyedPaper]) -> bool
     ensures { result ≡ same_marks (map keyed_entry first.now) (map keyed_entry second.now) }
 {
@@ -35,8 +35,8 @@ fn same_marks(first: &[KeyedPaper], second: &[KeyedPaper]) -> bool
 }
 
 #[tactic(auto, using(crate::proofs::AgreedLemmas::agreed_three))]
-/// The first of three clerks' keyings of a round that a later one equals, in the order of the clerks' numbers: the papers with
-/// which a batch is taken. A keying that isn't there is empty, and so is the answer where no two are equal.
+/// Returns the first of three clerks' keyings of a round that a later one equals, in the order of the clerks' numbers: the
+/// papers that the batch is taken with. A missing keying is empty, and so is the result if no two are equal.
 pub fn agreed<'a>(
     first: &'a [KeyedPaper],
     second: &'a [KeyedPaper],
@@ -53,21 +53,21 @@ pub fn agreed<'a>(
     &[]
 }
 
-/// Whether a batch is taken by the keyings of its current round: two of those that are there are equal.
+/// Returns whether a batch is taken by the keyings of its current round: two existing ones are equal.
 pub fn are_taken(first: &[KeyedPaper], second: &[KeyedPaper], third: &[KeyedPaper]) -> bool
     ensures { result ≡ are_taken (of_three (map keyed_entry first.now) (map keyed_entry second.now) (map keyed_entry third.now)) }
 {
     is_keyed(agreed(first, second, third))
 }
 
-/// How many of three keyings are there.
+/// Returns how many of three keyings exist.
 fn count_keyed(first: &[KeyedPaper], second: &[KeyedPaper], third: &[KeyedPaper]) -> u32
     ensures { result ≡ length (of_three (map keyed_entry first.now) (map keyed_entry second.now) (map keyed_entry third.now)) }
 {
     u32::from(is_keyed(first)) + u32::from(is_keyed(second)) + u32::from(is_keyed(third))
 }
 
-/// Whether the keyings of a round differ: at least two are there, and no two of those are equal.
+/// Returns whether the keyings of a round differ: at least two exist, and no two of them are equal.
 pub fn differ(first: &[KeyedPaper], second: &[KeyedPaper], third: &[KeyedPaper]) -> bool
     ensures { result ≡ differ (of_three (map keyed_entry first.now) (map keyed_entry second.now) (map keyed_entry third.now)) }
 {
@@ -82,7 +82,7 @@ pub struct Clerks {
     pub third: Option<u32>,
 }
 
-/// The clerks who key a batch: its two, and a third one where one is set.
+/// Returns the clerks who key a batch: its two, and the third if one is assigned.
 pub fn clerks_of(batch: &Batch, third: &Option<ThirdClerk>) -> Clerks
     ensures { clerk_list result ≡ clerks (batch_entry batch.now) (option_map third_entry third.now) }
 {
@@ -115,14 +115,13 @@ pub fn clerks_of(batch: &Batch, third: &Option<ThirdClerk>) -> Clerks
     }
 }
 
-/// The law of the keyings of a batch, for its callers: in each round what its clerks keyed, one by one, are the
-/// keyings of the batch.
+/// The law of the keyings of a batch, for callers: in each round the keyings of its clerks, one by one, are the keyings of the batch.
 pub fn keyings_are_by_clerks()
     ensures { (s : OfficeState) (b : BatchEntry) (round : ℕ) (c : Clerks) → clerk_list c ≡ clerks_of s b
         → of_three (keying_of s b.number round c.first) (keying_of s b.number round c.second) (keying_by s b.number round c.third) ≡ keyings_in s b round }
 {}
 
-/// Of the two clerks who first key a batch the one with the lower number.
+/// Returns the lower-numbered of the two clerks assigned to a batch first.
 pub fn lower_clerk(batch: &Batch) -> u32
     ensures { result ≡ lower_clerk (batch_entry batch.now) }
 {
@@ -133,14 +132,14 @@ pub fn lower_clerk(batch: &Batch) -> u32
     }
 }
 
-/// Whether a paper is keyed as doubtful.
+/// Returns whether a paper is keyed as doubtful.
 pub fn is_doubtful(keyed: &KeyedPaper) -> bool
     ensures { result ≡ is_doubtful (keyed_entry keyed.now) }
 {
     keyed.marks.as_str() == "D"
 }
 
-/// Whether a keying has a doubtful paper of this number.
+/// Returns whether a keying has a doubtful paper with this number.
 pub fn has_doubtful(keying: &[KeyedPaper], paper: u32) -> bool
     ensures { result ≡ has_doubtful (map keyed_entry keying.now) paper }
 {
@@ -152,7 +151,7 @@ pub fn has_doubtful(keying: &[KeyedPaper], paper: u32) -> bool
     false
 }
 
-/// Whether some verdicts have one on the paper of this number.
+/// Returns whether one of these verdicts is on the paper with this number.
 fn has_verdict(verdicts: &[JudgedPaper], paper: u32) -> bool
     ensures { result ≡ has_verdict (map judged_entry verdicts.now) paper }
 {
@@ -164,7 +163,7 @@ fn has_verdict(verdicts: &[JudgedPaper], paper: u32) -> bool
     false
 }
 
-/// How many papers of a keying are doubtful and have none among some verdicts.
+/// Returns how many papers of a keying are doubtful and have none of these verdicts.
 pub fn count_open(keying: &[KeyedPaper], verdicts: &[JudgedPaper]) -> usize
     ensures { result ≡ length (filter (is_open (map judged_entry verdicts.now)) (map keyed_entry keying.now)) }
 {

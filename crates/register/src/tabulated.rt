@@ -1,5 +1,4 @@
-//! What an office tabulates of its counts: where each bundle of equal ballot papers lies, and every figure of
-//! every stage.
+//! What an office tabulates of its counts: the place of each bundle of equal ballot papers, and every figure of every stage.
 
 ghost use Rattle.std.specs.Prelude.{◌≡◌, ◌==◌, ◌+◌, ◌≤◌, [], ◌++◌, ℕ, List, map, reverse, length, true, Some, IfOk, IfSome, IsSome, OnOk};
 ghost use Rattle.std.specs.List.{AllByRecursion, filter};
@@ -22,8 +21,9 @@ use paper::{Columns, Prefs};
 use std::alloc::{AllocError, Global};
 use votes::{MAX_PAPERS, Votes};
 
-/// A bundle of equal ballot papers of a ward, where it lies after the stages done. It has the preferences, one candidate's number (1 to 30)
-/// a byte; how many papers there are, 1 or more; who holds them, a candidate's number or 0 for no one; and the value of each, in units.
+/// A bundle of equal ballot papers of a ward, in its place after the stages done. It has the preferences, one candidate's
+/// number (1 to 30) per byte; the number of papers, at least 1; their holder, a candidate's number or 0 for none; and the
+/// value of each paper, in units.
 #[derive(PartialEq, Eq, Drop)]
 pub struct PlacedBundle {
     pub ward: u32,
@@ -33,7 +33,7 @@ pub struct PlacedBundle {
     pub value: u64,
 }
 
-/// A figure of a stage of a ward's count, as `count::Figure` has it.
+/// A figure of a stage of a ward's count, as in `count::Figure`.
 #[derive(Clone, Copy, PartialEq, Eq)]
 pub struct StageFigure {
     pub ward: u32,
@@ -43,15 +43,15 @@ pub struct StageFigure {
     pub mark: u32,
 }
 
-/// All that is tabulated: the bundles by ward and list, the figures by ward, stage and candidate.
+/// The whole tabulation: the bundles by ward and list, the figures by ward, stage and candidate.
 #[derive(Drop)]
 pub struct Tabulation {
     pub bundles: Vec<PlacedBundle>,
     pub figures: Vec<StageFigure>,
 }
 
-/// What an accepted request adds to the tabulation: bundles that come into it, as all of a ward do at its first stage; bundles
-/// that lie elsewhere than before; and the figures of a new stage. Where no stage is counted it adds nothing.
+/// What an accepted request adds to the tabulation: new bundles, which at a ward's first stage are all of them; bundles
+/// whose place has changed; and the figures of the new stage. Nothing unless it counts a stage.
 #[derive(Drop)]
 pub struct Addition {
     pub placed: Vec<PlacedBundle>,
@@ -60,7 +60,7 @@ pub struct Addition {
 }
 
 impl Addition {
-    /// No addition. Takes no memory.
+    /// Returns an empty addition. Allocates nothing.
     pub fn none(alloc: Global) -> Addition
         ensures { addition_entries result ≡ no_addition }
     {
@@ -73,7 +73,7 @@ impl Addition {
 }
 
 impl Tabulation {
-    /// What is tabulated of no count. Takes no memory.
+    /// Returns an empty tabulation. Allocates nothing.
     pub fn empty(alloc: Global) -> Tabulation
         ensures bundles { result.bundles.items ≡ [] }
         ensures figures { result.figures.items ≡ [] }
@@ -84,8 +84,8 @@ impl Tabulation {
         }
     }
 
-    /// Adds what there is of the count of a ward: its bundles where they lie, and the figures of its stages.
-    /// An error is want of memory, and a part may be added then.
+    /// Adds what there is of the count of a ward: its bundles in their places, and the figures of its stages. `AllocError`
+    /// if an allocation fails; then a part may have been added.
     pub fn add(
         &mut self,
         alloc: Global,
@@ -105,7 +105,7 @@ impl Tabulation {
     }
 }
 
-/// A bundle of a ward, where it lies. An error is want of memory.
+/// Returns a bundle of a ward in its place. `AllocError` if an allocation fails.
 pub(crate) fn placed_bundle(
     alloc: Global,
     ward: u32,
@@ -125,7 +125,7 @@ pub(crate) fn placed_bundle(
     })
 }
 
-/// Adds the bundles of a ward, each where it lies.
+/// Adds the bundles of a ward, each in its place.
 fn add_bundles(
     alloc: Global,
     to: &mut Vec<PlacedBundle>,
@@ -167,7 +167,7 @@ pub(crate) fn add_stage(
     Ok(())
 }
 
-/// Adds the figures of all stages of a ward, from the first on.
+/// Adds the figures of all stages of a ward, from the first.
 fn add_figures(
     alloc: Global,
     to: &mut Vec<StageFigure>,
@@ -178,7 +178,7 @@ fn add_figures(
     ensures { OnOk result (map figure_entry to.new.items ≡ map figure_entry to.old.items ++ figures_to ward candidates.now (reverse stages.now)) }
 {
     for done in 0..stages.len() {
-        // no machine has the memory for so many stages
+        // this many stages don't fit into memory
         let Ok(stage) = u32::try_from(done + 1) else {
             return Err(AllocError);
         };
@@ -188,10 +188,10 @@ fn add_figures(
     Ok(())
 }
 
-/// The laws of what is tabulated, for its callers. At a state the bundles stand in the order of ward and list, and the figures in
-/// that of ward, stage and candidate, none twice. Those of a ward are what its election has. Where a ward's count has a stage,
-/// its count is read back from them. Of an election worked by hand they are those that were worked out. Before the first stage
-/// there are none; then there is each bundle where it lies, at its value, and the figures of each stage.
+/// The laws of the tabulation, for callers. In a state the bundles are in the order of ward and list, and the figures in
+/// that of ward, stage and candidate, without duplicates. Those of a ward are those of its election. If a ward's count has a
+/// stage, the count is read back from them. For an election worked by hand they are the expected ones. Before the first
+/// stage there are none; from then on they are each bundle in its place, at its value, and the figures of each stage.
 pub fn tabulations_are_ordered()
     ensures rise { (s : OfficeState) → IsState s → TabulationRises (tabulation_of s) }
     ensures bundles { (s : OfficeState) (w : WardEntry) → IsState s → ward_at s w.number ≡ Some w
@@ -203,8 +203,8 @@ pub fn tabulations_are_ordered()
     ensures worked { WorkedTabulation }
 {}
 
-/// Adds a bundle to others, and says whether it could: whether its list is one of preferences, it has a paper,
-/// and with it there are at most `MAX_PAPERS` papers. An error is want of memory.
+/// Adds a bundle to others and returns whether it could: its list must be one of preferences, it must have a paper, and the
+/// papers must not exceed `MAX_PAPERS` with it. `AllocError` if an allocation fails.
 fn add_bundle(bundles: &mut Bundles, bundle: &PlacedBundle) -> Result<bool, AllocError>
     ensures ok { IfOk result (λ added. added ≡ true → bundles.new ≡ with_papers bundles.old bundle.now.list.items bundle.now.papers) }
     ensures fits { IfOk result (λ added. IsBundle (bundle_of (placed_entry bundle.now)) → length (papers_of bundles.old) + bundle.now.papers ≤ max_papers → added ≡ true) }
@@ -220,7 +220,7 @@ fn add_bundle(bundles: &mut Bundles, bundle: &PlacedBundle) -> Result<bool, Allo
     Ok(true)
 }
 
-/// The bundles of a ward; none where they are no bundles, or of too many papers. An error is want of memory.
+/// Returns the bundles of a ward; none if these aren't valid bundles, or have too many papers. `AllocError` if an allocation fails.
 fn bundles_of(alloc: Global, tabulated: &[PlacedBundle]) -> Result<Option<Bundles>, AllocError>
     ensures is { IfOk result (λ found. IfSome found (λ bundles. AreBundles (map bundle_of (map placed_entry tabulated.now)) → bundles ≡ map bundle_of (map placed_entry tabulated.now))) }
     ensures some { IfOk result (λ found. AreBundles (map bundle_of (map placed_entry tabulated.now))
@@ -235,7 +235,7 @@ fn bundles_of(alloc: Global, tabulated: &[PlacedBundle]) -> Result<Option<Bundle
     Ok(Some(bundles))
 }
 
-/// Where the bundles of a ward lie; none where a holder is no candidate's number. An error is want of memory.
+/// Returns the places of a ward's bundles; none if a holder isn't a candidate's number. `AllocError` if an allocation fails.
 fn places_of(alloc: Global, tabulated: &[PlacedBundle]) -> Result<Option<Vec<Placed>>, AllocError>
     ensures is { IfOk result (λ found. IfSome found (λ places. places.items ≡ map placed_of (map placed_entry tabulated.now))) }
     ensures some { IfOk result (λ found. AllByRecursion (λ (at : Placed). at.holder ≤ max_candidates) (map placed_of (map placed_entry tabulated.now)) → IsSome found) }
@@ -253,7 +253,7 @@ fn places_of(alloc: Global, tabulated: &[PlacedBundle]) -> Result<Option<Vec<Pla
     Ok(Some(places))
 }
 
-/// The figures of a ward, as the count has them, stage by stage. An error is want of memory.
+/// Returns the figures of a ward in the count's own form, stage by stage. `AllocError` if an allocation fails.
 fn figures_shown(alloc: Global, tabulated: &[StageFigure]) -> Result<Vec<Figure>, AllocError>
     ensures { IfOk result (λ figures. figures.items ≡ map shown_of (map figure_entry tabulated.now)) }
 {
@@ -268,8 +268,8 @@ fn figures_shown(alloc: Global, tabulated: &[StageFigure]) -> Result<Vec<Figure>
     Ok(figures)
 }
 
-/// The count of a ward as its tabulated bundles and figures have it; none where they are those of no count. An
-/// error is want of memory.
+/// Returns the count of a ward that its tabulated bundles and figures determine; none if they are those of no count.
+/// `AllocError` if an allocation fails.
 pub fn count_of(
     alloc: Global,
     candidates: Columns,

@@ -12,7 +12,7 @@ use crate::rows::Rows;
 use register::wards::is_contested;
 use register::{Batch, Candidate, Phase, ThirdClerk, Ward};
 
-/// Whether a ward is there, past its nominations and contested.
+/// Returns whether a ward exists, is past its nominations and is contested.
 fn is_polled(ward: Option<&Ward>, candidates: &[Candidate]) -> bool
     ensures { result ≡ is_polled (option_map ward_entry (option_copied ward.entry)) (map candidate_entry candidates.now) }
 {
@@ -25,7 +25,7 @@ fn is_polled(ward: Option<&Ward>, candidates: &[Candidate]) -> bool
     }
 }
 
-/// Whether a batch has two clerks, and a ward that is polled.
+/// Returns whether a batch has two different clerks, and a ward that is polled.
 fn is_given_out(rows: &Rows, batch: &Batch) -> bool
     requires { MapsRise (state_of rows.now) }
     ensures { result ≡ is_given_out (state_of rows.now) (batch_entry batch.now) }
@@ -42,7 +42,7 @@ fn are_given_out(rows: &Rows, batches: &[Batch]) -> bool
     batches.iter().all(|batch| is_given_out(rows, batch))
 }
 
-/// Whether a batch is there, and a third clerk is neither of its two.
+/// Returns whether a batch exists and a third clerk is neither of its two clerks.
 fn is_third_for(third: &ThirdClerk, batch: Option<&Batch>) -> bool
     ensures { result ≡ is_third_for (third_entry third.now) (option_map batch_entry (option_copied batch.entry)) }
 {
@@ -56,7 +56,7 @@ fn is_third_for(third: &ThirdClerk, batch: Option<&Batch>) -> bool
     }
 }
 
-/// Whether a third clerk has a batch that is there, and is neither of its two.
+/// Returns whether a third clerk's batch exists and the third clerk is neither of its two clerks.
 fn is_set_right(rows: &Rows, third: &ThirdClerk) -> bool
     requires { MapsRise (state_of rows.now) }
     ensures { result ≡ is_third_for (third_entry third.now) (batch_at (state_of rows.now) third.now.batch) }
@@ -71,9 +71,9 @@ fn are_set_right(rows: &Rows, thirds: &[ThirdClerk]) -> bool
     thirds.iter().all(|third| is_set_right(rows, third))
 }
 
-/// Whether batches belong to contested wards past their nominations, and their two clerks differ; and whether third clerks belong
-/// to batches that are there, and are neither of the two clerks. This is the third condition on the rows of an office, whose
-/// tables stand in the order of their keys, no key twice.
+/// Returns whether every batch belongs to a contested ward past its nominations and has two different clerks, and every
+/// third clerk belongs to an existing batch and is neither of its two clerks. This is the third condition on the rows of an
+/// office, whose tables are in key order without duplicates.
 pub fn all_given_out(rows: &Rows) -> bool
     requires { MapsRise (state_of rows.now) }
     ensures { result ≡ all_given_out (state_of rows.now) }

@@ -1,4 +1,4 @@
-//! The two last conditions, each answered by itself.
+//! The last two conditions, each checked on its own.
 
 ghost use Rattle.std.specs.Prelude.{◌≡◌, ◌↔◌, true, IfOk, IsTrue};
 ghost use Rattle.register.specs.Offices.{MapsRise};
@@ -11,8 +11,9 @@ use crate::rows::Rows;
 use crate::tabulated::is_tabulated;
 use std::alloc::{AllocError, Global};
 
-/// Returns whether the counts are as the rows say. This is the seventh condition, asked of rows that meet the first and the fourth.
-/// [`all_counted`](crate::all_counted) answers the same, with what is tabulated of the counts. The only error is out of memory.
+/// Returns whether the counts are as the rows claim: the seventh condition, for rows that meet the first and the fourth.
+/// [`all_counted`](crate::all_counted) checks the same and returns the tabulation of the counts. `AllocError` if an
+/// allocation fails.
 pub fn item7(alloc: Global, rows: &Rows) -> Result<bool, AllocError>
     requires rise { MapsRise (state_of rows.now) }
     requires in_range { all_in_range (state_of rows.now) ≡ true }
@@ -23,9 +24,9 @@ pub fn item7(alloc: Global, rows: &Rows) -> Result<bool, AllocError>
     Ok(found.is_some())
 }
 
-/// Returns whether bundles and figures are those of the counts. This is the eighth condition, asked of rows that meet the first, the
-/// fourth and the seventh. The counts are counted for it; who has counted them compares by [`is_tabulated`](crate::is_tabulated).
-/// The only error is out of memory.
+/// Returns whether bundles and figures are those of the counts: the eighth condition, for rows that meet the first, the
+/// fourth and the seventh. Counts again; a caller that has already counted compares with
+/// [`is_tabulated`](crate::is_tabulated). `AllocError` if an allocation fails.
 pub fn item8(alloc: Global, rows: &Rows) -> Result<bool, AllocError>
     requires rise { MapsRise (state_of rows.now) }
     requires in_range { all_in_range (state_of rows.now) ≡ true }

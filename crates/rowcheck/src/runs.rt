@@ -1,5 +1,4 @@
-//! Runs of rows: in a list in the order of its keys the rows of one key, or of one beginning of a key,
-//! stand side by side. They are found by bisection.
+//! Runs of rows: in a list in key order the rows with one key, or with one prefix of a key, are adjacent. They are found by bisection.
 
 ghost use Rattle.std.specs.Prelude.{◌≡◌};
 ghost use Rattle.std.specs.List.{filter};
@@ -9,16 +8,16 @@ ghost use Rattle.std.specs.declared.cmp.Ordering.{Ordering};
 
 use std::cmp::Ordering;
 
-/// A row that is compared with a key, or with the beginning of one.
+/// A row that can be compared with a key, or with a prefix of one.
 pub(crate) trait Row<K> {
     ghost compared: { Self → K → Ordering };
 
-    /// Where the row stands: before those of the key, among them, or after them.
+    /// Returns where the row is: before those with the key, among them, or after them.
     fn compared(&self, key: &K) -> Ordering
         ensures { result ≡ compared self.now key.now };
 }
 
-/// The rows of a key, of rows in the order of their keys.
+/// Returns the rows with a key, among rows in key order.
 pub(crate) fn run_of<'a, K, T: Row<K>>(rows: &'a [T], key: &K) -> &'a [T]
     requires { IsNonDecreasingBy (λ x. ordering_index (T.compared x key.now)) rows.now }
     ensures { result.now ≡ filter (λ x. is_eq (T.compared x key.now)) rows.now }

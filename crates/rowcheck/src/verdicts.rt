@@ -16,7 +16,7 @@ use register::papers::{agreed, has_doubtful};
 use register::verdicts::is_rejection_code;
 use register::{Batch, JudgedPaper, KeyedPaper};
 
-/// The code of a verdict by which a paper is accepted.
+/// The code of a verdict that accepts a paper.
 const ACCEPTED: u32 = 0;
 
 fn are_of_batches(rows: &Rows, verdicts: &[JudgedPaper]) -> bool
@@ -26,8 +26,8 @@ fn are_of_batches(rows: &Rows, verdicts: &[JudgedPaper]) -> bool
     verdicts.iter().all(|judged| has_batch(rows, judged.batch))
 }
 
-/// Whether a verdict is on a doubtful paper of a keying: accepted with marks by which the paper is valid, or
-/// rejected without marks.
+/// Returns whether a verdict is on a doubtful paper of a keying: accepted with marks that make the paper valid, or rejected
+/// without marks.
 fn is_verdict_on(columns: Columns, papers: &[KeyedPaper], judged: &JudgedPaper) -> bool
     ensures { result ≡ is_verdict_on columns (map keyed_entry papers.now) (judged_entry judged.now) }
 {
@@ -47,7 +47,7 @@ fn are_verdicts_on(columns: Columns, papers: &[KeyedPaper], verdicts: &[JudgedPa
         .all(|judged| is_verdict_on(columns, papers, judged))
 }
 
-/// The papers that a batch is taken with: none where it isn't taken.
+/// Returns the papers that a batch is taken with: none if it isn't taken.
 fn taken_papers<'a>(rows: &'a Rows, batch: &Batch) -> &'a [KeyedPaper]
     requires { MapsRise (state_of rows.now) }
     ensures { map keyed_entry result.now ≡ taken_papers (state_of rows.now) (batch_entry batch.now) }
@@ -56,7 +56,7 @@ fn taken_papers<'a>(rows: &'a Rows, batch: &Batch) -> &'a [KeyedPaper]
     agreed(keyings.first, keyings.second, keyings.third)
 }
 
-/// Whether the verdicts on papers of a batch are on doubtful ones of those that it is taken with.
+/// Returns whether every verdict on a paper of a batch is on a doubtful one of those that it is taken with.
 fn is_judged(rows: &Rows, batch: &Batch) -> bool
     requires { MapsRise (state_of rows.now) }
     ensures { result ≡ is_judged (state_of rows.now) (batch_entry batch.now) (verdicts_of (state_of rows.now) batch.now.number) }
@@ -76,8 +76,8 @@ fn are_judged(rows: &Rows, batches: &[Batch]) -> bool
     batches.iter().all(|batch| is_judged(rows, batch))
 }
 
-/// Whether verdicts belong to batches that are there, and are on doubtful papers of taken ones. This is the fifth condition on
-/// the rows of an office, whose tables stand in the order of their keys, no key twice.
+/// Returns whether every verdict belongs to an existing batch that is taken, and is on a doubtful paper of it. This is the
+/// fifth condition on the rows of an office, whose tables are in key order without duplicates.
 pub fn all_judged(rows: &Rows) -> bool
     requires { MapsRise (state_of rows.now) }
     ensures { result ≡ all_judged (state_of rows.now) }

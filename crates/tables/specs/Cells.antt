@@ -8,7 +8,7 @@ use Rattle.sqlite.specs.declared.types.Value.TheVariants.{Int, Text, Blob}
 abbrev pub IsNumber : Value → Type 0
 IsNumber v = (n : ℕ) × (n < 2 ^ 32) × (v ≡ Int (pos n))
 
--- a number from 0 on
+-- a non-negative number
 abbrev pub IsAmount : Value → Type 0
 IsAmount v = (n : ℕ) × (v ≡ Int (pos n))
 

@@ -1,4 +1,4 @@
--- Rows that are read by their rowids.
+-- Reading rows by rowid.
 use Rattle.std.specs.Prelude.{◌≡◌, ℤ, List, map, filter, drop, Bool, true, ◌&&◌}
 use Rattle.sqlite_rules.specs.Lists.{Has}
 use Rattle.sqlite.specs.declared.types.Value.TheVariants.{Int}
@@ -12,11 +12,11 @@ use Rattle.tables.specs.declared.table.Table.{Table}
 use Rattle.tables.specs.Schema.{tree_of}
 use Rattle.tables.specs.Rows.{begins_with}
 
--- the row's rowid lies between these two, both among them, as SQL's >= and <= say
+-- the row's rowid is between these two, both included, as compared by SQL's >= and <=
 abbrev pub lies_between : ℤ → ℤ → Row → Bool
 lies_between low high r = is_true (binary (Compare Ge Binary) (rowid r) (Int low)) && is_true (binary (Compare Le Binary) (rowid r) (Int high))
 
--- the rows of the table whose rowids lie between these two, each without its rowid
+-- the rows of the table whose rowids are between these two, each without its rowid
 abbrev pub run_of : Table → ℤ → ℤ → Trees → List Row
 run_of t low high trees = map (drop 1) (filter (lies_between low high) (trees (tree_of t)))
 

@@ -1,4 +1,4 @@
-//! Values on their way into a row and out of it.
+//! Conversion of values to and from rows.
 
 ghost use Rattle.std.specs.Prelude.{◌≡◌, ◌≢◌, ◌⊎◌, ◌<◌, ◌^◌, ◌++◌, map, pos, IfOk, IfErr, string_bytes};
 ghost use Rattle.sqlite.specs.Value.{owned};
@@ -13,14 +13,14 @@ use sqlite::{Error, ErrorCode, Row};
 use sqlite_value::value::ValueRef;
 use std::alloc::Global;
 
-/// A whole number as a parameter.
+/// Returns a whole number as a parameter.
 pub fn number<'a>(n: u32) -> ValueRef<'a>
     ensures { owned result ≡ Number (pos n) }
 {
     ValueRef::Int(i64::from(n))
 }
 
-/// A number below 2^63 as a parameter.
+/// Returns a number below 2^63 as a parameter.
 pub fn amount<'a>(n: u64) -> ValueRef<'a>
     requires { n < 2 ^ 63 }
     ensures { owned result ≡ Number (pos n) }
@@ -31,29 +31,28 @@ pub fn amount<'a>(n: u64) -> ValueRef<'a>
     }
 }
 
-/// An integer as a parameter.
+/// Returns an integer as a parameter.
 pub fn integer<'a>(n: i64) -> ValueRef<'a>
     ensures { owned result ≡ Number n }
 {
     ValueRef::Int(n)
 }
 
-/// A text as a parameter.
+/// Returns a text as a parameter.
 pub fn text(s: &str) -> ValueRef<'_>
     ensures { owned result ≡ Words s.now }
 {
     ValueRef::Text(s.as_bytes())
 }
 
-/// Bytes as a parameter.
+/// Returns bytes as a parameter.
 pub fn bytes(b: &[u8]) -> ValueRef<'_>
     ensures { owned result ≡ Bytes b.now }
 {
     ValueRef::Blob(b)
 }
 
-/// The values of a row that begins with these numbers, with the others behind them; `Memory` where there is no
-/// room for them.
+/// Returns the values of a row that begins with these numbers, followed by the others; `Memory` if an allocation fails.
 pub fn row_values<'a>(
     alloc: Global,
     numbers: &[u32],
@@ -74,7 +73,7 @@ pub fn row_values<'a>(
     Ok(values)
 }
 
-/// Why a value did not read: `Memory` for want of memory, else `Damaged`.
+/// Returns the fault for a value that couldn't be read: `Memory` if out of memory, otherwise `Damaged`.
 fn value_fault(e: Error) -> Fault
     ensures { result ≡ value_fault e }
 {
@@ -84,7 +83,7 @@ fn value_fault(e: Error) -> Fault
     }
 }
 
-/// The number below 2^32 in a column; `Damaged` where there is none.
+/// Returns the number below 2^32 in a column; `Damaged` if there is none.
 pub fn number_at(row: &Row, place: usize) -> Result<u32, Fault>
     ensures number { IfOk result (λ n. column row.now place ≡ Number (pos n)) }
     ensures cause { IfErr result (λ f. (f ≡ Fault.Memory) ⊎ ((f ≡ Fault.Damaged) × ¬ IsNumber (column row.now place))) }
@@ -92,7 +91,7 @@ pub fn number_at(row: &Row, place: usize) -> Result<u32, Fault>
     row.get::<u32>(place).map_err(value_fault)
 }
 
-/// The number in a column; `Damaged` where there is none, or one below 0.
+/// Returns the number in a column; `Damaged` if there is none, or a negative one.
 pub fn amount_at(row: &Row, place: usize) -> Result<u64, Fault>
     ensures amount { IfOk result (λ n. column row.now place ≡ Number (pos n)) }
     ensures cause { IfErr result (λ f. (f ≡ Fault.Memory) ⊎ ((f ≡ Fault.Damaged) × ¬ IsAmount (column row.now place))) }
@@ -100,7 +99,7 @@ pub fn amount_at(row: &Row, place: usize) -> Result<u64, Fault>
     row.get::<u64>(place).map_err(value_fault)
 }
 
-/// The integer in a column; `Damaged` where there is none.
+/// Returns the integer in a column; `Damaged` if there is none.
 pub fn integer_at(row: &Row, place: usize) -> Result<i64, Fault>
     ensures integer { IfOk result (λ n. column row.now place ≡ Number n) }
     ensures cause { IfErr result (λ f. (f ≡ Fault.Memory) ⊎ ((f ≡ Fault.Damaged) × ((n : _) → column row.now place ≢ Number n))) }
@@ -108,7 +107,7 @@ pub fn integer_at(row: &Row, place: usize) -> Result<i64, Fault>
     row.get::<i64>(place).map_err(value_fault)
 }
 
-/// The text in a column; `Damaged` where there is none, or one that is not UTF-8.
+/// Returns the text in a column; `Damaged` if there is none, or it is not UTF-8.
 pub fn text_at(row: &Row, place: usize) -> Result<String, Fault>
     ensures text { IfOk result (λ s. column row.now place ≡ Words (string_bytes s)) }
     ensures cause { IfErr result (λ f. (f ≡ Fault.Memory) ⊎ ((f ≡ Fault.Damaged) × ¬ IsText (column row.now place))) }
@@ -116,7 +115,7 @@ pub fn text_at(row: &Row, place: usize) -> Result<String, Fault>
     row.get::<String>(place).map_err(value_fault)
 }
 
-/// The bytes in a column; `Damaged` where there are none, as where it has a text.
+/// Returns the bytes in a column; `Damaged` if there are none, even if there is a text.
 pub fn bytes_at(row: &Row, place: usize) -> Result<Vec<u8>, Fault>
     ensures bytes { IfOk result (λ b. column row.now place ≡ Bytes b.items) }
     ensures cause { IfErr result (λ f. (f ≡ Fault.Memory) ⊎ ((f ≡ Fault.Damaged) × ¬ IsBytes (column row.now place))) }

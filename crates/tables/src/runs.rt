@@ -1,7 +1,7 @@
-//! Rows by their rowids: where the row with a key stands, and those that stand side by side.
+//! Rows by rowid: the rowid of the row with a key, and adjacent rows.
 //!
-//! `sqlite` reads rows that stand side by side in half the time that it takes to look each up by its key. Where
-//! rows stand is no part of what a table holds: who reads by it sees from the rows whether they are those wanted.
+//! `sqlite` reads adjacent rows in half the time that it takes to look each up by its key. Where rows are stored is not part
+//! of what a table holds, so callers check whether the rows are the ones they need.
 
 ghost use Rattle.std.specs.Prelude.{◌≡◌, true, false, length, map, filter, drop, IfOk, IfErr, IfSome, OnOk, IsTrue};
 ghost use Rattle.std.specs.List.{AllByRecursion};
@@ -30,7 +30,7 @@ use sqlite::{Alter, Connection, Row};
 use sqlite_value::value::ValueRef;
 use std::alloc::Global;
 
-/// The rowids of the rows with this key.
+/// Returns the rowids of the rows with this key.
 fn rowids_with<S: Alter>(
     conn: &mut Connection<S>,
     table: Table,
@@ -48,7 +48,7 @@ fn rowids_with<S: Alter>(
     query(conn, select_rowid_text(table), key)
 }
 
-/// The rowid that the first of some rows has alone, if it is an integer.
+/// Returns the rowid that is the only column of the first row, if it is an integer.
 fn first_rowid(rows: &[Row]) -> Result<Option<i64>, Fault>
     ensures id { IfOk result (λ found. IfSome found (λ n. (row : _) × Has rows.now row × (rowid row ≡ Number n))) }
     ensures cause { IfErr result (λ f. f ≡ Fault.Memory) }
@@ -63,7 +63,7 @@ fn first_rowid(rows: &[Row]) -> Result<Option<i64>, Fault>
     }
 }
 
-/// The rowid of the row with this key, where it is an integer.
+/// Returns the rowid of the row with this key, if it is an integer.
 pub fn find_rowid<S: Alter>(
     conn: &mut Connection<S>,
     table: Table,
@@ -83,7 +83,7 @@ pub fn find_rowid<S: Alter>(
     Ok(id)
 }
 
-/// The rows whose rowids lie between two, both among them, with all their columns, in whatever order.
+/// Returns the rows whose rowids are between two, both included, with all their columns, in any order.
 pub fn rows_between<S: Alter>(
     conn: &mut Connection<S>,
     table: Table,
@@ -102,8 +102,7 @@ pub fn rows_between<S: Alter>(
     query(conn, select_between_text(table), &bounds)
 }
 
-/// The entries whose rows have rowids between two, both among them, in whatever order; `Damaged` where a row is
-/// that of no entry.
+/// Returns the entries whose rows have rowids between two, both included, in any order; `Damaged` if a row represents no entry.
 pub fn entries_between<E: Entries, S: Alter>(
     alloc: Global,
     conn: &mut Connection<S>,

@@ -1,4 +1,4 @@
--- What the loop of `lot_pairs` keeps.
+-- The invariant of the loop in `lot_pairs`.
 use Rattle.std.proofs.Common.{◌≡◌, true, ◌++◌, map, drop}
 use Rattle.std.specs.List.{list_all}
 use Rattle.register.specs.Offices.{lot_entry}

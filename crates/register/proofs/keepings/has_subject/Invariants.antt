@@ -1,4 +1,4 @@
--- What the loop of `has_subject` keeps.
+-- The invariant of the loop in `has_subject`.
 use Rattle.std.proofs.Common.{◌≡◌, map, drop}
 use Rattle.std.specs.List.{list_any}
 use Rattle.register.specs.Offices.{receipt_entry}

@@ -1,4 +1,4 @@
--- What the loop of `has_texts` keeps.
+-- The invariant of the loop in `has_texts`.
 use Rattle.std.proofs.Common.{◌≡◌, map, drop, string_bytes}
 use Rattle.register.specs.Offices.{keyed_entry}
 use Rattle.register.specs.Keepings.{has_texts}

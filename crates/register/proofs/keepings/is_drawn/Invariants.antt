@@ -1,4 +1,4 @@
--- What the loop of `is_drawn` keeps.
+-- The invariant of the loop in `is_drawn`.
 use Rattle.std.proofs.Common.{◌≡◌, map, drop}
 use Rattle.std.specs.List.{list_any}
 use Rattle.register.specs.Offices.{lot_entry}

@@ -1,4 +1,4 @@
--- What the loop of `count_open` keeps.
+-- The invariant of the loop in `count_open`.
 use Rattle.std.proofs.Common.{◌≡◌, ◌≤◌, ◌+◌, length, map, drop}
 use Rattle.std.specs.List.{filter}
 use Rattle.register.specs.Offices.{keyed_entry, judged_entry}

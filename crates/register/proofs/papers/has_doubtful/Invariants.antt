@@ -1,4 +1,4 @@
--- What the loop of `has_doubtful` keeps.
+-- The invariant of the loop in `has_doubtful`.
 use Rattle.std.proofs.Common.{◌≡◌, map, drop}
 use Rattle.register.specs.Offices.{keyed_entry}
 use Rattle.register.specs.Papers.{has_doubtful}

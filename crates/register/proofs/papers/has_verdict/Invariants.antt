@@ -1,4 +1,4 @@
--- What the loop of `has_verdict` keeps.
+-- The invariant of the loop in `has_verdict`.
 use Rattle.std.proofs.Common.{◌≡◌, map, drop}
 use Rattle.register.specs.Offices.{judged_entry}
 use Rattle.register.specs.Papers.{has_verdict}

@@ -1,11 +1,11 @@
--- Why `keyings_are_by_clerks` keeps its promise.
+-- Proof that `keyings_are_by_clerks` meets its contract.
 use Rattle.std.proofs.Common.{◌≡◌, ℕ, ◌∷◌, map, filter, Option, Some, None, refl, ap, ◌∙◌}
 use Rattle.register.specs.declared.papers.Clerks.{Clerks}
 use Rattle.register.specs.Offices.{OfficeState, keying_of}
 use Rattle.register.specs.Papers.{is_keyed, of_three, third_listed, clerk_list, keying_by}
 use Rattle.register.proofs.papers.keyings_are_by_clerks.Goals as goal
 
--- those of some clerks, one by one, are those of all of them
+-- the keyings of some clerks, one by one, are the keyings of all of them
 each : (s : OfficeState) (batch round : ℕ) (c : Clerks)
     → of_three (keying_of s batch round c.first) (keying_of s batch round c.second) (keying_by s batch round c.third) ≡ filter is_keyed (map (keying_of s batch round) (clerk_list c))
 each s batch round c = go c.third

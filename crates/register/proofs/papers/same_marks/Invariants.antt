@@ -1,4 +1,4 @@
--- What the loop of `same_marks` keeps.
+-- The invariant of the loop in `same_marks`.
 use Rattle.std.proofs.Common.{◌≡◌, map, drop}
 use Rattle.register.specs.Offices.{keyed_entry}
 use Rattle.register.specs.Papers.{same_marks}

@@ -1,4 +1,4 @@
--- Why `add_bundles` keeps its promise.
+-- Proof that `add_bundles` meets its contract.
 use Rattle.std.proofs.Common.{rules, ◌≡◌, ◌++◌, ◌∷◌, ◌∙◌, [], List, map, ap, sym, subst, append-nil}
 use Rattle.std.proofs.lemmas.List.{map-append}
 use Rattle.count.specs.Bundles.{Bundle}

@@ -1,4 +1,4 @@
--- What the loop of `add_bundles` keeps.
+-- The invariant of the loop in `add_bundles`.
 use Rattle.std.proofs.Common.{◌≡◌, ◌++◌, ℕ, List, map}
 use Rattle.count.specs.Law.Places.{Place}
 use Rattle.register.specs.Tabulated.{placed_entry}

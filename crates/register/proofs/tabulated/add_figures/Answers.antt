@@ -1,4 +1,4 @@
--- Why `add_figures` keeps its promise.
+-- Proof that `add_figures` meets its contract.
 use Rattle.std.proofs.Common.{rules, ◌≡◌, ◌+◌, map, take, reverse}
 use Rattle.count.specs.Marks.{figures_at}
 use Rattle.register.specs.Tabulated.{figure_entry}

@@ -1,4 +1,4 @@
--- What the loop of `add_figures` keeps.
+-- The invariant of the loop in `add_figures`.
 use Rattle.std.proofs.Common.{◌≡◌, ◌++◌, map, take, reverse}
 use Rattle.register.specs.Tabulated.{figure_entry, figures_to}
 use Rattle.register.proofs.tabulated.add_figures.Given as goal

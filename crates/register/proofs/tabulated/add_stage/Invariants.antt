@@ -1,4 +1,4 @@
--- What the loop of `add_stage` keeps.
+-- The invariant of the loop in `add_stage`.
 use Rattle.std.proofs.Common.{◌≡◌, ◌++◌, map, drop}
 use Rattle.register.specs.Tabulated.{figure_entry, figure_at}
 use Rattle.register.proofs.tabulated.add_stage.Given as goal

@@ -1,4 +1,4 @@
--- Why `bundles_of` keeps its promise.
+-- Proof that `bundles_of` meets its contract.
 use Rattle.std.proofs.Common.{rules, ◌≡◌, ◌+◌, ◌++◌, ◌∷◌, ◌∙◌, true, map, drop, List, ap}
 use Rattle.count.specs.Bundles.{Bundle}
 use Rattle.register.specs.Tabulated.{placed_entry, bundle_of}

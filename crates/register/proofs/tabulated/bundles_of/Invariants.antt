@@ -1,4 +1,4 @@
--- What the loop of `bundles_of` keeps.
+-- The invariant of the loop in `bundles_of`.
 use Rattle.std.proofs.Common.{◌≡◌, ◌++◌, map, drop}
 use Rattle.count.specs.Bundles.{AreBundles}
 use Rattle.register.specs.Tabulated.{placed_entry, bundle_of}

@@ -1,4 +1,4 @@
--- Why `count_of` keeps its promise.
+-- Proof that `count_of` meets its contract.
 use Rattle.std.proofs.Common.{rules, ◌≡◌, ◌∙◌, map, is_some, ap, sym, subst}
 use Rattle.std.proofs.lemmas.Option.{IfSome_then}
 use Rattle.count.specs.Kept.{IsKeptOf}
@@ -20,7 +20,7 @@ returns-in_default-4-clause-some c = λ e of.
     let figures : c.deref.result.now ≡ all_figures c.args.candidates (stages_of e) = c.deref.ensures.value ∙ c.in_ok-figures.ensures ∙ read_figures e _ _ _ _ of in
     ap is_some (sym c.in_default-4.is) ∙ c.in_ok-stages.ensures.some (contest_of e) (stages_of e) of.fair (right_so_far e _ _ _ _ of) (sym of.candidates_are) figures
 
--- what was read is kept of the count
+-- what was read is what was stored of the count
 kept : (c : In-Some-3) (e : ElectionEntry) → AreOfCount e c.args.candidates c.args.seats (map placed_entry c.args.bundles.now) (map figure_entry c.args.figures.now)
     → IsKeptOf (contest_of e) (stages_of e)
     (record { candidates = c.args.candidates; seats = c.in-Ok.seats; bundles = c.in-Some.kept; places = c.in-Some-2.places.items; stages = c.in-Some-3.stages.items })

@@ -1,4 +1,4 @@
--- What the loop of `figures_shown` keeps.
+-- The invariant of the loop in `figures_shown`.
 use Rattle.std.proofs.Common.{◌≡◌, ◌++◌, map, drop}
 use Rattle.register.specs.Tabulated.{figure_entry, shown_of}
 use Rattle.register.proofs.tabulated.figures_shown.Given as goal

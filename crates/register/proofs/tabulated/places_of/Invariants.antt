@@ -1,4 +1,4 @@
--- What the loop of `places_of` keeps.
+-- The invariant of the loop in `places_of`.
 use Rattle.std.proofs.Common.{◌≡◌, ◌≤◌, ◌++◌, map, drop}
 use Rattle.std.specs.List.{AllByRecursion}
 use Rattle.paper.specs.Columns.{max_candidates}

@@ -1,4 +1,4 @@
--- Why `tabulations_are_ordered` keeps its promise.
+-- Proof that `tabulations_are_ordered` meets its contract.
 use Rattle.register.proofs.TabulatedLemmas.{tabulation_rises, bundles_of_ward, figures_of_ward}
 use Rattle.register.proofs.CountReadBackLemmas.{counted_at}
 use Rattle.register.proofs.TabulatedRows.{worked_tabulation}

@@ -1,4 +1,4 @@
--- Why `add_in_count` keeps its promise.
+-- Proof that `add_in_count` meets its contract.
 use Rattle.std.proofs.Common.{rules, IsSome, map, subst, ap, ◌∙◌}
 use Rattle.std.specs.List.{list_all}
 use Rattle.std.proofs.lemmas.Result.{IfOk-weaker}

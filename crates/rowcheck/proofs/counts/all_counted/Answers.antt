@@ -1,4 +1,4 @@
--- Why `all_counted` keeps its promise.
+-- Proof that `all_counted` meets its contract.
 use Rattle.std.proofs.Common.{◌≡◌, Option, Some, None, Result, Ok, Err, is_some, ap, refl, sym, ◌∙◌, IfOk, IfSome, subst}
 use Rattle.std.specs.List.{list_all}
 use Rattle.std.proofs.lemmas.List.Folds.{list_all-map}

@@ -1,4 +1,4 @@
--- What the loop of `are_rounds` keeps.
+-- The invariant of the loop in `are_rounds`.
 use Rattle.std.proofs.Common.{◌≡◌, ◌-◌}
 use Rattle.register.specs.Offices.{batch_entry}
 use Rattle.register.specs.Keyed.{are_rounds_to}

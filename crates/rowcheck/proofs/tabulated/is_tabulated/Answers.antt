@@ -1,4 +1,4 @@
--- Why `is_tabulated` keeps its promise: entries are equal where the fields of the values are.
+-- Proof that `is_tabulated` meets its contract: entries are equal if the fields of the values are.
 use Rattle.std.proofs.Common.{◌≡◌, Bool, ◌&&◌, ◌==◌, nat_eq, refl, sym, ap, ◌∙◌, List, [], ◌∷◌, map}
 use Rattle.std.specs.Bool.{Decides}
 use Rattle.std.specs.Cmp.Lexicographic.{pointwise}
@@ -9,7 +9,7 @@ use Rattle.register.specs.declared.tabulated.StageFigure.{StageFigure}
 use Rattle.register.specs.Tabulated.{PlacedEntry, FigureEntry, TabulationEntries, placed_entry, figure_entry}
 use Rattle.rowcheck.proofs.tabulated.is_tabulated.Goals as goal
 
--- lists are compared one by one
+-- lists are compared element by element
 each_same : {X Y : Type 0} (f : X → Y) (test : X → X → Bool) → ((x y : X) → Decides (test x y) (f x ≡ f y)) → (xs ys : List X) → Decides (pointwise test xs ys) (map f xs ≡ map f ys)
 each_same f test tells [] [] = (λ is. refl, λ same. refl)
 each_same f test tells [] (y ∷ ys) = (λ is. absurd (cc), λ same. absurd (cc))

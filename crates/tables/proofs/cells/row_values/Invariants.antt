@@ -1,4 +1,4 @@
--- What the loop of `row_values` keeps.
+-- The invariant of the loop in `row_values`.
 use Rattle.std.proofs.Common.{◌≡◌, ℕ, map, take, pos}
 use Rattle.sqlite.specs.declared.types.Value.TheVariants.{Int}
 use Rattle.sqlite.specs.Values.{bound}

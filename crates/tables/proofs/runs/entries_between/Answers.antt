@@ -1,4 +1,4 @@
--- Why `entries_between` keeps its promise.
+-- Proof that `entries_between` meets its contract.
 use Rattle.std.proofs.Common.{inl, inr, rules, w64}
 use Rattle.std.proofs.lemmas.Int.{to_z-of_z}
 use Rattle.std.proofs.lemmas.Result.{err_from_is_err_and}

@@ -1,4 +1,4 @@
--- Why `find_rowid` keeps its promise.
+-- Proof that `find_rowid` meets its contract.
 use Rattle.std.proofs.Common.{inl}
 use Rattle.std.proofs.lemmas.Result.{err_from_is_err_and}
 use Rattle.sqlite.specs.Values.{bound}

@@ -1,4 +1,4 @@
--- Why `rowids_with` keeps its promise.
+-- Proof that `rowids_with` meets its contract.
 use Rattle.std.proofs.Common.{◌∙◌}
 use Rattle.sqlite.specs.Held.{state}
 use Rattle.sqlite.specs.Values.{bound}

@@ -1,4 +1,4 @@
--- Why `rows_between` keeps its promise.
+-- Proof that `rows_between` meets its contract.
 use Rattle.std.proofs.Common.{rules, w64}
 use Rattle.std.proofs.lemmas.Int.{to_z-of_z}
 use Rattle.sqlite.specs.Held.{state}

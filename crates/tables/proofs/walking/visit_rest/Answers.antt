@@ -1,4 +1,4 @@
--- Why `visit_rest` keeps its promise.
+-- Proof that `visit_rest` meets its contract.
 use Rattle.std.proofs.Common.{refl, rules, ◌∙◌}
 use Rattle.std.proofs.lemmas.Result.{err_from_is_err_and}
 use Rattle.sqlite.specs.Held.{state}

@@ -1,4 +1,4 @@
--- What the loop of `visit_rest` keeps.
+-- The invariant of the loop in `visit_rest`.
 use Rattle.std.proofs.Common.{◌≡◌, false}
 use Rattle.sqlite.specs.State.{HasCleanDisk}
 use Rattle.sqlite.specs.Held.{state}

@@ -1,4 +1,4 @@
--- Why `walk_beginning` keeps its promise.
+-- Proof that `walk_beginning` meets its contract.
 use Rattle.std.proofs.Common.{◌≡◌, ◌⊎◌, inl, length, true, rules}
 use Rattle.std.specs.List.{AllByRecursion}
 use Rattle.std.proofs.lemmas.Result.{err_from_is_err_and}

@@ -1,4 +1,4 @@
--- Why `Election::begin` keeps its promise.
+-- Proof that `Election::begin` meets its contract.
 use Rattle.std.proofs.Common.{◌≡◌, [], map, ap, refl, sym, ◌∙◌, subst}
 use Rattle.count.specs.Kept.{IsKeptOf}
 use Rattle.count.specs.Law.Count.{stages_to}

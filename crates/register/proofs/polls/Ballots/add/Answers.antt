@@ -1,4 +1,4 @@
--- Why `Ballots::add` keeps its promise.
+-- Proof that `Ballots::add` meets its contract.
 use Rattle.std.proofs.Common.{◌≡◌, ℕ, ◌++◌, ◌∷◌, [], ◌&&◌, List, map, fold, Result, Ok, Err, IfOk, refl, subst, ap, ◌∙◌}
 use Rattle.std.specs.List.{flat_map}
 use Rattle.std.specs.declared.alloc.AllocError.{AllocError}
