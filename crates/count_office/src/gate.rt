@@ -1,4 +1,4 @@
-//! The gate of an office that is served: clerks' codes, and the page on which clerks key.
+//! The gate of an office that is being served: clerks' codes, and the page on which clerks key.
 
 ghost use Rattle.std.specs.Prelude.{◌≡◌, IfErr, IfOk, option_map};
 ghost use Rattle.wire.specs.Gates.{gate_entry};
