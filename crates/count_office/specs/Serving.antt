@@ -62,7 +62,7 @@ IsUngated codes_at (Some path) why = IsReadAs (codes_at path) (Err why)
 abbrev pub path_in : Serving → Option (List ℕ)
 path_in serving = option_map (λ path. path.now) serving.codes
 
--- the settings with an origin, a gate, a file, and whether that file is known to stay in place
+-- the settings with an origin, a gate, a file, and whether that file is known to be whole throughout
 abbrev pub settings_with : Option (List ℕ) → Option GateEntry → FileNumbers → Option Bool → ServerSettingsEntry
 settings_with origin gate file whole = record { clients = record { origin = origin; gate = gate }; file = file; whole = whole }
 

@@ -1,4 +1,4 @@
--- Why `read_gate_files` keeps its promise: the codes are those that were read at the path, and the page and its policy are those of the crate.
+-- Proof that `read_gate_files` meets its contract: the codes are those that were read at the path, and the page and its policy are those of the crate.
 use Rattle.std.proofs.Common.{◌≡◌, ◌∙◌, ap, subst, sym, ℕ, List, Some}
 use Rattle.std.specs.Prelude.{Option, option_map, string_bytes}
 use Rattle.codes.specs.Codes.{holders_of}
