@@ -51,8 +51,8 @@ fn path_of(rt: &HostRuntime, database: &str) -> io::Result<String> {
     Ok(format!(in rt.alloc(); "{database}{ENDING}")?)
 }
 
-/// Returns the mode of the socket at a path if it belongs to the database's owner; None if nothing is there. An error is that
-/// something else is there, such as a link, or another user's socket, or that it can't be examined.
+/// Returns the mode of the socket at a path; None if nothing is there. An error is that something other than a socket is there, such
+/// as a link, or another user's socket, or that it can't be examined.
 fn mode_at(rt: &HostRuntime, database: &str, path: &str) -> io::Result<Option<u32>> {
     let found = match fs::symlink_metadata(rt, path) {
         Ok(found) => found,
@@ -115,7 +115,7 @@ impl OrderSocket {
 }
 
 /// Opens the descriptors of standard streams that were closed: otherwise a socket would get one of them, and output would be sent to
-/// its client.
+/// its peer.
 pub fn closed_streams(rt: &HostRuntime) -> io::Result<Vec<File>> {
     let mut held = Vec::new(rt.alloc());
     for _ in 0..=LAST_STREAM {

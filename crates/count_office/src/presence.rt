@@ -4,8 +4,8 @@
 //! a path, and everything confirmed from then on is lost once the program ends. The descriptors don't show that, so the paths are
 //! checked.
 //!
-//! Neither file becomes shorter while the office is served: a checkpoint writes pages into the database and restarts the log within
-//! its own bytes; the log is truncated only when the office is opened, and when it is closed.
+//! Neither file becomes shorter while the office is served: a checkpoint writes pages into the database and restarts the log in place;
+//! the log is truncated only when the office is opened, and when it is closed.
 
 ghost use Rattle.std.specs.Prelude.{◌≡◌, ◌≤◌, true};
 
@@ -17,7 +17,7 @@ use std::fs;
 use std::os::unix::fs::MetadataExt;
 use streams::Counted;
 
-/// What identifies a file, its device and inode numbers, and its length.
+/// A file's device and inode numbers, which identify it, and its length.
 #[derive(Clone, Copy)]
 struct Seen {
     device: u64,

@@ -1,4 +1,4 @@
--- The headline: what an order prints, byte for byte, and what remains in effect, whenever it is stopped. The definitions here are read from the first to the last.
+-- The headline: what an order prints, byte for byte, and what remains in effect whenever it is stopped. It is best read from the first definition to the last.
 -- Requests.antt defines which requests an errand sends, Scripts.antt which steps a job has, and Pages.antt and Told.antt what pages say.
 use Rattle.std.specs.Prelude.{◌≡◌, ◌≢◌, ◌⊎◌, ◌+◌, ◌++◌, ℕ, Bool, true, false, List, [], ◌∷◌, codes, length, Option, None}
 use Rattle.sqlite.specs.{Effect.Database, State.State, Tree.Trees}
@@ -74,7 +74,7 @@ module _ (old : State) (closed : Bool) (st : State) where
       × (((requests : List Request) × Sends s turn.errand file requests × IsSent keep turn.line (page_answered turn.errand) (λ next. IsPlayed keep folder next turns) s requests course)
       ⊎ IsUnsent keep turn.line (IsTold s turn.errand file) (IsPlayed keep folder s turns) s course)
 
-  -- A job is done in the open office: its steps are run, with `keep_going` past refusals. Or the page says why its text is no script. Or the page has a fault.
+  -- A job is done in the open office: its steps are run, with `keep_going` past refusals. Or the page says why its text isn't a script. Or the page has a fault.
   abbrev pub IsDone : Folder → OfficeState → Job → Course → Type 0
   IsDone folder s job course = ((turns : List ScriptStep) × HasTurns folder job turns
       × IsPlayed (keeps_going job) folder s turns course) ⊎ IsUnsent false None (IsNoScript folder job) (λ rest. ⊥) s course

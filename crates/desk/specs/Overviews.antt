@@ -87,7 +87,7 @@ abbrev pub preferences_from : List Text → ℕ → List ℕ → Text
 preferences_from names number [] = []
 preferences_from names number (c ∷ cs) = preference_words number (name_in names c) ++ preferences_from names (number + 1) cs
 
--- why a paper is rejected, by its code
+-- why a paper is rejected, by its code, in words
 abbrev pub rejection_words : ℕ → Text
 rejection_words code =
     if code == 1 then codes "no first preference" else (

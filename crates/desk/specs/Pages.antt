@@ -200,7 +200,7 @@ page_of (outcome.Failed fault) = failed (Office fault)
 page_of (outcome.Uncopied why) = failed (failure_of why)
 page_of outcome.Unjournalled = unjournalled
 
--- why words are no order: help goes to the output, and what isn't understood to the error output
+-- why words aren't an order: help goes to the output, and what isn't understood to the error output
 abbrev pub words_page : WordsFault → Page
 words_page words.Memory = failed (Office fault.Memory)
 words_page words.Origin = record { out = []; err = bad_origin; status = 2 }
@@ -225,7 +225,7 @@ abbrev pub fronted : Option ℕ → Page → Page
 fronted None page = page
 fronted (Some number) page = record { out = page.out; err = behind_front (line_front (Some number)) page.err; status = page.status }
 
--- why a text is no script
+-- why a text isn't a script
 abbrev pub script_page : ScriptFault → Page
 script_page script.Memory = failed (Office fault.Memory)
 script_page (script.ScriptLine number flaw) = record { out = []; err = line_front (Some number) ++ line_flaw_text flaw; status = 2 }

@@ -20,7 +20,7 @@ use Rattle.desk.specs.declared.lines.Failure.TheVariants.{Office}
 use Rattle.desk.specs.declared.orders.KeyingFile.{KeyingFile}
 use Rattle.desk.specs.declared.orders.Question.{Question}
 
--- there are requests that resulted in this page, so much of which was written, and this many of which were answered
+-- P holds of an outcome with this page, written as far as this, for some requests of which some number was answered
 abbrev pub ComesTo : Cut → Page → (Course → Type 0) → Type 0
 ComesTo cut page P = (requests : List Request) × (answered : ℕ) × P (record { requests = requests; answered = answered; page = page; cut = cut })
 

@@ -76,28 +76,28 @@ HoldsKeying (Err why) k file requests = ⊥
 
 -- ---- the stages of a count
 
--- the request of some number in its order, which counts a stage of a ward
+-- the request that counts a stage of a ward, with this number in its order
 abbrev pub advance_at : ℕ → Text → ℕ → Sent
 advance_at ward id k = by_office (id_at id k) (stage_to_count ward)
 
--- a request has the id of the first of an order that counts
+-- whether a request has the id of the first of an order that counts
 abbrev pub is_first : Text → Request → Bool
 is_first id r = bytes_eq (string_bytes r.id) (id_at id 1)
 
--- the first requests of an order that counts, this many
+-- the first requests of an order that counts, as many as this
 abbrev pub advances : ℕ → Text → ℕ → List Sent
 advances ward id n = map (advance_at ward id) (range_with_len 1 n)
 
 -- the highest stage that a count can have. There are at most 30 candidates. The first stage is that of the first preferences. Each later one transfers the papers of
--- one candidate, who is then finished: the surplus of an elected one, all of an excluded one. So this is the last stage for which a lot may be drawn.
+-- one candidate, who then needs no further stage: the surplus of an elected one, all papers of an excluded one. So this is the last stage for which a lot may be drawn.
 abbrev pub last_stage : ℕ
 last_stage = last_lot_stage
 
--- the maximum number of requests of such an order: one more than that, which is refused
+-- the maximum number of requests of such an order: one more than the stages, which is refused
 abbrev pub most_advances : ℕ
 most_advances = last_stage + 1
 
--- the machine refuses a request
+-- whether the machine refuses a request
 abbrev pub is_refused : Outcome → Bool
 is_refused (accepted next reply) = false
 is_refused (kept reply) = false

@@ -41,7 +41,7 @@ lines_of text = lines_from [] (behind_byte_order_mark text)
 
 -- ---- the words of a line
 
--- a space, a tab, or a carriage return, such as before a line feed
+-- a space, a tab, or a carriage return; one may precede a line feed
 abbrev pub is_blank : ℕ → Bool
 is_blank byte = byte == 32 || (byte == 9 || byte == 13)
 
@@ -49,26 +49,26 @@ is_blank byte = byte == 32 || (byte == 9 || byte == 13)
 abbrev pub is_quote : ℕ → Bool
 is_quote byte = byte == 34 || byte == 39
 
--- a line is skipped: it consists of blanks, or its first other byte is #
+-- a line is skipped: it consists of blanks, or the first byte after its blanks is #
 abbrev pub passes_over : Text → Bool
 passes_over [] = true
 passes_over (byte ∷ bytes) = if is_blank byte then passes_over bytes else byte == 35
 
--- how far a line is split: its complete words, the current word, and the context of the next byte
+-- the state of splitting a line: its complete words, the current word, and the context of the next byte
 pub record LexerEntry : Type 0 where
   pub words : List Text
   pub word : Text
   pub place : LexerState
 
--- the next byte has another context
+-- the context of the next byte changes
 abbrev pub moved_to : LexerState → LexerEntry → LexerEntry
 moved_to place c = record { words = c.words; word = c.word; place = place }
 
--- one more byte of the word
+-- a byte is appended to the current word
 abbrev pub with_byte : LexerEntry → ℕ → LexerEntry
 with_byte c byte = record { words = c.words; word = c.word ++ byte ∷ []; place = c.place }
 
--- the word is complete
+-- the current word is complete
 abbrev pub with_word : LexerEntry → LexerEntry
 with_word c = record { words = c.words ++ c.word ∷ []; word = []; place = Between }
 
@@ -85,7 +85,7 @@ cut_at (Quoted quote) c byte = if byte == quote then moved_to Within c else with
 abbrev pub cut_byte : LexerEntry → ℕ → LexerEntry
 cut_byte c byte = cut_at c.place c byte
 
--- the words of a line after its last byte; None if a quote isn't closed
+-- the words of a line once all its bytes were processed; None if a quote isn't closed
 abbrev pub words_at : LexerState → LexerEntry → Option (List Text)
 words_at Between c = Some c.words
 words_at Within c = Some (c.words ++ c.word ∷ [])
@@ -129,7 +129,7 @@ script_lines text = map typed_line (numbered_from 1 (lines_of text))
 
 -- ---- the order of a line
 
--- an errand sends requests; only one that does can be in a script
+-- whether an errand sends requests; only one that does can be in a script
 abbrev pub sends_requests : Errand → Bool
 sends_requests (errand.Send request) = true
 sends_requests (errand.ImportCandidates file id digest) = true
@@ -137,7 +137,7 @@ sends_requests (errand.ImportKeying keying) = true
 sends_requests (errand.Count ward id) = true
 sends_requests other = false
 
--- an order can be in a script if its errand sends requests
+-- whether an order can be in a script: its errand sends requests
 abbrev pub stands_in_script : Order → Bool
 stands_in_script (order.Perform (task.InOffice (job.Run errand))) = sends_requests errand
 stands_in_script other = false
@@ -163,7 +163,7 @@ abbrev pub HasTurns : Folder → Job → List ScriptStep → Type 0
 HasTurns folder (job.Run errand) turns = turns ≡ record { line = None; errand = errand } ∷ []
 HasTurns folder (job.Replay path keep_going) turns = (file : File) × IsFileAt folder (Some path.now) file × HoldsText file (λ text. AreTurns (script_lines text) turns)
 
--- a job continues after refusals: a script does if it is to keep going
+-- whether a job continues after refusals: a script does if it is to keep going
 abbrev pub keeps_going : Job → Bool
 keeps_going (job.Run errand) = false
 keeps_going (job.Replay path keep_going) = keep_going

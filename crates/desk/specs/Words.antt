@@ -192,7 +192,7 @@ abbrev pub names_order : Option (Text × List Row) → Bool
 names_order None = false
 names_order (Some found) = is_order_name found.0
 
--- ---- words that are no order
+-- ---- words that aren't an order
 
 -- what `clap` first finds wrong with the words; nothing if it accepts them
 abbrev pub wrong_with : List Text → Kinds

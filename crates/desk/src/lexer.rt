@@ -18,7 +18,7 @@ pub(crate) enum LexerState {
     Quoted(u8),
 }
 
-/// How far a line is split: its complete words, the current word, and the context of the next byte.
+/// The state of splitting a line: its complete words, the current word, and the context of the next byte.
 #[derive(Drop)]
 struct Lexer {
     words: Vec<Vec<u8>>,
@@ -26,7 +26,7 @@ struct Lexer {
     place: LexerState,
 }
 
-/// Returns whether a byte is a space, a tab, or a carriage return, such as before a line feed.
+/// Returns whether a byte is a space, a tab, or a carriage return; one may precede a line feed.
 fn is_blank(byte: u8) -> bool
     ensures { result ≡ is_blank byte }
 {
@@ -99,7 +99,7 @@ impl Lexer {
         }
     }
 
-    /// Returns the words of a line, after its last byte; None if a quote isn't closed.
+    /// Returns the words of the line, once all its bytes were processed; None if a quote isn't closed.
     fn into_words(mut self, alloc: Global) -> Result<Option<Vec<Vec<u8>>>, AllocError>
         ensures { IfOk result (λ words. option_map (λ ws. map (λ w. w.items) ws.items) words ≡ words_cut (lexer_entry self)) }
     {
@@ -128,7 +128,7 @@ pub(crate) fn words_of(alloc: Global, line: &[u8]) -> Result<Option<Vec<Vec<u8>>
     cutter.into_words(alloc)
 }
 
-/// Returns whether a line is skipped: it consists of blanks, or its first other byte is `#`.
+/// Returns whether a line is skipped: it consists of blanks, or the first byte after its blanks is `#`.
 pub(crate) fn passes_over(line: &[u8]) -> bool
     ensures { result ≡ passes_over line.now }
 {

@@ -422,7 +422,7 @@ pub(crate) fn tell<O: Sink, E: Sink>(
     }
 }
 
-/// Prints why a text is no script, and returns the status: 2 for a line that isn't understood, and 3 if an allocation or the error
+/// Prints why a text isn't a script, and returns the status: 2 for a line that isn't understood, and 3 if an allocation or the error
 /// output fails.
 pub(crate) fn tell_script_fault<E: Sink>(fault: &ScriptFault, err: &mut E) -> u8
     requires { E.failed err.old < 2 ^ 64 - 1 }
@@ -434,7 +434,7 @@ pub(crate) fn tell_script_fault<E: Sink>(fault: &ScriptFault, err: &mut E) -> u8
     }
 }
 
-/// Prints why the words are no order, and returns the status: 0 for help on the output, 2 for a text on the error output, and 3 if an
+/// Prints why the words aren't an order, and returns the status: 0 for help on the output, 2 for a text on the error output, and 3 if an
 /// allocation failed. If one of the two outputs fails it is 3, and a prefix was written to that output.
 pub fn tell_words<O: Sink, E: Sink>(fault: &WordsFault, out: &mut O, err: &mut E) -> u8
     requires out { O.failed out.old < 2 ^ 64 - 1 }

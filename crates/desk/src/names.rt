@@ -41,7 +41,7 @@ pub(crate) fn name_of<'a>(candidates: &'a [Candidate], number: u32) -> &'a str
 
 impl<'a> NamesByNumber<'a> {
     #[tactic(auto, unfolding(crate::specs::Names::names_of))]
-    /// Returns the names of candidates. Each number from 0 to 30 is searched for once; a preference then finds its name by index.
+    /// Returns the names of these candidates. Each number from 0 to 30 is looked up once; a preference then finds its name by index.
     pub(crate) fn new(
         alloc: Global,
         candidates: &'a [Candidate],

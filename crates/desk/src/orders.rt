@@ -24,9 +24,9 @@ pub struct KeyingFile<'a> {
 /// A question that only the office asks.
 #[derive(Clone, Copy, Debug)]
 pub enum Question {
-    /// How each ward stands.
+    /// The status of each ward.
     Wards,
-    /// How each batch of a ward stands.
+    /// The status of each batch of a ward.
     Batches { ward: u32 },
     /// Which papers of a ward are doubtful.
     Doubtful { ward: u32 },
@@ -109,11 +109,11 @@ impl<'a> Errand<'a> {
 pub enum Job<'a> {
     /// Run this errand.
     Run(Errand<'a>),
-    /// Run the errands of a script in turn, up to the first that is refused; or past each that is.
+    /// Run the errands of a script in turn, up to the first that is refused; with `keep_going` also past those.
     Replay { file: &'a str, keep_going: bool },
 }
 
-/// What is done on a connection to the office's database, and needs nothing else.
+/// A task on a connection to the office's database, which needs nothing else.
 #[derive(Debug, Drop)]
 pub enum Task<'a> {
     /// Make an office.
@@ -154,7 +154,7 @@ pub enum Order<'a> {
         clerks: &'a str,
     },
     /// Serve connections on a port of this machine, and pages of an origin through a proxy, if one is given. It ends after this many
-    /// connections, or never if there is no number. Clerks must have codes if the path of a file of them is given.
+    /// connections, or never if no number is given. Clerks need codes if the path of a file of codes is given.
     Serve {
         port: u32,
         connections: Option<u32>,

@@ -1,5 +1,5 @@
-//! How all stands, in lines: the wards, the batches of a ward, the differences in a batch, and the receipts; and papers, whose lines
-//! are made in [`papers`](crate::papers).
+//! Overviews in lines: the wards, the batches of a ward, the differences in a batch, and the receipts; and papers, whose lines are
+//! made in [`papers`](crate::papers).
 
 ghost use Rattle.std.specs.Prelude.{◌≡◌, ◌⊎◌, ◌++◌, map, IfOk, IfErr, string_bytes};
 ghost use Rattle.std.specs.List.{flat_map};
@@ -122,7 +122,7 @@ impl Lined for WardOverview {
     ghost text = { λ o. ward_line (ward_view o) };
 
     #[tactic(auto, unfolding(crate::specs::Overviews::ward_line))]
-    /// Returns how the ward stands, its name last.
+    /// Returns the line on the ward, its name last.
     fn line(&self, alloc: Global) -> Result<String, AllocError> {
         let seats = seats_words(alloc, self)?;
         let untaken = untaken_words(alloc, self)?;
@@ -173,7 +173,7 @@ fn clerks_words(alloc: Global, clerks: &[ClerkOverview]) -> Result<String, Alloc
     Ok(text)
 }
 
-/// Returns how it stands, in words.
+/// Returns its status, in a word.
 fn standing_word(standing: BatchStanding) -> &'static str
     ensures { result.now ≡ standing_word standing }
 {
@@ -185,7 +185,7 @@ fn standing_word(standing: BatchStanding) -> &'static str
 }
 
 #[tactic(auto, unfolding(crate::specs::Overviews::twin_words))]
-/// Returns words for another batch with the same papers, if there is one.
+/// Returns which other batch has the same papers, in words, if one does.
 fn twin_words(alloc: Global, twin: Option<u32>) -> Result<String, AllocError>
     ensures { IfOk result (λ text. string_bytes text ≡ twin_words twin) }
 {
@@ -199,7 +199,7 @@ impl Lined for BatchOverview {
     ghost text = { λ o. batch_line (batch_view o) };
 
     #[tactic(auto, unfolding(crate::specs::Overviews::batch_line))]
-    /// Returns how the batch stands.
+    /// Returns the line on the batch.
     fn line(&self, alloc: Global) -> Result<String, AllocError> {
         let size = size_words(alloc, self)?;
         let clerks = clerks_words(alloc, &self.clerks)?;
@@ -225,7 +225,7 @@ impl Lined for Receipt {
     ghost text = { λ r. receipt_line (receipt_entry r) };
 
     #[tactic(auto, unfolding(crate::specs::Overviews::receipt_line))]
-    /// Returns who sent the request, under which id, its subject, and its reply.
+    /// Returns the line of a receipt: the actor, the id, the subject and the reply.
     fn line(&self, alloc: Global) -> Result<String, AllocError> {
         let (actor, id) = (self.actor, self.id.as_str());
         let (subject, reply) = (self.subject.as_str(), self.reply.as_str());
@@ -265,7 +265,7 @@ fn stopped(stop: Stop) -> LineOutcome
     }
 }
 
-/// Returns what is printed of the values found, or why there are none; or that an allocation failed.
+/// Returns what is printed for the values found, or why there are none; or that an allocation failed.
 fn outcome_of<T: Lined + Drop>(alloc: Global, found: Result<Vec<T>, Stop>) -> LineOutcome
     ensures lines { IfOk found (λ all. (page_of result ≡ printed (flat_map (λ t. line (T.text t)) all.items)) ⊎ (page_of result ≡ failed (Failure.Office Fault.Memory))) }
     ensures stop { IfErr found (λ stop. page_of result ≡ page_stopped stop) }

@@ -83,18 +83,18 @@ fn migrate_office<S: Alter, O: Sink, E: Sink>(
 /// `folder` opens the file that the task names, once the office is open; and the import files that a script names, each when it is
 /// needed. A file is read to its end before any request from it is sent.
 ///
-/// The status is 0 if all output was written to `out`: each reply, `office ready`, the outcome of a migration, how a ward or all
-/// stand, or a text of a ward. It is 1 if a request or the file was refused, and 3 for a fault; `err` says which. It is 3 too if one
-/// of the two failed; a prefix was then written to it.
+/// The status is 0 if all output was written to `out`: each reply, `office ready`, the outcome of a migration, the status of a ward,
+/// an overview, or a text of a ward. It is 1 if a request or the file was refused, and 3 for a fault; `err` says which. It is 3 too if
+/// one of the two failed; a prefix was then written to it.
 ///
-/// What was replied before the first refusal or fault remains in effect. If the program stops at any time, what remains is the state
+/// What was replied before the first refusal or fault remains in effect. Whenever the program is stopped, what remains is the state
 /// after the accepted requests of a prefix of all that were ever sent. The prefix contains every answered request, and at most one
 /// more. With status 0 all requests of the task were answered.
 ///
-/// All lines of a script are parsed before its first order is sent. If one isn't understood, the first such line is printed, with
+/// All lines of a script are parsed before its first order is sent. If one isn't understood, the first such line is reported, with
 /// status 2, and nothing is sent. A refusal or a fault of one of its orders ends the script, and is printed after its line's number.
-/// The requests of a script are those of its orders up to that one. With `keep_going` a refusal doesn't end the script. Each one is
-/// printed, and the status is then 1, if no fault ends it.
+/// The requests of a script are those of its orders up to that one. With `keep_going` a refusal doesn't end the script: each one is
+/// printed, and the status is 1 unless a fault ends the script.
 ///
 /// A database that contains no office, or a newer, an older or a damaged one, is reported by that fault, and isn't changed. If a table
 /// has one of our names, `init` makes no office: it reports fault 105, and changes nothing. Only `migrate` accepts an older office. If

@@ -94,7 +94,7 @@ pub(crate) fn requests_for(
     Ok(requests)
 }
 
-/// Returns the request of some number in its order, which counts a stage of a ward.
+/// Returns the request that counts a stage of a ward, with this number in its order.
 fn advance_at(alloc: Global, ward: u32, id: &str, number: usize) -> Result<Request, AllocError>
     ensures { IfOk result (λ request. sent_as request ≡ advance_at ward id.now number) }
 {
@@ -103,10 +103,10 @@ fn advance_at(alloc: Global, ward: u32, id: &str, number: usize) -> Result<Reque
 }
 
 /// The highest stage that a count can have. There are at most 30 candidates, and each stage after the first transfers the papers of
-/// one of them, which is then finished. So that is the last stage for which a lot may be drawn.
+/// one of them, who then needs no further stage. So this is the last stage for which a lot may be drawn.
 const LAST_STAGE: u32 = LAST_LOT_STAGE;
 
-/// The maximum number of requests of an order that counts: one more than that, which is refused.
+/// The maximum number of requests of an order that counts: one more than the stages, which is refused.
 const MOST_ADVANCES: usize = LAST_STAGE as usize + 1;
 
 /// Returns the requests that count the stages of a ward, from the first on, as many as an order may send.

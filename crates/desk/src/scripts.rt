@@ -30,7 +30,7 @@ pub(crate) enum LineFlaw {
     Origin,
     /// The word after `--sha256` isn't one.
     Digest,
-    /// The words are no order; this is printed for them.
+    /// The words aren't an order; this is printed for them.
     Words(String),
     /// The order isn't allowed in a script.
     Elsewhere,
@@ -53,7 +53,7 @@ impl LineFlaw {
     }
 }
 
-/// Why a text is no script.
+/// Why a text isn't a script.
 #[derive(Drop)]
 pub(crate) enum ScriptFault {
     /// An allocation failed.

@@ -68,7 +68,7 @@ pub(crate) const BAD_ORIGIN: &str =
 pub(crate) const BAD_DIGEST: &str =
     "error: a digest is 64 hexadecimal digits, as sha256sum prints them\n";
 
-/// Why the words are no order.
+/// Why the words aren't an order.
 #[derive(Drop)]
 pub enum WordsFault {
     /// An allocation failed.

@@ -15,7 +15,7 @@ use Rattle.keyfile.specs.declared.fault.Flaw.TheVariants.{OtherFile}
 abbrev pub digest_bytes : FileDigest → List ℕ
 digest_bytes digest = digest.bytes
 
--- the digest that is asked for, if one is
+-- the digest that is asked for, if any
 abbrev pub asked_digest : Option FileDigest → Option (List ℕ)
 asked_digest digest = option_map digest_bytes digest
 
@@ -23,13 +23,14 @@ asked_digest digest = option_map digest_bytes digest
 abbrev pub digest_in : List ℕ → Option (List ℕ)
 digest_in text = result_ok (decode_sized text 32)
 
--- P holds of the bytes that a file is read as. These are its own, if they are known. If a digest is asked for, they are bytes that have it, known or not.
+-- P holds of the bytes that a file is read as. These are its own, if they are known. If a digest is asked for, they are bytes with this digest, even if its own aren't
+-- known.
 abbrev pub IsReadAs : Option (List ℕ) → Option (List ℕ) → (List ℕ → Type 0) → Type 0
 IsReadAs None told P = Known told P
 IsReadAs (Some digest) told P = (bytes : List ℕ) × (sha256 bytes ≡ digest) × Known told (λ own. own ≡ bytes) × P bytes
 
--- what is reported for a file's bytes: if a digest is asked for and they have another, then that; else what is reported for any file. A stopped reading may be reported
--- before the digest is known.
+-- what is reported for a file's bytes: if a digest is asked for and they have another, then that; else what is reported for any file. That the reading was stopped may
+-- be reported in either case.
 abbrev pub IsFaultBy : {Row : Type 0} → Option (List ℕ) → Format Row → List ℕ → FileFault → Type 0
 IsFaultBy None format bytes fault = IsFaultOf format (file_records bytes) fault
 IsFaultBy (Some digest) format bytes fault =

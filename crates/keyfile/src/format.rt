@@ -47,7 +47,7 @@ pub(crate) trait FileFormat {
         ensures file { IfErr result (λ flaw. is_failed_read flaw ≡ false) };
 }
 
-/// Returns the rows of a file, or its fault. If a digest is asked for, all bytes are read first, and have it.
+/// Returns the rows of a file, or its fault. If a digest is asked for, all bytes are first read and checked against it.
 pub(crate) fn read_file<R: Read + Drop, F: FileFormat>(
     alloc: Global,
     r: R,
