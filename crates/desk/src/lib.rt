@@ -2,11 +2,12 @@
 //!
 //! [`order`](words) parses the words to an [`Order`](orders). [`perform`](perform) performs its task on an open connection to any
 //! store of `sqlite`, and prints its lines; [`plain`] does so with one open file. A [`Folder`](folders) opens a file that the order or
-//! its script names. [`lines`](lines) prints what is wrong with words that aren't an order, and other failures. [`copy_office`](copying)
-//! performs an order to copy, and [`journal_office`](journal_check) one for the journal, each on two connections; the crate `server`
-//! performs one to serve. In an office that is open already, such as a served one, [`follow`](replaying) does a job, and `copy_open`
-//! and `journal_open` copy it and print its journal. [`files_named_in`](script_files) returns which files a script names, for a client
-//! that sends it. The program decides which files, outputs and sockets these are.
+//! its script names. [`lines`](lines) prints what is wrong with words that aren't an order, and other failures.
+//! [`copy_office`](copying) performs an order to copy, and [`journal_office`](journal_check) one for the journal, each on two
+//! connections; the crate `server` performs one to serve. In an office that is open already, such as a served one,
+//! [`follow`](replaying) does a job, and `copy_open` and `journal_open` copy it and print its journal.
+//! [`files_named_in`](script_files) returns which files a script names, for a client that sends it. The program decides which files,
+//! outputs and sockets these are.
 //!
 //! ```text
 //! match order(alloc, words) {

@@ -434,8 +434,8 @@ pub(crate) fn tell_script_fault<E: Sink>(fault: &ScriptFault, err: &mut E) -> u8
     }
 }
 
-/// Prints why the words aren't an order, and returns the status: 0 for help on the output, 2 for a text on the error output, and 3 if an
-/// allocation failed. If one of the two outputs fails it is 3, and a prefix was written to that output.
+/// Prints why the words aren't an order, and returns the status: 0 for help on the output, 2 for a text on the error output, and 3 if
+/// an allocation failed. If one of the two outputs fails it is 3, and a prefix was written to that output.
 pub fn tell_words<O: Sink, E: Sink>(fault: &WordsFault, out: &mut O, err: &mut E) -> u8
     requires out { O.failed out.old < 2 ^ 64 - 1 }
     requires err { E.failed err.old < 2 ^ 64 - 1 }
