@@ -152,7 +152,7 @@ by_clerk clerk id asked = record { actor = clerk; id = id; asked = asked }
 
 -- ---- what an order means
 
--- what is to be done; or nothing, since the word of a verdict, of an origin or of a digest isn't one
+-- what is to be done; or nothing, since the word of a verdict, of an origin or of a digest is invalid
 pub data Meant : Type 0 where
   make : Meant
   migrate : Meant

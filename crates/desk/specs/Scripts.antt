@@ -180,7 +180,7 @@ line_flaw_text flaw.Digest = bad_digest
 line_flaw_text (flaw.Words text) = string_bytes text
 line_flaw_text flaw.Elsewhere = codes "error: this order stands in no script\n"
 
--- what is wrong with its words. The word of a verdict, an origin or a digest isn't one, though `clap` accepts the words; or it is what `clap` says of them; or the
+-- what is wrong with its words. The word of a verdict, an origin or a digest is invalid, though `clap` accepts the words; or it is what `clap` says of them; or the
 -- order can't be in a script, such as one that asks for help.
 abbrev pub IsFlawOfWords : List Text → LineFlaw → Type 0
 IsFlawOfWords words (flaw.NoWords why) = ⊥

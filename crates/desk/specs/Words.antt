@@ -128,7 +128,7 @@ origin_at name rows = option_map origin_in (first_of name rows)
 abbrev pub digest_at : Text → List Row → Option (Option (List ℕ))
 digest_at name rows = option_map digest_in (first_of name rows)
 
--- what a verdict means, or that there is none
+-- what a verdict means, or that it is invalid
 abbrev pub judged : Option Judgement → (Judgement → Meant) → Meant
 judged None means = no_verdict
 judged (Some judgement) means = means judgement
@@ -205,7 +205,7 @@ status_of_kind DisplayVersion = 0
 status_of_kind _ = 2
 
 -- what is printed for words, by what is wrong with them: a text that isn't empty, with the status for that. If nothing is wrong, it is that the word of a verdict, an
--- origin or a digest isn't one. Or it is that an allocation failed.
+-- origin or a digest is invalid. Or it is that an allocation failed.
 abbrev pub IsToldOf : Kinds → WordsFault → Type 0
 IsToldOf kinds words_fault.Memory = ⊤
 IsToldOf kinds words_fault.Verdict = kinds ≡ []
@@ -213,7 +213,7 @@ IsToldOf kinds words_fault.Origin = kinds ≡ []
 IsToldOf kinds words_fault.Digest = kinds ≡ []
 IsToldOf kinds (words_fault.Words text status) = (list_any (λ kind. status_of_kind kind == status) kinds ≡ true) × (string_bytes text ≢ [])
 
--- if it is reported that the word of a verdict, an origin or a digest isn't one, the words mean just that
+-- if it is reported that the word of a verdict, an origin or a digest is invalid, the words mean just that
 abbrev pub IsNoneMeant : Option Meant → WordsFault → Type 0
 IsNoneMeant meant words_fault.Memory = ⊤
 IsNoneMeant meant words_fault.Verdict = meant ≡ Some no_verdict
@@ -221,11 +221,11 @@ IsNoneMeant meant words_fault.Origin = meant ≡ Some no_origin
 IsNoneMeant meant words_fault.Digest = meant ≡ Some no_digest
 IsNoneMeant meant (words_fault.Words text status) = ⊤
 
--- what is printed for a word after `--origin` that isn't one
+-- what is printed if the word after `--origin` is invalid
 abbrev pub bad_origin : Text
 bad_origin = codes "error: an origin is http:// or https://, a host in small letters, and its port where it isn't the usual one, as https://count.example.org\n"
 
--- what is printed for a word after `--sha256` that isn't one
+-- what is printed if the word after `--sha256` is invalid
 abbrev pub bad_digest : Text
 bad_digest = codes "error: a digest is 64 hexadecimal digits, as sha256sum prints them\n"
 

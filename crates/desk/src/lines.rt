@@ -28,7 +28,7 @@ pub(crate) enum LineOutcome {
     Ready,
     /// An office was migrated, or was of this program's version already.
     Migrated(Migrated),
-    /// The reply to a request that was accepted, now or before; or how a ward stands, or what comes next.
+    /// The reply to a request that was accepted, now or before; or the status of a ward, or what comes next.
     Replied(Reply),
     /// The reply to a request that was accepted before under this id, with other content. A note says so.
     Noted { reply: Reply, id: String },

@@ -3,7 +3,6 @@
 //! To add an order, add an entry to [`ORDERS_TO_SEAL`] or [`ORDERS_FROM_SEAL`], and an arm that returns what its words mean. The arm
 //! is in [`command_named`] if the order sends a command, and otherwise in [`order_named`]; it may need a new variant of
 //! [`Errand`](crate::orders::Errand) too. A line of `orders` in specs/Orders.antt defines what the order means.
-//! variant of [`Errand`](crate::orders::Errand) too. A line of `orders` in specs/Orders.antt says what the order means.
 #![tactic(auto, unfolding(crate::specs::Orders::orders))]
 
 ghost use Rattle.std.specs.Prelude.{◌≡◌, ◌⊎◌, false, Err, None, Some, codes, drop, map, take, IfErr, IfOk, option_map, string_bytes};
@@ -116,11 +115,11 @@ pub(crate) fn entries_from_seal() -> &'static [Entry]
 pub(crate) enum NoOrder {
     /// They name no order.
     Unknown,
-    /// The word of a verdict isn't one.
+    /// The word of a verdict is invalid.
     BadVerdict,
-    /// The word of an origin isn't one.
+    /// The word of an origin is invalid.
     BadOrigin,
-    /// The word of a digest isn't one.
+    /// The word of a digest is invalid.
     BadDigest,
     /// An allocation failed.
     Memory,

@@ -24,11 +24,11 @@ pub(crate) enum Garbled {
 pub(crate) enum LineFlaw {
     /// It has no words.
     NoWords(Garbled),
-    /// The word of a verdict isn't one.
+    /// The word of a verdict is invalid.
     Verdict,
-    /// The word after `--origin` isn't one.
+    /// The word after `--origin` is invalid.
     Origin,
-    /// The word after `--sha256` isn't one.
+    /// The word after `--sha256` is invalid.
     Digest,
     /// The words aren't an order; this is printed for them.
     Words(String),

@@ -60,11 +60,11 @@ refusal and each fault means, and what to do about it.";
 /// What is printed for words that aren't understood, if nothing else is.
 const NOT_UNDERSTOOD: &str = "error: the words are not understood\n";
 
-/// What is printed for a word after `--origin` that isn't one.
+/// What is printed if the word after `--origin` is invalid.
 pub(crate) const BAD_ORIGIN: &str =
     "error: an origin is http:// or https://, a host in small letters, and its port where it isn't the usual one, as https://count.example.org\n";
 
-/// What is printed for a word after `--sha256` that isn't one.
+/// What is printed if the word after `--sha256` is invalid.
 pub(crate) const BAD_DIGEST: &str =
     "error: a digest is 64 hexadecimal digits, as sha256sum prints them\n";
 
@@ -73,11 +73,11 @@ pub(crate) const BAD_DIGEST: &str =
 pub enum WordsFault {
     /// An allocation failed.
     Memory,
-    /// The word of a verdict isn't one.
+    /// The word of a verdict is invalid.
     Verdict,
-    /// The word after `--origin` isn't one.
+    /// The word after `--origin` is invalid.
     Origin,
-    /// The word after `--sha256` isn't one.
+    /// The word after `--sha256` is invalid.
     Digest,
     /// The text to print, and the exit status: 0 if help was asked for, and 2 if the words aren't understood.
     Words { text: String, status: u8 },
@@ -259,9 +259,9 @@ fn denied(alloc: Global, kind: ErrorKind, error: &Error) -> WordsFault
 /// Parses the words, the first of which is DB, to an order.
 ///
 /// The order and its values are those that `clap` matches in the words, according to the table of orders. Words that `clap` accepts
-/// are refused only if an allocation fails, or if the word of a verdict, an origin or a digest isn't one. Words that it rejects are no
-/// order. A text that isn't empty is printed for them. Its status is 0 if the first thing wrong with them is that they ask for help or
-/// the version, and else 2. Or an allocation failure is reported.
+/// are refused only if an allocation fails, or if the word of a verdict, an origin or a digest is invalid. Words that it rejects
+/// aren't an order. A text that isn't empty is printed for them. Its status is 0 if the first thing wrong with them is that they ask
+/// for help or the version, and else 2. Or an allocation failure is reported.
 pub fn order<'a>(alloc: Global, words: &'a [&'a str]) -> Result<Order<'a>, WordsFault>
     ensures accepts { IfOk result (λ _. wrong_with (map (λ s. s.now) words.entry.now) ≡ []) }
     ensures denies { IfErr result (IsToldOf (wrong_with (map (λ s. s.now) words.entry.now))) }
