@@ -13,7 +13,7 @@ use std::random::RandomSource;
 use store::Fault;
 use streams::Sink;
 
-/// The maximum number of bytes of a file of codes: more than one with a line for each clerk has.
+/// The maximum number of bytes of a file of codes: more than a line for each clerk needs.
 const MAX_FILE: usize = 128 << 10;
 
 /// The permission bits of group and others.

@@ -87,7 +87,7 @@ pub enum PathKind {
     Taken,
 }
 
-/// Returns the state of a path at which a database has this length, and its logs have these.
+/// Returns the kind of a path at which a database has this length, and its logs have these.
 fn kind_of(database: Option<u64>, log: Option<u64>, journal: Option<u64>) -> PathKind
     ensures free { result ≡ PathKind.Free → (database ≡ None) × (log ≡ None) × (journal ≡ None) }
     ensures empty { result ≡ PathKind.Empty → IfSome log (λ length. length ≤ 41) × (journal ≡ None) }
@@ -103,7 +103,8 @@ fn kind_of(database: Option<u64>, log: Option<u64>, journal: Option<u64>) -> Pat
     }
 }
 
-/// Returns the state of a path at which a database has this length; it may not be possible to examine what has the names of its logs.
+/// Returns the kind of a path at which a database has this length. Its logs have these, unless what has their names couldn't be
+/// examined.
 fn site_beside(
     database: Option<u64>,
     log: &io::Result<Option<u64>>,

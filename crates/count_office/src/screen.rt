@@ -17,8 +17,8 @@ const MASK: u8 = b'?';
 
 /// An output, and the last two bytes that were written to it.
 ///
-/// On a terminal the last byte of a control character becomes a question mark: the rest is no valid character. Anywhere else each byte
-/// is written as it is.
+/// On a terminal the last byte of a character that controls it, or the direction of text, becomes a question mark: what remains isn't
+/// a valid character. Anywhere else each byte is written as it is.
 #[derive(Drop)]
 pub struct Screen<S> {
     stream: S,

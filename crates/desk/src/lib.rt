@@ -1,4 +1,4 @@
-//! The office's desk: it parses words to an order, performs it at an office, and prints the outcome in lines, with a status.
+//! The office's desk: it parses words to an order, performs it, and prints the outcome in lines, with a status.
 //!
 //! [`order`](words) parses the words to an [`Order`](orders). [`perform`](perform) performs its task on an open connection to any
 //! store of `sqlite`, and prints its lines; [`plain`] does so with one open file. A [`Folder`](folders) opens a file that the order or

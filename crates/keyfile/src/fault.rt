@@ -140,7 +140,7 @@ impl From<AllocError> for Flaw {
     }
 }
 
-/// Returns the outcome with its flaw, if it is one, reported at the record of this number.
+/// Returns the value, or the flaw as a fault at the record of this number.
 pub(crate) fn at_record<T>(number: u32, outcome: Result<T, Flaw>) -> Result<T, FileFault>
     ensures ok { IfOk result (λ value. outcome ≡ Ok value) }
     ensures err { IfErr result (λ fault. (outcome ≡ Err fault.flaw) × (fault.record_number ≡ number)) }
