@@ -1,4 +1,4 @@
--- What a host reads of a file of clerks' codes.
+-- What a host reads from a file of clerks' codes.
 use Rattle.std.specs.Prelude.{◌≡◌, ⊤, List, None, Option, Some, Result, Ok, Err, ℕ}
 use Rattle.codes.specs.Codes.{Holder, holders_of}
 use Rattle.codes.specs.declared.fault.CodesFault.{CodesFault}
@@ -10,7 +10,7 @@ use Rattle.codes.specs.declared.holders.Codes.{Codes}
 abbrev pub CodeFiles : Type 0
 CodeFiles = List ℕ → Option (Result (List Holder) CodesFault)
 
--- What was read of a file is what the file has, as far as that is known; or an allocation failed.
+-- What was read of a file is its content, as far as that is known; or an allocation failed.
 abbrev pub IsReadAs : Option (Result (List Holder) CodesFault) → Result Codes CodesError → Type 0
 IsReadAs None result = ⊤
 IsReadAs (Some known) (Ok own) = known ≡ Ok (holders_of own)

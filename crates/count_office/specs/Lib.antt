@@ -1,4 +1,4 @@
--- What the program hands on.
+-- The definitions that the program exports.
 pub mod Done
 pub mod Screens
 pub mod Hosts

@@ -1,4 +1,4 @@
-//! A file of clerks' codes: read, where its rights let nobody else read it; or made anew, to be cut into slips.
+//! A file of clerks' codes: read, if its permissions let nobody else read it; or newly made, to be cut into slips.
 
 ghost use Rattle.std.specs.Prelude.{◌≡◌, ◌-◌, ◌^◌, ◌<◌, IfErr, IfOk, None, OnOk, string_bytes};
 ghost use Rattle.codes.specs.Drawing.{IsMadeByDraws, IsUnmadeByDraws};
@@ -17,16 +17,16 @@ use std::random::RandomSource;
 use store::Fault;
 use streams::Sink;
 
-/// The most bytes of a file of codes: more than one with a line for each clerk has.
+/// The maximum number of bytes of a file of codes: more than a line for each clerk needs.
 const MAX_FILE: usize = 128 << 10;
 
-/// The rights of those who aren't a file's owner.
+/// The permission bits of group and others.
 const RIGHTS_OF_OTHERS: u32 = 0o077;
 
-/// The rights of a file that only its owner may read.
+/// The permissions of a file that only its owner may read.
 const RIGHTS_OF_ITS_OWNER: u32 = 0o600;
 
-/// The random bytes of the system, of which nothing is known.
+/// The system's random bytes, of which nothing is known.
 #[derive(Drop)]
 struct SystemBytes<'a> {
     rt: &'a HostRuntime,
@@ -50,18 +50,17 @@ impl Draws for SystemBytes<'_> {
     }
 }
 
-/// The number of the account that may do everything.
+/// The user id of root.
 const ROOT: u32 = 0;
 
-/// Whether a file belongs to the account that this program runs under, or to root, and nobody else has any right to it.
+/// Returns whether a file belongs to this program's user or to root, and nobody else has any permission on it.
 fn is_its_owners(file: &File) -> io::Result<bool> {
     let found = file.metadata()?;
     let is_own = found.uid() == libc::geteuid() || found.uid() == ROOT;
     Ok(is_own && found.mode() & RIGHTS_OF_OTHERS == 0)
 }
 
-/// The bytes of a file, no more of them than a file of codes may have and one. A pipe or a device isn't opened, since that
-/// may wait.
+/// Returns the bytes of a file, at most one more than a file of codes may have. A pipe or a device isn't opened, since that may block.
 fn bytes_of(rt: &HostRuntime, path: &str) -> Result<Vec<u8>, CodesFault> {
     match fs::metadata(rt, path) {
         Ok(found) if found.is_file() => {}
@@ -82,7 +81,7 @@ fn bytes_of(rt: &HostRuntime, path: &str) -> Result<Vec<u8>, CodesFault> {
     }
 }
 
-/// The codes in a file.
+/// Reads the codes in a file.
 pub fn read_codes(rt: &HostRuntime, path: &str) -> Result<Codes, CodesError> {
     match bytes_of(rt, path) {
         Ok(bytes) => Codes::read(rt.alloc(), bytes.as_slice()),
@@ -90,7 +89,7 @@ pub fn read_codes(rt: &HostRuntime, path: &str) -> Result<Codes, CodesError> {
     }
 }
 
-/// Prints why codes aren't taken, or not made, and gives the status.
+/// Prints why codes are refused, or not made, and returns the status.
 pub fn tell_untaken<E: Sink>(why: CodesError, err: &mut E) -> u8
     requires { E.failed err.old < 2 ^ 64 - 1 }
     ensures { IsErrorTold E.taken E.failed err.old err.new (untaken why).err (untaken why).status result }
@@ -101,7 +100,7 @@ pub fn tell_untaken<E: Sink>(why: CodesError, err: &mut E) -> u8
     }
 }
 
-/// Writes a text to a new file, which only its owner may read. Where it can't be written whole, it is removed.
+/// Writes a text to a new file, which only its owner may read. If it can't be written whole, the file is removed.
 fn write_new(rt: &HostRuntime, path: &str, text: &str) -> io::Result<()> {
     let mut file = OpenOptions::new()
         .write(true)

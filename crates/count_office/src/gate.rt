@@ -1,4 +1,4 @@
-//! The gate of an office that is served: the codes, the page on which clerks key, and the officer's console.
+//! The gate of an office that is being served: the codes, the page on which clerks key, and the officer's console.
 
 ghost use Rattle.std.specs.Prelude.{◌≡◌, IfErr, IfOk, option_map};
 ghost use Rattle.wire.specs.Gates.{gate_entry};

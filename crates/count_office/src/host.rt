@@ -1,8 +1,8 @@
-//! What serving an office needs of a machine: its files of clerks' codes, its network, and the numbers of the office's file.
+//! What serving an office requires of a machine: its files of clerks' codes, its network, and the identity of the office's file.
 //!
-//! `serving.rt` serves on any host, and gets nothing else of the machine but a connection and the error output. This machine is a
-//! host (`localhost.rt`) of which nothing is known. The contracts of `serving.rt` hold as well on one that says what its files have
-//! and what came in on each port.
+//! `serving.rt` serves on any host, and uses nothing else of the machine except a connection and the error output. This machine is a
+//! host (`localhost.rt`) about which nothing is known. The contracts of `serving.rt` also hold on one for which it is known what its
+//! files contain and what arrived on each port.
 
 ghost use Rattle.std.specs.Prelude.{◌≡◌, ◌≢◌, IfOk, IfSome, Option, ℕ};
 ghost use Rattle.connections.specs.Tables.{NetworkEntry};
@@ -14,7 +14,7 @@ use connections::Network;
 use desk::Failure;
 use server::{FileNumbers, SideJobs};
 
-/// An open network, what orders need besides the office, and the numbers of its file.
+/// An open network, what orders need in addition to the office, and the device and inode numbers of its file.
 #[derive(Drop)]
 pub struct Opened<D, A> {
     pub network: D,
@@ -22,7 +22,7 @@ pub struct Opened<D, A> {
     pub file: FileNumbers,
 }
 
-/// A machine on which an office is served.
+/// A machine on which an office can be served.
 pub trait Host {
     type Port: Network;
 
@@ -31,10 +31,10 @@ pub trait Host {
     /// What is known of its network on each port, before it is opened and after it is closed.
     ghost known: { Self → ℕ → NetworkEntry Self.Port.Stream };
 
-    /// The codes in the file at each path, as far as the host says which.
+    /// The codes in the file at each path, as far as they are known.
     ghost codes_at: { Self → CodeFiles };
 
-    /// The numbers of the office's file, if the host says them.
+    /// The device and inode numbers of the office's file, if they are known.
     ghost file: { Self → Option FileNumbers };
 
     /// Reads a file of clerks' codes.

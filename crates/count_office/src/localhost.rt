@@ -1,6 +1,6 @@
-//! This machine as a host: a port of its loopback addresses, and the socket beside the database that is served.
+//! This machine as a host: a port of its loopback addresses, and the socket next to the database that is served.
 //!
-//! No contract can say what a socket or a file holds, so nothing is promised here. `serving.rt` says what is served on any host.
+//! No contract can say what a socket or a file contains, so nothing is promised here. `serving.rt` says what is served on any host.
 
 ghost use Rattle.std.specs.Prelude.{◌≡◌, ◌≢◌, None, ℕ};
 ghost use Rattle.sockets.specs.declared.socket.Socket.{Socket};
@@ -23,7 +23,7 @@ use std::io;
 use std::io::{ErrorKind, Write};
 use store::Fault;
 
-/// This machine, the database that is served, the socket beside it, and the standard streams that are held meanwhile.
+/// This machine, the database that is served, the socket next to it, and the standard streams that are held open meanwhile.
 #[derive(Drop)]
 pub struct Localhost<'a> {
     place: LockedDatabase<'a>,
@@ -31,8 +31,8 @@ pub struct Localhost<'a> {
     streams: Option<Vec<File>>,
 }
 
-/// Listens on a port of this machine's loopback addresses and, if there is one, on the socket for orders beside the database. Fails if
-/// one of the addresses is taken: no clause can say which are bound, and `tools/try both-addresses` tries it.
+/// Listens on a port of this machine's loopback addresses and, if there is one, on the socket for orders next to the database. Fails
+/// if one of the addresses is in use: no clause can say which are bound, and `tools/try both-addresses` tests it.
 fn listen<'a>(
     rt: &'a HostRuntime,
     port: u32,
@@ -54,14 +54,14 @@ fn failure_at_the_doors(error: &io::Error) -> Failure {
     }
 }
 
-/// Says on the error output that there is no socket for orders. Where nobody can read that, the office serves all the same.
+/// Prints on the error output that there is no socket for orders. If it can't be printed, the office serves all the same.
 fn say_no_socket(rt: &HostRuntime, error: &io::Error) {
     let mut told = rt.stderr();
     let why = reason_of(error);
     let _ = writeln!(told, "no socket for orders beside the database: {why}");
 }
 
-/// Returns numbers in a row, with commas between.
+/// Returns numbers separated by commas.
 fn list_of(alloc: Global, numbers: &[u32]) -> Result<String, AllocError> {
     let mut list = String::new(alloc);
     for number in numbers {
@@ -88,7 +88,7 @@ fn warn_of_weak(rt: &HostRuntime, codes: &Codes) {
     }
 }
 
-/// Opens the network on a port, and looks at the file of the office at a place.
+/// Opens the network on a port, and looks up the file of the office at a place.
 fn open_at<'a>(
     place: LockedDatabase<'a>,
     port: u32,
@@ -122,7 +122,8 @@ impl<'a> Localhost<'a> {
         }
     }
 
-    /// Makes the socket beside the database. If that fails, a line on the error output says so, and no order can be handed over.
+    /// Makes the socket next to the database. If that fails, a line on the error output says so, and no orders can be sent to the
+    /// server.
     fn listen_beside(&mut self) -> Option<UnixListener> {
         let rt = self.place.rt;
         match OrderSocket::listen(rt, self.place.found.database()) {
@@ -137,7 +138,7 @@ impl<'a> Localhost<'a> {
         }
     }
 
-    /// Removes the socket beside the database, and closes the streams that were held.
+    /// Removes the socket next to the database, and closes the streams that were held open.
     fn clear(&mut self) {
         if let Some(beside) = self.beside.take() {
             beside.remove(self.place.rt);

@@ -1,7 +1,7 @@
-//! The program `count-office`: it reads its words to one order and does it over the database DB.
+//! The program `count-office`: it parses its words to an order and performs it on the database DB.
 //!
-//! The crate `desk` reads the words and does the order. Here it gets the file that DB names, the one that
-//! the order names, those that a script names, and the two standard outputs.
+//! The crate `desk` parses the words and performs the order. This crate supplies the file that DB names, the one that the order names,
+//! those that a script names, and the two standard outputs.
 //!
 //! ```text
 //! count-office town.db init
@@ -65,8 +65,7 @@ use std::{env, io};
 use store::Fault;
 use streams::{Counted, Sink};
 
-/// A database that is held: its path as it was given, what is there, and its file; and what was read of the order's files
-/// before, if anything was.
+/// A locked database: its path as given, what is there, and its file; and what was read of the order's files before, if anything was.
 #[derive(Clone, Copy)]
 pub struct LockedDatabase<'a> {
     pub rt: &'a HostRuntime,
@@ -76,7 +75,7 @@ pub struct LockedDatabase<'a> {
     pub brought: &'a Option<OrderFiles>,
 }
 
-/// The words from DB on.
+/// Returns the words from DB on.
 fn given_words(rt: &HostRuntime) -> Result<Vec<String>, WordsFault> {
     let all = match env::args(rt) {
         Ok(all) => all,
@@ -96,12 +95,12 @@ fn not_text(alloc: Global) -> WordsFault {
     }
 }
 
-/// Whether somebody sees the error output and not the replies of a file's records.
+/// Returns whether a person sees the error output but not the replies to a file's records.
 fn wants_progress(rt: &HostRuntime, task: &Task<'_>) -> bool {
     task.file().is_some() && rt.stderr().is_terminal() && !rt.stdout().is_terminal()
 }
 
-/// Does a task over an opened connection to the office, with the files that it names.
+/// Performs a task on an open connection to the office, with the files that it names.
 fn perform_watched<S: Alter, O: Sink, E: Sink>(
     paths: LocalFolder<'_>,
     task: &Task<'_>,
@@ -121,7 +120,7 @@ fn perform_watched<S: Alter, O: Sink, E: Sink>(
     perform(rt.alloc(), task, conn, &paths, out, err)
 }
 
-/// Does an order over an opened connection to the office at a place. An order to serve is done on the host.
+/// Performs an order on an open connection to the office at a place. An order to serve is performed on the host.
 fn perform_on<H: Host, S: Alter, O: Sink, E: Sink>(
     place: LockedDatabase<'_>,
     host: &mut H,
@@ -180,8 +179,8 @@ fn perform_on<H: Host, S: Alter, O: Sink, E: Sink>(
     }
 }
 
-/// Prints the journal of the office, once it was played over an empty one that is kept in memory alone. The office is only read.
-/// Nothing is asked of that memory: what is printed with status 0 makes the very office.
+/// Prints the journal of the office, once it was replayed in an empty office in memory. The office is only read. Nothing is assumed of
+/// that memory: what is printed with status 0 makes exactly this office.
 fn journal<S: Alter, O: Sink, E: Sink>(
     rt: &HostRuntime,
     mut conn: Connection<S>,
@@ -207,13 +206,13 @@ fn journal<S: Alter, O: Sink, E: Sink>(
     }
 }
 
-/// Another program of SQLite holds the file.
+/// Returns whether another program that uses SQLite has locked the file.
 fn is_busy(error: &sqlite::Error) -> bool {
     matches!(error, sqlite::Error::SqliteFailure(ErrorCode::DatabaseBusy))
 }
 
-/// Copies the log into the database file, so that DB alone is the office, also after a stop, and gives both files
-/// back. Where that fails, what was answered still stands in the log.
+/// Copies the log into the database file, so that DB alone is the office, even after a stop, and returns both files. If that fails,
+/// what was answered is still in the log.
 fn close<D: Disk + Drop>(conn: Connection<FileStore<D>>) -> Option<Files<D>>
     ensures copied { IfSome result (λ files. AreClean D.Disk files.log files.db → IsCopied conn files) }
 {
@@ -226,13 +225,13 @@ fn close<D: Disk + Drop>(conn: Connection<FileStore<D>>) -> Option<Files<D>>
     }
 }
 
-/// Does what the words from DB on ask, and gives the status.
+/// Performs what the words from DB on ask for, and returns the status.
 fn follow<O: Sink, E: Sink>(rt: &HostRuntime, words: &[&str], out: &mut O, err: &mut E) -> u8
     requires out { O.failed out.old < 2 ^ 64 - 1 }
     requires err { E.failed err.old < 2 ^ 64 - 1 }
 {
     match order(rt.alloc(), &*words) {
-        // codes are made without a database
+        // making codes needs no database
         Ok(
             Order::Codes {
                 path,
@@ -260,7 +259,7 @@ fn follow<O: Sink, E: Sink>(rt: &HostRuntime, words: &[&str], out: &mut O, err: 
     }
 }
 
-/// Prints the help of an order. A word that names no order is DB, and then it prints the help of all orders.
+/// Prints the help of an order. A word that names no order is DB; the help of all orders is then printed.
 fn tell_help_of<O: Sink, E: Sink>(rt: &HostRuntime, name: &str, out: &mut O, err: &mut E) -> u8
     requires out { O.failed out.old < 2 ^ 64 - 1 }
     requires err { E.failed err.old < 2 ^ 64 - 1 }
@@ -274,7 +273,8 @@ fn tell_help_of<O: Sink, E: Sink>(rt: &HostRuntime, name: &str, out: &mut O, err
     }
 }
 
-/// Does what the program's words ask, and gives the status. It prints help and the version without a database too, also the help of an order.
+/// Performs what the program's words ask for, and returns the status. Help, including that of an order, and the version are also
+/// printed without a database.
 fn run<O: Sink, E: Sink>(rt: &HostRuntime, out: &mut O, err: &mut E) -> u8
     requires out { O.failed out.old < 2 ^ 64 - 1 }
     requires err { E.failed err.old < 2 ^ 64 - 1 }

@@ -1,11 +1,11 @@
-//! Whether the files of an office that is served are still at their paths.
+//! Whether the files of an office that is being served are still at their paths.
 //!
-//! `sqlite` writes through the descriptors that it opened. If a file is removed, or another takes its place, the writes go on
-//! into a file that no name leads to, and all that is confirmed from then on is lost once the program ends. Nobody would see that
-//! at the descriptors, so the paths are looked at.
+//! `sqlite` writes through the descriptors that it opened. If a file is removed or replaced, it continues to write into a file without
+//! a path, and everything confirmed from then on is lost once the program ends. The descriptors don't show that, so the paths are
+//! checked.
 //!
-//! Neither file grows shorter while it is served: a checkpoint puts pages into the database and begins the log anew in its own bytes;
-//! the log is cut only as the office is opened, and as it is closed.
+//! Neither file becomes shorter while the office is served: a checkpoint writes pages into the database and restarts the log in place;
+//! the log is truncated only when the office is opened, and when it is closed.
 
 ghost use Rattle.std.specs.Prelude.{◌≡◌, ◌≤◌, true};
 
@@ -17,7 +17,7 @@ use std::fs;
 use std::os::unix::fs::MetadataExt;
 use streams::Counted;
 
-/// What is known of a file: its device, its number there, and its length.
+/// A file's device and inode numbers, which identify it, and its length.
 #[derive(Clone, Copy)]
 struct Seen {
     device: u64,
@@ -25,7 +25,7 @@ struct Seen {
     length: u64,
 }
 
-/// The database and the log of an office that is open, as they were last seen.
+/// The database and the log of an open office, as they were last seen.
 #[derive(Drop)]
 pub struct Presence<'a> {
     found: &'a PathState,
@@ -34,7 +34,7 @@ pub struct Presence<'a> {
     is_told: Cell<bool>,
 }
 
-/// Returns what the file at a path is; `None` if no file is there, or a link, or it can't be looked at.
+/// Returns the file at a path; `None` if there is none, or a link, or it can't be examined.
 fn seen_at(rt: &HostRuntime, path: &str) -> Option<Seen> {
     let found = fs::symlink_metadata(rt, path).ok()?;
     if !found.is_file() {
@@ -47,14 +47,14 @@ fn seen_at(rt: &HostRuntime, path: &str) -> Option<Seen> {
     })
 }
 
-/// Whether a file is the one that was seen before, and nothing of it was cut off.
+/// Returns whether a file is the one that was seen before, and wasn't truncated.
 fn continues(before: Seen, now: Seen) -> bool
     ensures { result ≡ true → (now.device ≡ before.device) × (now.inode ≡ before.inode) × (before.length ≤ now.length) }
 {
     now.device == before.device && now.inode == before.inode && now.length >= before.length
 }
 
-/// Looks at the file at a path again: whether it is the one that was seen there last, and nothing of it was cut off.
+/// Checks again whether the file at a path is the one that was last seen there, and wasn't truncated.
 fn is_still_at(rt: &HostRuntime, path: &str, last: &Cell<Seen>) -> bool {
     let Some(now) = seen_at(rt, path) else {
         return false;
@@ -67,7 +67,7 @@ fn is_still_at(rt: &HostRuntime, path: &str, last: &Cell<Seen>) -> bool {
 }
 
 impl<'a> Presence<'a> {
-    /// Returns the files of an office that was just opened; `None` if they aren't there any more, or aren't those that are held.
+    /// Returns the files of an office that was just opened; `None` if they no longer exist, or aren't the locked ones.
     pub fn of(rt: &HostRuntime, found: &'a PathState, held: &FileLock) -> Option<Presence<'a>> {
         let database = seen_at(rt, found.database())?;
         let log = seen_at(rt, found.log())?;
@@ -88,8 +88,8 @@ impl<'a> Presence<'a> {
         self.found.database()
     }
 
-    /// Whether both files are still at their paths, are the same, and weren't cut since the last look. When that is first seen to be
-    /// otherwise, a line on the error output says so.
+    /// Returns whether both files are still at their paths, are the same, and weren't truncated since the last check. The first time
+    /// they aren't, a line on the error output says so.
     pub fn is_whole(&self, rt: &HostRuntime) -> bool {
         let is_whole = is_still_at(rt, self.found.database(), &self.database)
             && is_still_at(rt, self.found.log(), &self.log);

@@ -1,4 +1,4 @@
-//! The order to serve: opens an office and serves it on a host, by the settings of the order and the codes that were read.
+//! The order to serve: opens an office and serves it on a host, with the settings of the order and the codes that were read.
 
 ghost use Rattle.std.specs.Prelude.{◌≡◌, ◌-◌, ◌^◌, ◌<◌, IfSome, option_map};
 ghost use Rattle.sqlite.specs.Held.{state};
@@ -30,8 +30,8 @@ pub struct Serving<'a> {
     pub codes: Option<&'a str>,
 }
 
-/// The settings by which an office is served: the words of `serve`, the codes and the page of the gate, if there is one, and the
-/// office's file.
+/// The settings for serving an office: the words of `serve`, the codes and the page of the gate, if there is one, and the office's
+/// file.
 #[derive(Clone, Copy)]
 pub struct GateSettings<'a> {
     pub serving: Serving<'a>,
@@ -39,7 +39,7 @@ pub struct GateSettings<'a> {
     pub file: FileNumbers,
 }
 
-/// Returns the failure that is printed when serving ended early.
+/// Returns the failure that is printed if serving ended early.
 fn failure_of(ended: ServeError) -> Failure
     ensures { result ≡ failure_by ended }
 {
@@ -59,7 +59,7 @@ fn most_of(connections: Option<u32>) -> Option<u64>
     }
 }
 
-/// Serves an open office on its network, by its settings.
+/// Serves an open office on its network, with its settings.
 fn serve_through<D: Network, A: SideJobs, S: Alter>(
     alloc: Global,
     network: &mut D,

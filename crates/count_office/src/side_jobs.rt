@@ -1,4 +1,4 @@
-//! What an order needs beside the office that is served, from this machine: the file of a copy, and memory for the trial of a
+//! What an order for a served office needs of this machine in addition to the office: the file of a copy, and memory for replaying a
 //! journal.
 
 ghost use Rattle.std.specs.Prelude.{◌-◌, ◌<◌, None};
@@ -13,14 +13,14 @@ use std::alloc::{AllocError, Global};
 use store::Fault;
 use streams::Sink;
 
-/// This machine, and the files of the office that is served.
+/// This machine, and the files of the office that is being served.
 #[derive(Drop)]
 pub struct LocalJobs<'a> {
     pub rt: &'a HostRuntime,
     pub presence: Presence<'a>,
 }
 
-/// Returns a path as it is seen from a folder.
+/// Returns a path as it is seen from a directory.
 fn path_from(alloc: Global, folder: &str, path: &str) -> Result<String, AllocError> {
     if path.starts_with('/') {
         return String::from_str(alloc, path);

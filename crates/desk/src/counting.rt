@@ -1,4 +1,4 @@
-//! The stages of a ward, counted by one order.
+//! Counting the stages of a ward by one order.
 
 ghost use Rattle.std.specs.Prelude.{◌≡◌, ◌-◌, ◌^◌, ◌<◌, ℕ, Bool, map};
 ghost use Rattle.sqlite.specs.State.{HasCleanDisk};
@@ -17,8 +17,8 @@ use register::{Reason, Refusal, Request};
 use sqlite::Alter;
 use streams::Sink;
 
-/// What comes of a refusal of one stage more: that the count rests is a reply.
-/// Behind the first request a ward in another phase is one that was declared since.
+/// Returns the outcome of a request for one more stage that was refused. That the count rests is a reply. After the first request, a
+/// ward in another phase is one that was declared meanwhile.
 fn at_rest(is_first: bool, refusal: Refusal) -> LineOutcome
     ensures { page_of result ≡ page_at_rest is_first refusal }
 {
@@ -30,8 +30,8 @@ fn at_rest(is_first: bool, refusal: Refusal) -> LineOutcome
     }
 }
 
-/// What comes of a request for one stage more, the first of an order or another; and whether the count goes on behind it. It goes
-/// on where the request was accepted, now or before.
+/// Requests one more stage, as the first request of an order or a later one. Returns the outcome, and whether the count continues
+/// after it: it does if the request was accepted, now or before.
 fn stage_of<S: Alter>(
     office: &mut Office<S>,
     is_first: bool,
@@ -50,7 +50,7 @@ fn stage_of<S: Alter>(
     }
 }
 
-/// The id of the first of some requests.
+/// Returns the id of the first of these requests.
 fn first_id(requests: &[Request]) -> &str
     ensures { (ward : ℕ) (id : Text) → map sent_as requests.now ≡ advances ward id most_advances → result.now ≡ id_at id 1 }
 {
@@ -60,10 +60,10 @@ fn first_id(requests: &[Request]) -> &str
     }
 }
 
-/// Counts stage by stage, by the requests of an order, and prints each reply. It ends behind the first request that isn't
-/// accepted, now or before. Where the count rests there, at a lot or its end, it prints that in a line too, with status 0. Any
-/// other refusal is printed as ever, with status 1, and so is a fault, with status 3. The first output that fails ends it, with
-/// status 3. Each stage that was replied stays counted.
+/// Counts stage by stage, by the requests of an order, and prints each reply. It ends after the first request that isn't accepted, now
+/// or before. If the count rests there, at a lot or its end, a line says so too, with status 0. Any other refusal is printed as usual,
+/// with status 1, and a fault with status 3. The first output that fails ends it, with status 3. Each stage that was replied remains
+/// counted.
 pub(crate) fn count_stages<S: Alter, O: Sink, E: Sink>(
     office: &mut Office<S>,
     line: Option<usize>,

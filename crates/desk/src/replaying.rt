@@ -1,4 +1,4 @@
-//! The turns of an order: an errand, or the orders of a script, taken in turn.
+//! The steps of an order: an errand, or the orders of a script in turn.
 
 ghost use Rattle.std.specs.Prelude.{◌≡◌, ◌∷◌, [], ◌-◌, ◌^◌, ◌<◌, map, option_map, IfErr, IfOk};
 ghost use Rattle.sqlite.specs.State.{HasCleanDisk};
@@ -35,7 +35,7 @@ use std::slice;
 use store::Fault;
 use streams::Sink;
 
-/// The file that an errand reads, opened.
+/// Opens the file that an errand reads.
 fn opened<F: Folder>(folder: &F, errand: &Errand<'_>) -> Option<F::File>
     ensures { IsFileAt (F.held folder.now) (file_of errand.now) (option_map F.File.remaining result) }
 {
@@ -45,8 +45,8 @@ fn opened<F: Folder>(folder: &F, errand: &Errand<'_>) -> Option<F::File>
     }
 }
 
-/// Does an errand in an opened office, prints what comes of it, and gives the status. Where it is that of a script's line, what
-/// `err` gets begins with the number of that line. Where it is to keep going, a refused request doesn't end it.
+/// Runs an errand in an open office, prints the outcome, and returns the status. If the errand is that of a script's line, what is
+/// written to `err` begins with that line's number. With `keep_going`, a refused request doesn't end it.
 fn run<S: Alter, F: Folder, O: Sink, E: Sink>(
     alloc: Global,
     office: &mut Office<S>,
@@ -93,9 +93,9 @@ fn run<S: Alter, F: Folder, O: Sink, E: Sink>(
     }
 }
 
-/// Takes turns one after the other, and prints each reply. A refusal or a fault is printed behind the number of its line. The
-/// first fault ends it; so does the first output that fails, and the first refusal, but where it is to keep going. A file is
-/// opened when its turn comes. The status is the last one other than 0 that came of them.
+/// Runs steps in turn, and prints each reply. A refusal or a fault is printed after its line's number. The first fault ends it; so
+/// does the first output that fails, and, without `keep_going`, the first refusal. A file is opened when its step is run. The status
+/// is the last one other than 0.
 fn send_turns<S: Alter, F: Folder, O: Sink, E: Sink>(
     alloc: Global,
     office: &mut Office<S>,
@@ -133,8 +133,8 @@ fn send_turns<S: Alter, F: Folder, O: Sink, E: Sink>(
     ends
 }
 
-/// Sends the orders that the lines of a script are, once each line was understood.
-/// Where one isn't, it prints what is wrong with the first such line, and sends none.
+/// Sends the orders in the lines of a script, once each line has been understood. If one isn't, it prints what is wrong with the first
+/// such line, and sends none.
 fn send_lines<S: Alter, F: Folder, O: Sink, E: Sink>(
     alloc: Global,
     office: &mut Office<S>,
@@ -158,7 +158,7 @@ fn send_lines<S: Alter, F: Folder, O: Sink, E: Sink>(
     }
 }
 
-/// The bytes of a script's file; or why there are none. The file is None where it can't be opened.
+/// Returns the bytes of a script's file, or why there are none. The file is None if it can't be opened.
 fn bytes_of<R: Read + Drop>(alloc: Global, file: Option<R>) -> Result<Vec<u8>, LineOutcome>
     ensures read { IfOk result (λ bytes. HoldsText (option_map R.remaining file) (λ text. bytes.items ≡ text)) }
     ensures unread { IfErr result (λ outcome. IsUnreadScript (page_of outcome)) }
@@ -176,7 +176,7 @@ fn bytes_of<R: Read + Drop>(alloc: Global, file: Option<R>) -> Result<Vec<u8>, L
     }
 }
 
-/// The lines of a script's file; or why there are none.
+/// Returns the lines of a script's file, or why there are none.
 fn script_of<R: Read + Drop>(alloc: Global, file: Option<R>) -> Result<Vec<ScriptLine>, LineOutcome>
     ensures read { IfOk result (λ lines. HoldsText (option_map R.remaining file) (λ text. map line_entry lines.items ≡ numbered_from 1 (lines_of text))) }
     ensures unread { IfErr result (λ outcome. IsUnreadScript (page_of outcome)) }
@@ -191,8 +191,8 @@ fn script_of<R: Read + Drop>(alloc: Global, file: Option<R>) -> Result<Vec<Scrip
     }
 }
 
-/// Sends the orders of a script's file in turn, once all its lines were understood; past those that are refused, where it is to
-/// keep going. The status is 2 where a line isn't understood, which is printed with its number, and nothing is sent.
+/// Sends the orders of a script's file in turn, once all its lines have been understood; with `keep_going`, past those that are
+/// refused. The status is 2 if a line isn't understood; it is printed with its number, and nothing is sent.
 fn replay<S: Alter, F: Folder, O: Sink, E: Sink>(
     alloc: Global,
     office: &mut Office<S>,
@@ -220,9 +220,10 @@ fn replay<S: Alter, F: Folder, O: Sink, E: Sink>(
     }
 }
 
-/// Does a job in an opened office, prints what comes of it, and gives the status.
+/// Does a job in an open office, prints the outcome, and returns the status.
 ///
-/// `perform` opens an office, and then does the same. An office that is served is open already: an order that is handed over to it is followed here.
+/// `perform` opens an office, and then does the same. An office that is being served is open already: an order that is sent to it is
+/// performed here.
 pub fn follow<S: Alter, F: Folder, O: Sink, E: Sink>(
     alloc: Global,
     office: &mut Office<S>,

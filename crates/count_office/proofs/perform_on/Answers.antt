@@ -1,4 +1,4 @@
--- Why `perform_on` keeps its promise of the order to serve: the order's words are the serving's.
+-- Proof that `perform_on` meets its contract for the order to serve: the order's words are those of the serving.
 use Rattle.std.proofs.Common.{◌≡◌, ◌∙◌, ap, refl, subst, sym}
 use Rattle.sqlite.specs.Held.{state}
 use Rattle.connections.specs.Streams.{stream_of}
@@ -9,7 +9,7 @@ use Rattle.count_office.specs.Serving.{ServesOrder}
 use Rattle.count_office.specs.declared.serving.Serving.{Serving}
 use Rattle.count_office.proofs.perform_on.Goals as goal
 
--- what an order to serve says
+-- the words of an order to serve
 serving_in : Serving → Order → Serving
 serving_in none (order.Serve port connections origin codes) = record { port = port; connections = connections; origin = origin; codes = codes }
 serving_in none other = none

@@ -1,4 +1,4 @@
-//! The nominations of a ward, in a journal.
+//! The nominations of a ward in a journal.
 
 ghost use Rattle.register.specs.Offices.{MapsRise};
 ghost use Rattle.rowcheck.specs.States.{state_of};
@@ -11,8 +11,8 @@ use register::ranges::LAST_CANDIDATE;
 use rowcheck::finding::candidates_of;
 use std::alloc::{AllocError, Global};
 
-/// Puts each adding of a candidate under a number, and its withdrawal, if it was withdrawn. No table keeps the name of
-/// a candidate who is withdrawn: another one stands for it.
+/// Appends each addition of a candidate with this number, and the withdrawal if there is one. No table has the name of a withdrawn
+/// candidate, so another name is written for it.
 fn put_candidate(
     alloc: Global,
     text: &mut String,
@@ -38,7 +38,7 @@ fn put_candidate(
     Ok(())
 }
 
-/// Puts all candidates of a ward, by their numbers.
+/// Appends all candidates of a ward, by number.
 fn put_candidates(
     alloc: Global,
     text: &mut String,
@@ -53,7 +53,7 @@ fn put_candidates(
     Ok(())
 }
 
-/// Puts a ward, its candidates, and the end of its nominations.
+/// Appends a ward, its candidates, and the end of its nominations.
 pub(crate) fn put_nominations(
     alloc: Global,
     text: &mut String,

@@ -1,4 +1,4 @@
--- Why `read_gate_files` keeps its promise: the codes are those that were read at the path, and the pages and their policies are those of their crates.
+-- Proof that `read_gate_files` meets its contract: the codes are those that were read at the path, and the pages and their policies are those of their crates.
 use Rattle.std.proofs.Common.{◌≡◌, ◌∙◌, ap, subst, sym, ℕ, List, Some}
 use Rattle.std.specs.Prelude.{Option, option_map, string_bytes}
 use Rattle.keying_page.specs.Page.{page_text, policy_text}

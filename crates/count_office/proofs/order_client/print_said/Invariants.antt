@@ -1,4 +1,4 @@
--- What holds each time round the loop of `print_said`: the output hasn't failed.
+-- The invariant of the loop in `print_said`, and its measure: the output hasn't failed.
 use Rattle.std.proofs.Common.{◌≡◌}
 use Rattle.count_office.proofs.order_client.print_said.Given as goal
 

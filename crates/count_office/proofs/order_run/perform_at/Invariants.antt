@@ -1,4 +1,4 @@
--- What holds each time round the loop of `perform_at`: neither output has failed.
+-- The invariant of the loop in `perform_at`: neither output has failed.
 use Rattle.std.proofs.Common.{◌≡◌}
 use Rattle.count_office.proofs.order_run.perform_at.Given as goal
 

@@ -1,4 +1,4 @@
--- Why `serve` keeps its promise, once the office was opened.
+-- Proof that `serve` meets its contract, once the office was opened.
 use Rattle.std.proofs.Common.{◌≡◌, inr, subst, sym}
 use Rattle.sqlite.specs.Held.{state}
 use Rattle.connections.specs.Streams.{stream_of}

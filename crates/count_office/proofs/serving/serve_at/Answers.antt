@@ -1,4 +1,4 @@
--- Why `serve_at` keeps its promise, where the doors were opened.
+-- Proof that `serve_at` meets its contract if the network was opened.
 use Rattle.std.proofs.Common.{subst, sym, Ok, Err}
 use Rattle.sqlite.specs.Held.{state}
 use Rattle.connections.specs.Streams.{stream_of}

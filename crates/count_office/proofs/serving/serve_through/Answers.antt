@@ -1,4 +1,4 @@
--- Why `serve_through` keeps its promise: the gate is the porter's, and as many clients are to come.
+-- Proof that `serve_through` meets its contract: the gate is that of the settings, and so is the number of clients.
 use Rattle.std.proofs.Common.{subst, ℕ}
 use Rattle.std.specs.Prelude.{Option}
 use Rattle.sqlite.specs.Held.{state}

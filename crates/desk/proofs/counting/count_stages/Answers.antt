@@ -1,4 +1,4 @@
--- Why `count_stages` keeps its promise.
+-- Proof that `count_stages` meets its contract.
 use Rattle.std.proofs.Common.{◌≡◌, ◌≢◌, ◌∙◌, ◌<◌, true, false, true≢false, length, ap, refl, sym, subst, arith}
 use Rattle.sqlite.specs.Held.{state}
 use Rattle.store.proofs.KeepLemmas.{wears_itself, wears_then}
@@ -48,7 +48,7 @@ loop-request-preserved g c =
       };
     }
 
--- a page that ends it with another status than 0
+-- a page that ends the sequence with a status other than 0
 pub returns-then-status-ne0-clause-counted : goal.returns-then-status-ne0-clause-counted
 returns-then-status-ne0-clause-counted g c =
     let rs = c.args.requests.now in
@@ -85,7 +85,7 @@ returns-then-status-ne0-clause-wears g c = wears_then (state g.S.Store c.args.of
     (state g.S.Store c.stage_of-outcome.new.office.held) c.stage_of-outcome.ensures.clean c.loop-request.invariant.wears
     c.stage_of-outcome.ensures.wears
 
--- the count rests, which was told whole
+-- the count rests, and its page was written whole
 pub returns-then-not-more-clause-counted : goal.returns-then-not-more-clause-counted
 returns-then-not-more-clause-counted g c =
     let rs = c.args.requests.now in

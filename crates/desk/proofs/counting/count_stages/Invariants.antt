@@ -1,4 +1,4 @@
--- What holds each time round the loop of `count_stages`: the stages so far were counted, which was told.
+-- The invariant of the loop in `count_stages`: the stages so far were counted, and their pages printed.
 use Rattle.std.proofs.Common.{◌≡◌, ℕ, Bool, map}
 use Rattle.clap.specs.Words.{Text}
 use Rattle.sqlite.specs.State.{HasCleanDisk}

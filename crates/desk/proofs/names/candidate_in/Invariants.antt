@@ -1,4 +1,4 @@
--- What the loop of `candidate_in` keeps: none of the candidates so far has the number.
+-- The invariant of the loop in `candidate_in`: none of the candidates so far has the number.
 use Rattle.std.proofs.Common.{◌≡◌, drop, map}
 use Rattle.register.specs.Offices.{candidate_entry}
 use Rattle.desk.specs.Names.{candidate_in}

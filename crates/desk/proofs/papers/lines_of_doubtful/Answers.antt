@@ -1,4 +1,4 @@
--- Why `lines_of_doubtful` keeps its promise.
+-- Proof that `lines_of_doubtful` meets its contract.
 use Rattle.store.specs.Overviews.{doubtful_view}
 use Rattle.desk.specs.Names.{names_told}
 use Rattle.desk.specs.Overviews.{doubtful_line}

@@ -1,4 +1,4 @@
--- What the loop of `lines_of_doubtful` keeps: the lines so far, and those that are left, are all.
+-- The invariant of the loop in `lines_of_doubtful`: the lines so far, and those that are left, are all.
 use Rattle.std.proofs.Common.{◌≡◌, ◌++◌, drop, map, string_bytes}
 use Rattle.store.specs.Overviews.{doubtful_view}
 use Rattle.desk.specs.Names.{names_told}

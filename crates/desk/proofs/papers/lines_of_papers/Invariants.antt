@@ -1,4 +1,4 @@
--- What the loop of `lines_of_papers` keeps: the lines so far, and those that are left, are all.
+-- The invariant of the loop in `lines_of_papers`: the lines so far, and those that are left, are all.
 use Rattle.std.proofs.Common.{◌≡◌, ◌++◌, drop, map, string_bytes}
 use Rattle.store.specs.Overviews.{paper_view}
 use Rattle.desk.specs.Names.{names_told}

@@ -1,4 +1,4 @@
--- What the loop of `preferences` keeps: the text so far, and what is told of those that are left, are all.
+-- The invariant of the loop in `preferences`: the text so far, and that of the preferences that are left, are all.
 use Rattle.std.proofs.Common.{◌≡◌, ◌+◌, ◌++◌, drop, string_bytes}
 use Rattle.desk.specs.Names.{names_told}
 use Rattle.desk.specs.Overviews.{preferences_from}

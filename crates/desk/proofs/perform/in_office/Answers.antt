@@ -1,4 +1,4 @@
--- Why `in_office` keeps its promise.
+-- Proof that `in_office` meets its contract.
 use Rattle.std.proofs.Common.{[], inl, inr, refl, subst, sym}
 use Rattle.sqlite.specs.State.{HasCleanDisk}
 use Rattle.sqlite.specs.Held.{state}

@@ -1,4 +1,4 @@
--- Why `make_office` keeps its promise.
+-- Proof that `make_office` meets its contract.
 use Rattle.std.proofs.Common.{◌≡◌, inl, inr, refl, ap, subst, sym}
 use Rattle.sqlite.specs.State.{HasCleanDisk}
 use Rattle.sqlite.specs.Held.{state}

@@ -1,4 +1,4 @@
--- Why `follow` keeps its promise.
+-- Proof that `follow` meets its contract.
 use Rattle.std.proofs.Common.{◌∷◌, [], inl, refl}
 use Rattle.desk.proofs.replaying.follow.Goals as goal
 

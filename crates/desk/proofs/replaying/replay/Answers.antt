@@ -1,4 +1,4 @@
--- Why `replay` keeps its promise.
+-- Proof that `replay` meets its contract.
 use Rattle.std.proofs.Common.{inr, map, refl}
 use Rattle.sqlite.specs.Held.{state}
 use Rattle.desk.specs.Lexing.{line_entry, typed_line_entry}

@@ -1,4 +1,4 @@
--- Why `run` keeps its promise.
+-- Proof that `run` meets its contract.
 use Rattle.std.proofs.Common.{◌≡◌, ◌∷◌, [], inl, inr, refl}
 use Rattle.sqlite.specs.Held.{state}
 use Rattle.store.proofs.KeepLemmas.{reads_wear}

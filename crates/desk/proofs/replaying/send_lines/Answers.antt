@@ -1,4 +1,4 @@
--- Why `send_lines` keeps its promise.
+-- Proof that `send_lines` meets its contract.
 use Rattle.std.proofs.Common.{[], inl, inr, refl}
 use Rattle.desk.specs.Pages.{script_page}
 use Rattle.desk.proofs.PageLemmas.{error_shown}

@@ -1,4 +1,4 @@
--- Why `send_turns` keeps its promise.
+-- Proof that `send_turns` meets its contract.
 use Rattle.std.proofs.Common.{◌≡◌, ◌∙◌, ◌<◌, true, false, length, ap, refl, sym, arith}
 use Rattle.sqlite.specs.Held.{state}
 use Rattle.store.proofs.KeepLemmas.{wears_itself, wears_then}

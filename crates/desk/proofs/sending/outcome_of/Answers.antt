@@ -1,4 +1,4 @@
--- Why `outcome_of` keeps its promise.
+-- Proof that `outcome_of` meets its contract.
 use Rattle.std.proofs.Common.{◌≡◌, ◌∙◌, ap, inl, inr, refl, subst, sym, string_bytes}
 use Rattle.sqlite.specs.Held.{state}
 use Rattle.store.proofs.KeepLemmas.{reads_wear, wears_then}

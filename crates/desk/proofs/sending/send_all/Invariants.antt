@@ -1,4 +1,4 @@
--- What holds each time round the loop of `send_all`: the requests so far were gone past, which was told.
+-- The invariant of the loop in `send_all`: the requests so far were answered, and their pages printed.
 use Rattle.sqlite.specs.State.{HasCleanDisk}
 use Rattle.sqlite.specs.Held.{state}
 use Rattle.store.specs.Offices.{Wears}

@@ -1,4 +1,4 @@
--- Why a copy of an open office is told so, where there is no memory for its path.
+-- Proof that what is printed for a copy of an open office meets the contract if an allocation for its path failed.
 use Rattle.std.proofs.Common.{inl}
 use Rattle.sqlite.specs.Held.{state}
 use Rattle.tables.specs.declared.fault.Fault.TheVariants.{Memory}

@@ -1,4 +1,4 @@
--- Why the journal of an open office is told so: the office in memory was empty, and memory gives back what was written.
+-- Proof that what is printed for the journal of an open office meets the contract: the office in memory was empty, and reads of memory return what was written.
 use Rattle.std.proofs.Common.{inl, inr, refl}
 use Rattle.tables.specs.declared.fault.Fault.TheVariants.{Memory}
 use Rattle.desk.specs.Pages.{failed}
@@ -20,7 +20,7 @@ returns-in-Ok-clause-told g c =
 pub returns-in-Ok-clause-clean : goal.returns-in-Ok-clause-clean
 returns-in-Ok-clause-clean g c clean = c.journal_open-status.ensures.reads.clean clean
 
--- no memory for it: that is told, as far as the error output takes it
+-- an allocation for it failed: this is printed, as far as the error output accepts it
 pub returns-in-Err-clause-told : goal.returns-in-Err-clause-told
 returns-in-Err-clause-told g c =
     let page = failed (Office Memory) in

@@ -1,4 +1,4 @@
--- Why `NamesByNumber::new` keeps its promise.
+-- Proof that `NamesByNumber::new` meets its contract.
 use Rattle.std.proofs.Common.{map}
 use Rattle.register.specs.Offices.{candidate_entry}
 use Rattle.desk.specs.Names.{name_of}
