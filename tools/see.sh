@@ -2,8 +2,8 @@
 # shellcheck shell=bash disable=SC2034
 wrong=0 said=''
 
-# see WHAT STATUS TEXT COMMAND..: the command ends with the status (or fails, with any but 0), and what it prints on either output has the
-# text. Prints a line. What isn't so makes `wrong` 1, or ends all where `stops` is set.
+# see WHAT STATUS TEXT COMMAND..: the command ends with the status (`fails`: any but 0), and prints the text. Else `wrong` is 1; or, if
+# `stops` is set, all ends.
 see() {
     local what=$1 wanted=$2 text=$3 status=0
     shift 3

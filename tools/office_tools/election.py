@@ -1,7 +1,9 @@
 """Small elections: one, order by order, for tools that make its orders fail; one ward, as others begin it; and an evening with codes."""
+import contextlib
 import os
+import shlex
 import sqlite3
-from dataclasses import dataclass, field
+from dataclasses import dataclass
 
 from office_tools.office import NO_OFFICE, SCRIPT, TOWN, Office, ended
 from office_tools.tries import older_office
@@ -12,11 +14,11 @@ FILE, COPY, COPY_LOG = "rows.csv", "copy.db", "copy.db-wal"
 MADE = {"init": (3, "", NO_OFFICE), "migrate": (0, "office is at version 2\n", "")}
 
 
-def ward_orders(*batches, candidates=("Ann", "Bob", "Cy"), seats=2):
-    """Returns the orders of ward 7 up to its batches, each of a number, a size and two clerks."""
-    nominated = [f"candidate 7 {number} '{name}' --id c{number}" for number, name in enumerate(candidates, 1)]
-    given_out = [f"batch {batch} 7 {size} {first} {second} --id b{batch}" for batch, size, first, second in batches]
-    return [f"ward 7 {seats} Harbour --id w", *nominated, "close 7 --id n", *given_out]
+def ward_orders(*batches, candidates=("Ann", "Bob", "Cy"), seats=2, ward=7, name="Harbour"):
+    """Returns the orders of a ward up to its batches, each of a number, a size and two clerks."""
+    nominated = [f"candidate --id c{ward}-{number} -- {ward} {number} {shlex.quote(name)}" for number, name in enumerate(candidates, 1)]
+    given_out = [f"batch {batch} {ward} {size} {first} {second} --id b{batch}" for batch, size, first, second in batches]
+    return [f"ward {ward} {seats} {shlex.quote(name)} --id w{ward}", *nominated, f"close {ward} --id n{ward}", *given_out]
 
 
 def keying(papers, columns):
@@ -33,13 +35,13 @@ class Order:
     lines: list = None
     sends: bytes = b""
     town: str = TOWN
-    name: str = field(init=False)
 
-    def __post_init__(self):
-        self.name = self.words[0] if self.sends else " ".join(self.words)
+    @property
+    def name(self):
+        return self.words[0] if self.sends else " ".join(self.words)
 
     def put_files(self, office):
-        """Writes the file that the order names, and the keying that the script names."""
+        """Writes the files that the order names."""
         for name in self.words:
             if self.lines and name.endswith((".csv", ".txt")):
                 office.write(name, self.lines)
@@ -121,11 +123,9 @@ def earlier_office(folder):
 
 def execute(path, *statements):
     """Executes statements on a database."""
-    base = sqlite3.connect(path)
-    with base:
+    with contextlib.closing(sqlite3.connect(path)) as base, base:
         for statement in statements:
             base.execute(statement)
-    base.close()
 
 
 CODES = {4: "kf7m-2wxt-h4dn", 9: "w3hd-4psn-7kfr"}
@@ -135,13 +135,7 @@ LARGE = [*(f"Candidate {c}" for c in range(1, 29)), "<img src=x onerror=document
 
 def evening_office(folder, codes=None):
     """Returns an office of two wards and four batches for clerks 4 and 9, with a file of codes."""
-    office = Office(folder).begin()
-    for ward, name, candidates in ((7, "Harbour", SMALL), (8, "Old Town <b>&", LARGE)):
-        office.do("ward", ward, 2, name, "--id", f"w{ward}")
-        for number, candidate in enumerate(candidates, 1):
-            office.do("candidate", "--id", f"c{ward}-{number}", "--", ward, number, candidate)
-        office.do("close", ward, "--id", f"n{ward}")
-    for batch, ward, size in ((12, 7, 50), (13, 8, 3), (14, 7, 1), (15, 7, 1)):
-        office.do("batch", batch, ward, size, 4, 9, "--id", f"b{batch}")
+    harbour = ward_orders((12, 50, 4, 9), (14, 1, 4, 9), (15, 1, 4, 9), candidates=SMALL)
+    office = Office(folder).begin(harbour + ward_orders((13, 3, 4, 9), candidates=LARGE, ward=8, name="Old Town <b>&"))
     office.write_codes(codes or CODES)
     return office

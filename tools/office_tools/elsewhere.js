@@ -1,31 +1,26 @@
-// What a page from elsewhere tries, with the address of an office, the batch of its first keying, the step to the next, and how often it
-// tries. Its value is a list: of each way what it is, the id of its keying, and the text that it could read.
-(async ({office, batch, step, turns}) => {
+// What a page from elsewhere tries, with the address of an office, the batch of its first keying, and how often it tries each. Its value
+// is a list: of each way what it is, the id of its keying, and the text that it could read.
+(async ({office, batch, turns}) => {
   const wait = (seconds) => new Promise((done) => setTimeout(() => done(''), 1000 * seconds));
   const made = (name, fields) => Object.assign(document.createElement(name), fields);
-  const loaded = (it) => {
-    const ends = new Promise((done) => { it.onload = it.onerror = () => done(''); });
-    document.body.append(it);
-    return Promise.race([wait(20), ends]);
-  };
   const work = `${office}/clerks/4/work`;
-  const page = `${office}/clerks/4/`;
   const read = async (address, options) => (await fetch(address, {credentials: 'include', ...options})).text();
   const key = (options) => (target, body) => read(target, {method: 'POST', headers: {'Content-Type': 'text/plain'}, body, ...options});
   const shown = (frame) => (frame.contentDocument ? frame.contentDocument.body.innerText : '');
-  const framed = (address) => async () => {
-    const frame = made('iframe', {src: address});
-    await loaded(frame);
+  const framed = async () => {
+    const frame = made('iframe', {src: work});
+    document.body.append(frame);
+    await wait(2);
     return shown(frame);
   };
   const opened = async () => {
-    const other = open(page);
+    const other = open(`${office}/clerks/4/`);
     await wait(2);
     try { return other.document.body.innerText; } finally { other.close(); }
   };
   const form = async (target, body) => {
     const [front, rest] = body.split('"id":');
-    const frame = made('iframe', {name: `answers${turns}${target.length}${Math.random()}`});
+    const frame = made('iframe', {name: `answers${Math.random()}`});
     const it = made('form', {method: 'POST', enctype: 'text/plain', action: target, target: frame.name});
     it.append(made('input', {name: `${front}"id":"`, value: `","id":${rest}`}));
     document.body.append(frame, it);
@@ -39,23 +34,18 @@
     'a POST of text/plain (sendBeacon)': async (target, body) => { navigator.sendBeacon(target, body); return wait(2); },
     'a form of text/plain': form,
     'the work (fetch)': () => read(work),
-    'the work (fetch, no-cors)': () => read(work, {mode: 'no-cors'}),
-    'the work in a frame': framed(work),
-    'the work as an image': () => loaded(made('img', {src: work})),
-    'the work as a script': () => loaded(made('script', {src: work})),
-    'the page (fetch)': () => read(page),
-    'the page in a frame': framed(page),
+    'the work in a frame': framed,
     'the page in a window': opened,
   };
   const tries = [];
   for (const [number, [what, way]] of Object.entries(ways).entries()) {
-    const own = batch + step * number;
+    const id = `f${batch + number}`;
     let text = '';
     for (let turn = 0; turn < turns && !text; turn += 1) {
-      const body = `{"round":1,"papers":["1,2,"],"id":"f${own}"}`;
-      try { text = String(await Promise.race([way(`${office}/clerks/4/batches/${own}/keying`, body), wait(60)])); } catch { }
+      const body = `{"round":1,"papers":["1,2,"],"id":"${id}"}`;
+      try { text = String(await Promise.race([way(`${office}/clerks/4/batches/${batch + number}/keying`, body), wait(60)])); } catch { }
     }
-    tries.push([what, `f${own}`, text]);
+    tries.push([what, id, text]);
   }
   return tries;
 })(SETTING)

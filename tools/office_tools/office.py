@@ -1,4 +1,5 @@
 """An office in a folder: the program that runs on its file, serves it, and is killed."""
+import collections
 import contextlib
 import functools
 import itertools
@@ -11,7 +12,6 @@ import tempfile
 import threading
 import time
 from pathlib import Path
-from typing import NamedTuple
 
 from office_tools.web import HERE, answer
 
@@ -22,23 +22,21 @@ SECONDS = 60
 CONNECTIONS = 1000000
 STORE, NO_OFFICE = "fault 102: store\n", "fault 105: wrong database\n"
 PORTS = itertools.count()
+# Debian's packages of commands that have another name.
+PACKAGES = {"node": "nodejs", "ab": "apache2-utils", "chromedriver": "chromium-driver"}
 
 
 class Wrong(Exception):
     """A condition that isn't met."""
 
 
-class Printed(NamedTuple):
-    """How the program ended: its status, its output and its error output."""
-
-    status: int
-    out: str = ""
-    err: str = ""
+# How the program ended: its status, its output and its error output.
+Printed = collections.namedtuple("Printed", "status out err", defaults=("", ""))
 
 
 @functools.cache
 def program(variable="COUNT_OFFICE"):
-    """Returns the program that a variable names, or else the one that the script count-office keeps, which unpacks it if it has to."""
+    """Returns the program that a variable names, or else the one that the script count-office keeps or unpacks."""
     if named := os.environ.get(variable):
         return os.path.realpath(named)
     subprocess.run([ROOT / "count-office", "--help"], stdout=subprocess.DEVNULL, check=True)
@@ -47,9 +45,8 @@ def program(variable="COUNT_OFFICE"):
 
 def needs(*commands):
     """Raises an error if one of these commands isn't installed."""
-    for command in commands:
-        if not shutil.which(command):
-            raise Wrong(f"the command {command} is missing; on Debian: apt-get install {command}")
+    if missing := [PACKAGES.get(command, command) for command in commands if not shutil.which(command)]:
+        raise Wrong(f"commands are missing; on Debian: apt-get install {' '.join(missing)}")
 
 
 def is_free(port, host=HERE):
@@ -124,8 +121,9 @@ class Office:
         self.folder = Path(folder)
         self.folder.mkdir(parents=True, exist_ok=True)
 
-    def start(self, *words, town=TOWN, **how):
-        words = [program(), town, *map(str, words)]
+    def start(self, *words, town=TOWN, under=(), **how):
+        """Starts an order, at wish under another program, such as `strace`."""
+        words = [*under, program(), town, *map(str, words)]
         return subprocess.Popen(words, cwd=self.folder, stdout=subprocess.PIPE, stderr=subprocess.PIPE, **how)
 
     def run(self, *words, seconds=SECONDS, **how):
@@ -170,38 +168,28 @@ class Office:
         shutil.rmtree(folder, ignore_errors=True)
         copy = Office(folder)
         for ending in ("", "-wal"):
-            source = self.folder / (town + ending)
-            if source.exists():
+            if (source := self.folder / (town + ending)).exists():
                 shutil.copyfile(source, copy.folder / (TOWN + ending))
         return copy
 
     def rows(self, town=TOWN):
-        """Returns every row of every table, or None if there is no office. Python's own SQLite reads them from a copy.
+        """Returns every row of every table, or None if there is no office, as Python's own SQLite reads a copy; the file must be whole.
 
         An `init` that was stopped may leave a file without the first byte of a database's.
         """
         with tempfile.TemporaryDirectory() as folder:
-            copy = self.copied(folder, town)
-            if not (copy.folder / TOWN).exists():
-                return None
-            base = sqlite3.connect(copy.folder / TOWN)
-            try:
-                return rows_of(base) or None
-            except sqlite3.DatabaseError as error:
-                if "file is not a database" in str(error):
-                    return None
-                raise Wrong(f"SQLite: {error}") from error
-            finally:
-                base.close()
-
-
-def rows_of(base):
-    """Returns every row of every table of a database, which must be whole."""
-    whole = base.execute("PRAGMA integrity_check").fetchall()
-    if whole != [("ok",)]:
-        raise Wrong(f"the file isn't whole: {whole}")
-    tables = [name for (name,) in base.execute("SELECT name FROM sqlite_schema WHERE type = 'table' ORDER BY name")]
-    return {name: sorted(base.execute(f"SELECT * FROM {name}").fetchall()) for name in tables}
+            with contextlib.closing(sqlite3.connect(self.copied(folder, town).folder / TOWN)) as base:
+                try:
+                    whole = base.execute("PRAGMA integrity_check").fetchall()
+                    tables = base.execute("SELECT name FROM sqlite_schema WHERE type = 'table' ORDER BY name").fetchall()
+                    found = {name: sorted(base.execute(f"SELECT * FROM {name}").fetchall()) for (name,) in tables}
+                except sqlite3.DatabaseError as error:
+                    if "file is not a database" in str(error):
+                        return None
+                    raise Wrong(f"SQLite: {error}") from error
+        if whole != [("ok",)]:
+            raise Wrong(f"the file isn't whole: {whole}")
+        return found or None
 
 
 class Serving:
@@ -227,8 +215,7 @@ class Serving:
         return None
 
     def wait(self):
-        line = self.connect()
-        if line is None:
+        if not (line := self.connect()):
             raise Wrong(f"serve doesn't start: {ended(self.process)}")
         line.close()
         return self

@@ -1,20 +1,87 @@
-// Runs the script of the page on which clerks key, for `tools/check script`, in the small stand-in for a browser of page_dom.js. Its
-// word is the file of the page. Prints a line for each thing that isn't as it must be, and ends with status 1 then.
+// Runs the script of the page on which clerks key, for `tools/check script`, in a window of jsdom. It reads the page from standard input.
+// Prints a line for each thing that isn't as it must be, and ends with status 1 then.
 'use strict';
 
 const assert = require('node:assert/strict');
 const {readFileSync} = require('node:fs');
-const {Storage, Window, settled} = require('./page_dom.js');
+const {JSDOM, VirtualConsole} = require('jsdom');
 
-const HERE = 'http://127.0.0.1:8080';
+// What broke on a page outside a play.
+let broken = null;
+process.on('unhandledRejection', (error) => { broken = error; });
+const noting = new VirtualConsole();
+noting.on('jsdomError', (error) => { broken = error; });
+
+// Lets everything run that waits for nothing but its turn.
+const settled = async () => { for (let turn = 0; turn < 12; turn += 1) await new Promise(setImmediate); };
+const all = (element, selector) => [...element.querySelectorAll(selector)];
+
+// A window that shows a page. `office` responds to its requests: with a status and what it says, or null if the line breaks. Its clock
+// is its own, and it may have the storage of another window.
+class Window {
+  constructor(page, office, {clerk = 4, batch = '', storage} = {}) {
+    Object.assign(this, {office, timers: new Map(), now: 0, asked: []});
+    const beforeParse = (window) => this.prepare(window, storage);
+    const words = {url: `http://127.0.0.1:8080/clerks/${clerk}/${batch}`, runScripts: 'dangerously', virtualConsole: noting, beforeParse};
+    const {window} = new JSDOM(page.replace(/<style>[^]*<\/style>/, ''), words);
+    Object.assign(this, {window, document: window.document, storage: window.localStorage});
+  }
+
+  prepare(window, storage) {
+    window.HTMLElement.prototype.scrollIntoView = () => {};
+    if (storage) Object.defineProperty(window, 'localStorage', {value: storage});
+    window.fetch = (address, options) => this.fetched(address.replace(window.location.origin, ''), options);
+    window.setTimeout = (act, wait) => (wait ? this.timers.set(act, this.now + wait) && act : setImmediate(act));
+    window.clearTimeout = (timer) => this.timers.delete(timer);
+  }
+
+  async fetched(target, {method = 'GET', body, ...rest}) {
+    this.asked.push({method, target, body, ...rest});
+    const answer = await this.office({method, target});
+    if (!answer) throw new TypeError('the line broke');
+    return {status: answer.status, json: async () => JSON.parse(JSON.stringify(answer.says))};
+  }
+
+  // Lets some seconds pass.
+  async pass(seconds) {
+    this.now += 1000 * seconds;
+    for (const [act, at] of [...this.timers]) if (at <= this.now && this.timers.delete(act)) act();
+    await settled();
+  }
+
+  at(id) {
+    return this.document.getElementById(id) ?? assert.fail(`the page has no ${id}`);
+  }
+
+  // Presses keys at whatever has the focus, with what a browser does by itself then. `more` is what else their events say.
+  async press(keys, more = {}) {
+    for (const key of keys) {
+      const target = this.document.activeElement;
+      const event = new this.window.KeyboardEvent('keydown', {key, bubbles: true, cancelable: true, ...more});
+      const isOwn = target.dispatchEvent(event);
+      if (isOwn && target.tagName === 'BUTTON' && key === 'Enter') target.click();
+      if (isOwn && target.tagName === 'INPUT' && key.length === 1) target.value += key;
+      await settled();
+    }
+  }
+
+  async click(id) {
+    assert.equal(this.at(id).closest('[hidden]'), null, `${id} isn\u2019t shown`);
+    this.at(id).click();
+    await settled();
+  }
+
+  text(id) { return this.at(id).textContent; }
+  listed() { return all(this.at('list'), 'li').map(({textContent}) => textContent); }
+  drafts() { return Object.values(this.storage).map((text) => JSON.parse(text)); }
+  papers() { return this.drafts().map(({rows}) => rows.map(({text}) => text)); }
+  sent() { return this.asked.filter(({method}) => method === 'POST').map(({target, body}) => ({target, ...JSON.parse(body)})); }
+}
+
 const NAMES = ['Ann', 'Bob & <b>Cy</b>', '<img src=x onerror=alert(1)>'];
-const WARD = 'Old Town <i>&';
-const COLUMNS = [1, 2, 3];
-const WORK = {clerk: 4, work: [
-  {batch: 12, columns: COLUMNS, keyed: false, round: 1, size: 3, ward: 7},
-  {batch: 13, columns: COLUMNS, keyed: true, round: 1, size: 2, ward: 7},
-]};
-const CANDIDATES = {batch: 12, candidates: NAMES.map((name, place) => ({candidate: place + 1, name})), name: WARD, ward: 7};
+const OPEN = {batch: 12, columns: [1, 2, 3], keyed: false, round: 1, size: 3, ward: 7};
+const WORK = [OPEN, {...OPEN, batch: 13, keyed: true, size: 2}];
+const CANDIDATES = {batch: 12, candidates: NAMES.map((name, place) => ({candidate: place + 1, name})), name: 'Old Town <i>&', ward: 7};
 const KEPT = {status: 200, says: {reply: 'batch 12 round 1 keyed'}};
 const REFUSED = {status: 409, says: {refusal: 17, text: 'wrong number of papers'}};
 const FAILED = {status: 503, says: {fault: 101}};
@@ -22,62 +89,45 @@ const DENIED = {status: 401, says: {error: 'unauthorized'}};
 const TOO_MANY = {status: 429, says: {error: 'too many wrong codes'}};
 const PAPERS = ['1,2,', ',,12', 'D'];
 const KEYS = [['1', '2', 'Enter'], ['0', '0', '.', '1', '2', 'Enter'], ['d', 'Enter']];
+const SENT = 'Batch 13: ward 7, round 1, 2 papers. The office has your keying.';
 
 // An office that responds to keyings as it is told, one after another, and to the rest as it should.
 const officeOf = (...answers) => async ({method, target}) => {
   if (method === 'POST') return answers.shift();
-  if (target === '/clerks/4/work') return {status: 200, says: WORK};
+  if (target === '/clerks/4/work') return {status: 200, says: {clerk: 4, work: WORK}};
   if (target === '/clerks/4/batches/12/candidates') return {status: 200, says: CANDIDATES};
   return {status: 200, says: {left: true}};
 };
 
-const opened = async (page, office, {clerk = 4, batch = '', storage} = {}) => {
-  const window = new Window(page, `${HERE}/clerks/${clerk}/${batch}`, office, storage);
+const opened = async (page, office, how) => {
+  const window = new Window(page, office, how);
   await settled();
   return window;
 };
 
-const press = async (window, ...keys) => {
-  for (const key of keys) {
-    window.press(key);
-    await settled();
-  }
-};
-
-const click = async (window, element) => {
-  element.click();
-  await settled();
-};
-
 // A window in which batch 12 is open, at its first paper.
-const begun = async (page, office, storage) => {
-  const window = await opened(page, office, {storage});
-  await click(window, window.at('list').querySelector('.main'));
-  await click(window, window.at('begin'));
+const begun = async (page, ...answers) => {
+  const window = await opened(page, officeOf(...answers));
+  await window.press(['Enter', 'Enter']);
+  assert.equal(window.text('paper'), 'Paper 1 of 3');
   return window;
 };
 
 // A window in which all papers of batch 12 are keyed, and nothing is sent yet.
 const finished = async (page, ...answers) => {
-  const window = await begun(page, officeOf(...answers));
-  await press(window, ...KEYS.flat());
+  const window = await begun(page, ...answers);
+  await window.press(KEYS.flat());
   assert.equal(window.at('end').hidden, false, 'the batch is at its end');
+  assert.deepEqual(window.sent(), [], 'nothing is sent before the clerk says so');
   return window;
 };
 
-const said = (window) => window.at('said').textContent;
-const listed = (window) => window.at('list').querySelectorAll('li').map(({textContent}) => textContent);
-const SENT = 'Batch 13: ward 7, round 1, 2 papers. The office has your keying.';
-const drafts = (window) => Object.values(window.storage).map((text) => JSON.parse(text));
-const sent = (window) => window.asked.filter(({method}) => method === 'POST').map(({target, body}) => ({target, ...JSON.parse(body)}));
-const isOffered = (window, id) => !window.at(id).hidden && !window.at(id).disabled;
-
 // Nothing was kept, and the clerk sees that: his draft is there, and he may send it again.
 const assertNotKept = (window, words) => {
-  assert.doesNotMatch(said(window), /has kept it|is kept\b/, 'a keying that the office didn\u2019t keep is shown as kept');
-  assert.match(said(window), words);
-  assert.deepEqual(drafts(window).map(({rows}) => rows.map(({text}) => text)), [PAPERS], 'the draft stays');
-  assert.ok(isOffered(window, 'send'), 'the draft can be sent again');
+  assert.doesNotMatch(window.text('said'), /has kept it|is kept\b/, 'a keying that the office didn\u2019t keep is shown as kept');
+  assert.match(window.text('said'), words);
+  assert.deepEqual(window.papers(), [PAPERS], 'the draft stays');
+  assert.equal(window.at('send').disabled, false, 'the draft can be sent again');
 };
 
 const PLAYS = {
@@ -85,192 +135,165 @@ const PLAYS = {
     const answers = [DENIED, TOO_MANY];
     const office = officeOf();
     const window = await opened(page, async (asked) => answers.shift() ?? office(asked));
-    assert.match(window.at('asked').textContent, /code is wrong, or none was sent/);
-    assert.equal(window.at('list').textContent, '');
-    await click(window, window.at('look'));
-    assert.match(window.at('asked').textContent, /code is wrong, and very many wrong codes/);
-    await click(window, window.at('look'));
-    assert.deepEqual(listed(window), ['Batch 12 ward 7, round 1, 3 papers.', SENT]);
-    assert.equal(window.at('who').textContent, 'clerk 4');
-    assert.equal(window.document.title, 'Clerk 4: keying');
-  },
-  'three papers are keyed, sent once as they were keyed, and shown as kept': async (page) => {
-    const window = await finished(page, KEPT);
-    assert.deepEqual(sent(window), [], 'nothing is sent before the clerk says so');
-    await press(window, 's');
-    const [{id, ...keying}, ...more] = sent(window);
-    assert.deepEqual(keying, {target: '/clerks/4/batches/12/keying', round: 1, papers: PAPERS});
-    assert.match(id, /^page-12-1-[a-z0-9]{16}$/);
-    assert.deepEqual(more, []);
-    assert.match(said(window), /^The office has kept it: batch 12 round 1 keyed/);
-    assert.deepEqual(drafts(window), [], 'no draft stays of what was kept');
-    await window.pass(120);
-    assert.equal(sent(window).length, 1, 'what was kept isn\u2019t sent again');
-  },
-  'a refused keying is not shown as kept, and stays': async (page) => {
-    const window = await finished(page, REFUSED, KEPT);
-    await press(window, 's');
-    assertNotKept(window, /refused it: wrong number of papers \(refused 17\)/);
-    assert.ok(isOffered(window, 'back'), 'what was refused can be changed');
-    await window.pass(120);
-    assert.equal(sent(window).length, 1, 'what was refused isn\u2019t sent again by itself');
-    await press(window, 's');
-    assert.match(said(window), /has kept it/);
-  },
-  'a keying without an answer is sent again, the same, until there is one': async (page) => {
-    const window = await finished(page, FAILED, null, {status: 200, says: {reply: 'batch 13 round 1 keyed'}}, REFUSED);
-    await press(window, 's');
-    for (const seconds of [5, 10, 20]) {
-      assertNotKept(window, new RegExp(`sent again as it is every ${seconds} seconds`));
-      assert.ok(!isOffered(window, 'back'), 'what may have been kept can\u2019t be changed');
-      await window.pass(seconds);
+    for (const words of [/code is wrong, or none was sent/, /code is wrong, and very many wrong codes/]) {
+      assert.match(window.text('asked'), words);
+      assert.deepEqual(window.listed(), []);
+      await window.click('look');
     }
-    assert.equal(new Set(window.asked.filter(({method}) => method === 'POST').map(({body}) => body)).size, 1, 'each sending is the same');
-    assert.equal(sent(window).length, 4);
-    assertNotKept(window, /refused it/);
-    const later = await opened(page, officeOf(FAILED, KEPT), {batch: '#12', storage: window.storage});
-    await press(later, 's');
-    await later.pass(5);
-    assert.equal(sent(later).at(-1).id, sent(window)[0].id);
-    assert.match(said(later), /has kept it/);
-    assert.deepEqual(drafts(later), []);
+    assert.deepEqual(window.listed(), ['Batch 12 ward 7, round 1, 3 papers.', SENT]);
+    assert.deepEqual([window.text('who'), window.document.title], ['clerk 4', 'Clerk 4: keying']);
   },
-  'a keying under a wrong code stays, and can be sent again': async (page) => {
-    const window = await finished(page, DENIED, TOO_MANY, KEPT);
-    await press(window, 's');
-    assertNotKept(window, /code is wrong, or none was sent/);
-    await press(window, 's');
-    assertNotKept(window, /code is wrong, and very many wrong codes/);
-    await window.pass(120);
-    assert.equal(sent(window).length, 2, 'nothing is sent again by itself under a wrong code');
-    await press(window, 's');
-    assert.match(said(window), /has kept it/);
-  },
-  'names are shown as they are, and none is markup': async (page) => {
-    const window = await begun(page, officeOf());
-    const [row] = window.at('heads').rows;
-    const names = row.querySelectorAll('bdi');
-    assert.deepEqual(names.map(({textContent}) => textContent), NAMES);
-    assert.ok(names.every(({children}) => children.length === 0));
-    assert.match(window.at('which').textContent, /^Batch 12, round 1, ward 7 Old Town <i>&$/);
-    await press(window, '1');
-    assert.equal(window.at('cursor').textContent, `2 ${NAMES[1]}`);
-  },
-  'the paper that is asked for is shown, and it is the one that is keyed': async (page) => {
-    const window = await begun(page, officeOf());
-    const now = () => window.at('rows').querySelector('.now');
-    const marks = () => now().querySelectorAll('input').map(({value}) => value);
-    const shown = () => [window.at('paper').textContent, now().querySelector('th').textContent, ...marks()];
-    await press(window, ...KEYS[0], ...KEYS[1]);
-    assert.deepEqual(shown(), ['Paper 3 of 3', '3', '', '', '']);
-    await press(window, 'g', '1', 'Enter');
-    assert.deepEqual(shown(), ['Paper 1 of 3', '1', '1', '2', '']);
-    assert.equal(window.at('rows').rows.indexOf(now()), 3, 'the current row is at the same height as ever');
-    await press(window, 'g', '2', 'Enter');
-    assert.deepEqual(shown(), ['Paper 2 of 3', '2', '', '', '12']);
-    await press(window, 'ArrowUp', 'Delete', '3');
-    assert.deepEqual(shown(), ['Paper 1 of 3', '1', '3', '', '']);
-    assert.deepEqual(drafts(window)[0].rows.map(({text}) => text), ['3,,', ',,12', ',,']);
-    await press(window, 'ArrowDown', 'Insert', 'd', 'Enter');
-    assert.deepEqual(drafts(window)[0].rows.map(({text}) => text), ['3,,', 'D', ',,12']);
-  },
-  'a page that is loaded again continues at the paper where it was': async (page) => {
-    const before = await begun(page, officeOf());
-    await press(before, ...KEYS[0], '0');
-    const {storage} = before;
-    const window = await opened(page, officeOf(), {batch: '#12', storage});
-    assert.match(window.at('paper').textContent, /^Paper 2 of 3$/);
-    await press(window, '0', '.', '1', '2', 'Enter', 'd', 'Enter');
-    assert.deepEqual(drafts(window)[0].rows.map(({text}) => text), PAPERS);
-  },
-  'a clerk sees nothing of what another one keyed in the same browser': async (page) => {
-    const {storage} = await finished(page);
-    const own = await opened(page, officeOf(), {storage});
-    assert.match(own.at('list').textContent, /3 keyed here/);
-    const other = await opened(page, async () => ({status: 200, says: {clerk: 9, work: WORK.work.slice(1)}}), {clerk: 9, storage});
-    assert.deepEqual(listed(other), [SENT]);
-    assert.equal(drafts(own).length, 1);
-    assert.deepEqual(other.asked.map(({target}) => target), ['/clerks/9/work']);
-    assert.equal(other.at('who').textContent, 'clerk 9');
-  },
-  'the page asks for nothing but what is its clerk\u2019s': async (page) => {
+  'papers are keyed, sent once as they were keyed, and shown as kept; nothing else is asked but what is its clerk\u2019s': async (page) => {
     const window = await finished(page, KEPT);
-    await press(window, 's');
-    await click(window, window.at('leave'));
-    await click(window, window.at('go-away'));
+    await window.press('s');
+    await window.pass(120);
+    const [{id, ...keying}, ...more] = window.sent();
+    assert.deepEqual([keying, more], [{target: '/clerks/4/batches/12/keying', round: 1, papers: PAPERS}, []]);
+    assert.match(id, /^page-12-1-[a-z0-9]{16}$/);
+    assert.match(window.text('said'), /^The office has kept it: batch 12 round 1 keyed/);
+    assert.deepEqual(window.drafts(), [], 'no draft stays of what was kept');
+    await window.click('leave');
+    await window.click('go-away');
     assert.match(window.document.body.textContent, /Clerk 4 has left/);
     const asked = window.asked.map(({method, target, redirect, cache}) => `${method} ${target} ${redirect} ${cache}`);
     const own = /^(GET \/clerks\/4\/(work|leave|batches\/12\/candidates)|POST \/clerks\/4\/batches\/12\/keying) error no-store$/;
     assert.deepEqual(asked.filter((it) => !own.test(it)), []);
   },
+  'a refused or denied keying is not shown as kept, stays, and can be sent again': async (page) => {
+    const window = await finished(page, REFUSED, DENIED, TOO_MANY, KEPT);
+    for (const words of [/refused it: wrong number of papers \(refused 17\)/, /code is wrong, or none was sent/, /very many wrong codes/]) {
+      await window.press('s');
+      assertNotKept(window, words);
+      assert.equal(window.at('back').disabled, false, 'what was refused can be changed');
+      await window.pass(120);
+    }
+    assert.equal(window.sent().length, 3, 'nothing of it is sent again by itself');
+    await window.press('s');
+    assert.match(window.text('said'), /has kept it/);
+  },
+  'a keying without an answer is sent again, the same, until there is one': async (page) => {
+    const window = await finished(page, FAILED, null, {status: 200, says: {reply: 'batch 13 round 1 keyed'}}, REFUSED);
+    await window.press('s');
+    for (const seconds of [5, 10, 20]) {
+      assertNotKept(window, new RegExp(`sent again as it is every ${seconds} seconds`));
+      assert.equal(window.at('back').disabled, true, 'what may have been kept can\u2019t be changed');
+      await window.pass(seconds);
+    }
+    const [first, ...others] = window.sent();
+    assert.deepEqual(others, [first, first, first], 'each sending is the same');
+    assertNotKept(window, /refused it/);
+    const later = await opened(page, officeOf(FAILED, KEPT), {batch: '#12', storage: window.storage});
+    await later.press('s');
+    await later.pass(5);
+    assert.deepEqual(later.sent().at(-1), first);
+    assert.match(later.text('said'), /has kept it/);
+    assert.deepEqual(later.drafts(), []);
+  },
+  'names are shown as they are, and none is markup': async (page) => {
+    const window = await begun(page);
+    const names = all(window.at('heads'), 'bdi');
+    assert.deepEqual(names.map(({textContent}) => textContent), NAMES);
+    assert.ok(names.every(({children}) => children.length === 0));
+    const labels = NAMES.map((name, place) => `Paper 1, candidate ${place + 1} \u2068${name}\u2069`);
+    assert.deepEqual(all(window.at('rows'), 'input').map(({ariaLabel}) => ariaLabel), labels, 'what a screen reader gets');
+    assert.equal(window.text('which'), 'Batch 12, round 1, ward 7 Old Town <i>&');
+    await window.press('1');
+    assert.equal(window.text('cursor'), `2 ${NAMES[1]}`);
+  },
+  'the paper that is asked for is shown, and it is the one that is keyed': async (page) => {
+    const window = await begun(page);
+    await window.press([...KEYS[0], ...KEYS[1]]);
+    for (const [keys, paper, marks, papers] of [
+      [[], 3, ['', '', ''], ['1,2,', ',,12', ',,']], [['g', '1', 'Enter'], 1, ['1', '2', ''], ['1,2,', ',,12', ',,']],
+      [['ArrowDown'], 2, ['', '', '12'], ['1,2,', ',,12', ',,']], [['ArrowUp', 'Delete', '3'], 1, ['3', '', ''], ['3,,', ',,12', ',,']],
+      [['/', '3', '9', 'Enter', 'ArrowUp'], 1, ['3', '', '9'], ['3,,9', ',,12', ',,']],
+      [['ArrowDown', 'Insert', 'd', 'Enter'], 3, ['', '', '12'], ['3,,9', 'D', ',,12']],
+    ]) {
+      await window.press(keys);
+      const now = window.at('rows').querySelector('.now');
+      const shown = [window.text('paper'), now.querySelector('th').textContent, ...all(now, 'input').map(({value}) => value)];
+      assert.deepEqual(shown, [`Paper ${paper} of 3`, String(paper), ...marks]);
+      assert.equal([...window.at('rows').rows].indexOf(now), 3, 'the current row is at the same height as ever');
+      assert.deepEqual(window.papers(), [papers]);
+    }
+  },
+  'a key that isn\u2019t taken says why, and changes nothing': async (page) => {
+    const window = await begun(page);
+    for (const [keys, words, text, more] of [
+      [['Enter'], /Nothing is keyed for paper 1/, ',,'], [['x'], /The key x means nothing here/, ',,'],
+      [['ArrowLeft'], /Num Lock is off/, ',,', {code: 'Numpad4'}], [['1', 'Enter'], /Num Lock is off/, ',,', {repeat: true}],
+      [['1', 'Tab', '2', 'End'], /isn\u2019t ended. Enter ends it/, '1,2,'], [['0', '4'], /at its end, and another key came/, '1,2,'],
+      [['Enter'], /at its end, and another key came/, '1,2,'], [['Backspace', 'Backspace', '.', '0'], /No mark begins with 0/, '1,2,'],
+    ]) {
+      await window.press(keys, more);
+      assert.match(window.text('notice'), words);
+      assert.deepEqual([window.text('paper'), window.papers()], ['Paper 1 of 3', [[text]]]);
+    }
+  },
+  'a clerk goes on where he was in a page that is loaded again, and another one in that browser sees nothing of it': async (page) => {
+    const before = await begun(page);
+    await before.press([...KEYS[0], '0']);
+    const {storage} = before;
+    const own = await opened(page, officeOf(), {storage});
+    assert.match(own.text('list'), /1 keyed here/);
+    const other = await opened(page, async () => ({status: 200, says: {clerk: 9, work: WORK.slice(1)}}), {clerk: 9, storage});
+    assert.deepEqual(other.listed(), [SENT]);
+    assert.deepEqual(other.asked.map(({target}) => target), ['/clerks/9/work']);
+    const window = await opened(page, officeOf(), {batch: '#12', storage});
+    before.window.dispatchEvent(new before.window.StorageEvent('storage', {key: 'keying 4 12 1'}));
+    await settled();
+    assert.match(before.text('asked'), /Batch 12 was opened in another window/);
+    assert.equal(window.text('paper'), 'Paper 2 of 3');
+    await window.press([...KEYS[1].slice(1), ...KEYS[2]]);
+    assert.deepEqual(window.papers(), [PAPERS]);
+  },
 };
 
 // What somebody tired or hostile might write in the page: a text that stands there once, and what is written in its place.
 const PLANTED = {
-  'a refused keying is shown as kept': ['if (isReply(answer, sent)) return {kept: answer.says.reply};',
-    'if (answer) return {kept: answer.says.reply ?? answer.says.text};'],
-  'a refused keying is shown as kept, by the view': ['if (kept) return showKept(kept);', 'if (kept || refusal) return showKept(kept);'],
+  'a refused keying is shown as kept': ['if (kept) return showKept(kept);', 'if (kept || refusal) return showKept(kept);'],
   'whatever is answered by 200 is kept': [' && answer.says?.reply === `batch ${batch} round ${round} keyed`', ''],
-  'a keying that failed is shown as kept': ['if (waits) return waitToSend(told(why));', 'if (waits) return showKept(told(why));'],
   'a keying that failed isn\u2019t sent again': ['timer = setTimeout(sendNow, 1000 * seconds);', ''],
-  'a keying is sent again under another id': ['answer.says.refusal === 2) sent.id', 'answer.says.refusal > 0) sent.id'],
   'each sending has an id of its own': ['sent.sent = true;\n', 'sent.sent = true;\n  sent.id = newId(sent.batch, sent.round);\n'],
   'a keying that may have been kept is changed': ['once.`, {sends: true, goesBack: false}', 'once.`, {sends: true, goesBack: true}'],
   'a draft is forgotten once it was sent': ['if (draft !== sent) return undefined;', 'forget(draftName(sent.batch, sent.round));'],
   'the drafts of all clerks are listed': ['name.startsWith(FRONT)', 'name.startsWith(\'keying\')'],
-  'all clerks share their drafts': ['const FRONT = `keying ${CLERK} `;', 'const FRONT = `keying 4 `;'],
   'another paper is shown than the one asked for': ['draft.at = index;', 'draft.at = Math.max(index - 1, 0);'],
-  'another paper is shown than the one whose number is typed': ['goTo(value - 1)', 'goTo(Math.max(value - 2, 0))'],
-  'the papers are shown a row too low': ['rowAt(draft.at - ABOVE + place)', 'rowAt(draft.at - ABOVE + place + 1)'],
   'the marks of another paper are shown': ['const marks = row().text.split(\',\');', 'const marks = draft.rows[0].text.split(\',\');'],
   'a paper is sent twice, in place of another': ['papers: rows.map((it) => it.text)', 'papers: rows.map(() => rows[0].text)'],
-  'the papers are sent in another order': ['papers: rows.map((it) => it.text)', 'papers: rows.map((it) => it.text).reverse()'],
   'a mark is written beside another candidate': ['fields[column] = mark;', 'fields[fields.length - 1 - column] = mark;'],
   'a doubtful paper is sent as an empty one': ['{text: \'D\', column', '{text: \',,\', column'],
+  'a key that stays down is taken again': ['if (event.repeat && !key.startsWith(\'Arrow\')) return;', ''],
+  'a mark behind the last candidate ends the paper': ['if (extra) return refuseBehind();', ''],
   'a name is markup': ['made(\'bdi\', {}, name)', 'made(\'bdi\', {innerHTML: name})'],
   'the name of another candidate is shown': ['name: shownName(names.get(number))', 'name: shownName(names.get(1))'],
   'the keying of another batch is sent': ['ask(`batches/${sent.batch}/keying`', 'ask(`batches/13/keying`'],
   'the office is asked for another clerk\u2019s work': ['await ask(\'work\')', 'await ask(\'../9/work\')'],
-  'the script has a syntax error': ['const width = () =>', 'const width = ( =>'],
   'the script ends in an error': ['at(\'who\').textContent', 'at(\'whom\').textContent'],
 };
 
-const planted = (page, [found, put]) => {
-  assert.equal(page.split(found).length, 2, `a planted fault needs a text that stands once in the page: ${found}`);
-  return page.replace(found, () => put);
-};
-
-let broken = null;
-process.on('unhandledRejection', (error) => { broken = error; });
-
-// Why a play doesn't end well on a page, or null.
-const faultOf = async (play, page) => {
-  broken = null;
-  try {
-    await play(page);
-    await settled();
-    return broken;
-  } catch (error) {
-    return error;
+// Yields why plays don't end well on a page.
+async function* faults(page) {
+  for (const [what, play] of Object.entries(PLAYS)) {
+    broken = null;
+    await play(page).then(settled).catch((error) => { broken = error; });
+    if (broken) yield `${what}: ${broken.message}`;
   }
-};
+}
 
 const main = async () => {
-  const page = readFileSync(process.argv[2], 'utf8');
+  process.exitCode = 1;
+  const page = readFileSync(0, 'utf8');
   const wrong = [];
-  for (const [what, play] of Object.entries(PLAYS)) {
-    const fault = await faultOf(play, page);
-    if (fault) wrong.push(`${what}: ${fault.message}`);
-  }
-  for (const [what, change] of wrong.length ? [] : Object.entries(PLANTED)) {
-    const spoiled = planted(page, change);
-    let noticed = false;
-    for (const play of Object.values(PLAYS)) noticed ||= (await faultOf(play, spoiled)) !== null;
-    if (!noticed) wrong.push(`not noticed: ${what}`);
+  for await (const fault of faults(page)) wrong.push(fault);
+  for (const [what, [found, put]] of wrong.length ? [] : Object.entries(PLANTED)) {
+    const parts = page.split(found);
+    if (parts.length !== 2) wrong.push(`a planted fault needs a text that stands once in the page: ${found}`);
+    else if ((await faults(parts.join(put)).next()).done) wrong.push(`not noticed: ${what}`);
   }
   wrong.forEach((line) => console.error(`script: ${line}`));
   if (!wrong.length) console.log(`script: ${Object.keys(PLAYS).length} plays, ${Object.keys(PLANTED).length} planted faults noticed`);
   process.exitCode = wrong.length ? 1 : 0;
 };
 
-main();
+main().catch((error) => console.error(`script: ${error.message}`));

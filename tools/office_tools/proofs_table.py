@@ -32,14 +32,8 @@ def text_at(crate, path):
     return (crate.folder / path).read_text() if (crate.folder / path).is_file() else ""
 
 
-def definition_at(text, place):
-    """Returns the definition of specs/, or the constant, within which a place stands; or None."""
-    names = re.findall(r"^(?:abbrev|unfoldable|record|data)\b[^:\n]*?([^\s:]+) :|\bconst (\w+):", text[:place], re.M)
-    return "".join(names[-1]) if names else None
-
-
 def targets_of(crate, edit):
-    """Returns what an edit changes: functions of the crate, or (file, name) of something else."""
+    """Returns what an edit changes: functions of the crate, or (file, the definition or constant in it) of something else."""
     found = []
     for path, old, _ in changes_of(edit):
         text = text_at(crate, path)
@@ -48,7 +42,8 @@ def targets_of(crate, edit):
         if inside and inside[-1] not in found:
             found.append(inside[-1])
         elif not inside and not old.startswith("use "):
-            found.append((path, definition_at(text, place) if place >= 0 else None))
+            names = re.findall(r"^(?:abbrev|unfoldable|record|data)\b[^:\n]*?([^\s:]+) :|\bconst (\w+):", text[:max(place, 0)], re.M)
+            found.append((path, "".join(names[-1]) if names else None))
     return found
 
 
@@ -60,37 +55,27 @@ def misplaced(crate):
                 yield f"{crate.name}/{name}.edit: its old text stands {times} times in {path}"
 
 
-def row(crate, function, edits):
-    """Returns the row of a function."""
-    where = "" if crate.is_shown(function) else f", of `{function.owners[-1]}`" if function.in_trait_impl else f", within `{function.path}`"
-    clauses = ", ".join(f"`{name}`" if name else "one without a name" for name in function.ensures)
-    refused = ", ".join(f"`{name}`" for name in edits)
-    return f"| `{function.title}`{where} | {first_sentence(function.comment)} | {clauses or '–'} | {refused or '–'} |"
-
-
-def edits_by_target(crate):
-    """Returns {id of a function, or (file, name): the edits that change it}, and the targets that are no functions."""
-    edits, others = {}, []
-    for name, edit in crate.edits.items():
-        for target in targets_of(crate, edit):
-            key = target if isinstance(target, tuple) else id(target)
-            edits.setdefault(key, []).append(name)
-            if key is target and target not in others:
-                others.append(target)
-    return edits, others
+def listed(names):
+    """Returns names as a cell has them."""
+    return ", ".join(f"`{name}`" if name else "one without a name" for name in names) or "–"
 
 
 def section(crate):
     """Returns the table of a crate, in the reading order of its modules; nothing if there is no row."""
     order = re.findall(r"^(?:pub(?:\([^)]*\))? )?mod (\w+);", crate.texts.get("src/lib.rt", ""), re.M)
-    edits, others = edits_by_target(crate)
+    edits = {}
+    for name, edit in crate.edits.items():
+        for target in targets_of(crate, edit):
+            edits.setdefault(target if isinstance(target, tuple) else id(target), []).append(name)
     rows = []
-    for function in sorted(crate.functions, key=lambda f: order.index(f.module[0]) if f.module[0] in order else -1):
-        if crate.is_shown(function) or id(function) in edits:
-            rows.append(row(crate, function, edits.get(id(function), [])))
-    for path, name in others:
+    for f in sorted(crate.functions, key=lambda f: order.index(f.module[0]) if f.module[0] in order else -1):
+        if crate.is_shown(f) or id(f) in edits:
+            where = "" if crate.is_shown(f) else f", of `{f.owners[-1]}`" if f.in_trait_impl else f", within `{f.path}`"
+            cells = (f"`{f.title}`{where}", first_sentence(f.comment), listed(f.ensures), listed(edits.get(id(f), [])))
+            rows.append(f"| {' | '.join(cells)} |")
+    for path, name in (target for target in edits if isinstance(target, tuple)):
         what = f"`{name}`, within `{path}`" if name else f"`{path}`"
-        rows.append(f"| {what} | – | – | {', '.join(f'`{edit}`' for edit in edits[(path, name)])} |")
+        rows.append(f"| {what} | – | – | {listed(edits[(path, name)])} |")
     head = [f"\n## `{crate.name}`\n", "| function | what it does | clauses | wrong bodies refused |", "|---|---|---|---|"]
     return head + rows if rows else []
 

@@ -1,7 +1,4 @@
-"""What the Rattle sources under crates/ hold: their functions, with documentation and contracts, and their wrong bodies.
-
-Read as text, by brackets and words; nothing is built or checked.
-"""
+"""What the Rattle sources under crates/ hold, read as text: functions, with documentation and contracts, and wrong bodies."""
 import itertools
 import re
 from dataclasses import dataclass, field
@@ -11,7 +8,8 @@ from office_tools.office import ROOT
 
 NOISE = re.compile(r'//[^\n]*|b?"(?:\\.|[^"\\])*"|b?\'(?:\\.[^\'\n]*|[^\'\\\n])\'', re.S)
 TOKEN = re.compile(r"\b(?:impl|trait)\b[^{};]*\{|\bfn\s+\w+|[{}]")
-# words of specs/ that say what several clauses say, each with its record, whose fields those are
+TESTS = re.compile(r"#\[cfg\(test\)\]\s*mod tests \{|\Z")
+# Words of specs/ that say what several clauses say, each with its record, whose fields those are.
 WORDS = {"Migrates": "Migrates", "CopiesTo": "CopiesTo", "Loads": "LoadsAt", "Alters": "Alters"}
 CONTRACT = re.compile(r"\b(ensures|requires)\b\*?\s*(\w*)\*?\s*$")
 
@@ -26,13 +24,13 @@ class Function:
     public: bool
     in_trait_impl: bool
     comment: str                # the comment above it, without its slashes
+    start: int                  # where it begins and ends in its file
+    end: int = 0
     ensures: list = field(default_factory=list)
     requires: list = field(default_factory=list)
     words: dict = field(default_factory=dict)   # the first word of each of its clauses, by the clause's name
     head: str = ""              # from `fn` to its contract, without comments and literals
     body: str = ""              # the body, without comments and literals
-    start: int = 0              # where it begins and ends in its file
-    end: int = 0
 
     @property
     def title(self):
@@ -50,11 +48,12 @@ def masked(text):
 
 def owners_of(head):
     """Returns the types whose functions are in the block that begins so: of a trait's impl, type and trait."""
-    while re.search(r"<[^<>]*>", head.replace("->", "")):
-        head = re.sub(r"<[^<>]*>", "", head.replace("->", ""))
+    head = head.replace("->", "")
+    while (plain := re.sub(r"<[^<>]*>", "", head)) != head:
+        head = plain
     head = head.split(":")[0] if head.startswith("trait") else head
-    parts = re.split(r"\bfor\b", head.rstrip("{ \n").split(" where ")[0])
-    return [re.findall(r"\w+", part)[-1] for part in parts if re.findall(r"\w+", part)][::-1]
+    parts = [re.findall(r"\w+", part) for part in re.split(r"\bfor\b", head.rstrip("{ \n").split(" where ")[0])]
+    return [words[-1] for words in reversed(parts) if words]
 
 
 def after_bracket(text, at):
@@ -76,84 +75,72 @@ def comment_above(lines, number):
 def read_contract(function, text, at):
     """Reads a function's contract from the end of its name on: the names of its clauses, and where its body is."""
     depth = 0
-    for match in re.compile(r"[()\[\]{};]").finditer(text, at):
+    for match in re.compile(r"[()\[\]{;]").finditer(text, at):
         token, place = match.group(), match.start()
         if place < at:
             continue
         if token in "()[]":
             depth += 1 if token in "([" else -1
-        elif token == ";" and depth == 0:
-            function.head, function.end = text[function.start:place], match.end()
-            break
-        elif token == "{":
-            clause, at = CONTRACT.search(text[at:place]), after_bracket(text, place)
-            if not clause:
-                function.head, function.body, function.end = text[function.start:place], text[place:at], at
-                break
+        elif token == "{" and (clause := CONTRACT.search(text[at:place])):
             kind, name = clause.groups()
             getattr(function, kind).append(name)
+            at = after_bracket(text, place)
             if kind == "ensures":
                 function.words[name] = re.match(r"\W*(\w*)", text[place:at])[1]
-    function.head = re.split(r"\b(?:ensures|requires)\b", function.head)[0]
+        elif token == "{" or depth == 0:
+            function.end = after_bracket(text, place) if token == "{" else match.end()
+            function.body = text[place:function.end] if token == "{" else ""
+            break
+    function.head = re.split(r"\b(?:ensures|requires)\b", text[function.start:place])[0]
 
 
 def functions_in(path, source):
     """Returns the functions of a source file, in its order; those of `mod tests` at its end left out."""
     text, lines, found, blocks = masked(source), source.split("\n"), [], []
-    text = text[:(re.search(r"#\[cfg\(test\)\]\s*mod tests \{", text) or re.search(r"\Z", text)).start()]
-    past = 0
+    text = text[:TESTS.search(text).start()]
     for match in TOKEN.finditer(text):
-        token = match.group()
-        if match.start() < past:
+        token, before = match.group(), text[:match.start()]
+        if found and match.start() < found[-1].end:
             continue
         if token.startswith("fn"):
             owners, is_trait, is_impl = next((block for block in reversed(blocks) if block), ([], False, False))
-            public = is_trait or re.search(r"\bpub (const )?$", text[:match.start()]) is not None
-            line = text.count("\n", 0, match.start())
-            function = Function(path, line + 1, owners, token.split()[1], public, is_impl, comment_above(lines, line), start=match.start())
-            read_contract(function, text, match.end())
-            found.append(function)
-            past = function.end
+            public, line = is_trait or bool(re.search(r"\bpub (const )?$", before)), before.count("\n")
+            found.append(Function(path, line + 1, owners, token.split()[1], public, is_impl, comment_above(lines, line), match.start()))
+            read_contract(found[-1], text, match.end())
         elif token == "}":
-            blocks and blocks.pop()
+            blocks = blocks[:-1]
         else:
-            public_trait = token.startswith("trait") and text[:match.start()].rstrip().endswith("pub")
-            blocks.append((owners_of(token), public_trait, token.startswith("impl") and " for " in token) if token != "{" else None)
-    return found
-
-
-def fields_in(text):
-    """Returns {record of a file of specs/: the names of its fields}"""
-    found = {}
-    for match in re.finditer(r"^( *)pub record (\w+)[^\n]* where\n((?:\1  [^\n]*\n)+)", text, re.M):
-        found[match.group(2)] = re.findall(rf"^{match.group(1)}  pub (\w+) :", match.group(3), re.M)
+            is_public_trait = token.startswith("trait") and before.rstrip().endswith("pub")
+            blocks.append((owners_of(token), is_public_trait, token.startswith("impl") and " for " in token) if token != "{" else None)
     return found
 
 
 class Crate:
-    """A crate's sources: texts by path below its folder, functions, and wrong bodies by name."""
+    """A crate's sources: texts by path below its folder, functions, the fields of each record of specs/, and wrong bodies by name."""
 
     def __init__(self, folder):
         self.name, self.folder = folder.name, folder
         self.texts = {str(path.relative_to(folder)): path.read_text() for path in sorted((folder / "src").rglob("*.rt"))}
         self.functions = [f for path, text in self.texts.items() for f in functions_in(path, text)]
-        self.records = fields_in("\n".join(path.read_text() for path in sorted(folder.glob("specs/**/*.antt"))) + "\n")
+        specs = "\n".join(path.read_text() for path in sorted(folder.glob("specs/**/*.antt"))) + "\n"
+        records = re.findall(r"^( *)pub record (\w+)[^\n]* where\n((?:\1  [^\n]*\n)+)", specs, re.M)
+        self.records = {name: re.findall(rf"^{blanks}  pub (\w+) :", lines, re.M) for blanks, name, lines in records}
         edits = (path for part in ("must-fail", "wrong-bodies") for path in sorted(folder.glob(part + "/*.edit")))
         self.edits = {path.stem: path.read_text() for path in edits}
+        declared = "\n".join(self.texts.values())
+        self.used = set(re.findall(r"\w+", " ".join(re.findall(r"^pub use ([^;]*);", declared, re.M))))
+        self.open_modules = {"lib", *re.findall(r"^pub mod (\w+);", declared, re.M)}
 
     def is_shown(self, function):
         """Returns whether a function is public, and its module is open or its type named by a `pub use`."""
-        declared = "\n".join(self.texts.values())
-        shown = set(re.findall(r"\w+", " ".join(re.findall(r"^pub use ([^;]*);", declared, re.M))))
-        opened = set(re.findall(r"^pub mod (\w+);", declared, re.M))
-        is_open = function.module == ("lib",) or all(part in opened for part in function.module)
-        return "src/lib.rt" in self.texts and function.public and (is_open or (function.owners or [function.name])[0] in shown)
+        is_open = self.open_modules.issuperset(function.module)
+        return "src/lib.rt" in self.texts and function.public and (is_open or (function.owners or [function.name])[0] in self.used)
 
 
 def crates():
     """Returns all crates in the order of crates.txt, lowest first."""
-    names = [line.split(":")[0].strip() for line in (ROOT / "crates.txt").read_text().splitlines() if ":" in line.split("#")[0]]
-    found = [Crate(ROOT / "crates" / name) for name in names]
+    names = re.findall(r"^([^#:\n]*):", (ROOT / "crates.txt").read_text(), re.M)
+    found = [Crate(ROOT / "crates" / name.strip()) for name in names]
     records = {name: fields for crate in found for name, fields in crate.records.items()}
     for function in (function for crate in found for function in crate.functions):
         # The fields of a record stand in the place of a clause that says no more than that record.

@@ -1,24 +1,27 @@
-"""Orders that are refused memory or a call on a file, or killed, and what they may print and leave then."""
+"""Orders that are refused memory or a call on a file, or killed, and what they may print and leave then. `strace` refuses the calls."""
 import os
 import re
-import subprocess
-import sys
-from concurrent.futures import ProcessPoolExecutor
+from concurrent.futures import ThreadPoolExecutor
 from pathlib import Path
 
 from office_tools.election import (
     COPY, COPY_LOG, COPYING, ELECTION, FILE, MADE, READS, REPLAY, REQUESTS, SCRIPTED, Order, earlier_office, offices)
-from office_tools.office import LOG, NO_OFFICE, ROOT, SCRIPT, TOWN, Wrong, remove
+from office_tools.office import LOG, NO_OFFICE, SCRIPT, TOWN, Wrong, remove
 
 NOT_WRITTEN = "fault 110: copy not written"
+# What `serve` prints besides, if it can't make its socket. Clients are served all the same.
+NO_SOCKET = "no socket for orders beside the database: it can't be made\n"
 RESULTS = ("rows before it found", "rows after it", "some records")
+ON_FILES = ("openat", "statx", "readlink", "pread64", "read", "pwrite64", "write", "fsync", "fdatasync", "ftruncate", "fcntl", "lseek",
+            "flock", "unlink", "fchmod", "fchown")
+CALL, REFUSED = re.compile(r"^\d+ +(\w+)\(", re.MULTILINE), re.compile(r"\(INJECTED\)$|= -1 EFBIG", re.MULTILINE)
 
 
-def library(folder):
-    """Builds tools/office_tools/refusing.c, which is put before the C library of a program."""
-    made = Path(folder) / "refusing.so"
-    subprocess.run(["cc", "-shared", "-fPIC", "-O2", "-o", made, ROOT / "tools/office_tools/refusing.c"], check=True)
-    return str(made)
+def strace(trace, folder, names, *changes, calls=ON_FILES):
+    """Returns the words that run a program under `strace`, which notes its calls on some files of a folder, and changes some of these."""
+    paths = [f"-P{path}" for name in names for path in (name, folder / name)]
+    changed = [f"-einject={change}" for change in changes]
+    return ["strace", "-D", "-f", "--quiet=all", "-o", trace, f"-etrace={','.join(calls)}", *paths, *changed]
 
 
 def left(office, status=0):
@@ -65,7 +68,7 @@ class Trial:
                 # The client was disconnected: there was no memory for what it sends, or for its answer.
                 return any("memory" in fault for fault in faults)
             answered = re.fullmatch(r'HTTP/1\.1 503 Service Unavailable\r\n.*\r\n\r\n\{"fault":(\d+)\}', out, re.DOTALL)
-            return not err and bool(answered) and any(fault.startswith(f"fault {answered[1]}: ") for fault in faults)
+            return bool(answered) and any(fault.startswith(f"fault {answered[1]}: ") and err in ("", fault + "\n") for fault in faults)
         has_parts = len(self.states) > 2 or self.is_copy or self.order.words[0] == "count"
         whole_lines = out == "" or (has_parts and out.endswith("\n") and self.printed.out.startswith(out))
         return status == 3 and whole_lines and any(re.fullmatch(fault + "\n", err) for fault in self.allowed(out, faults))
@@ -80,15 +83,6 @@ class Trial:
         if place < min(last, self.order.replies(printed.out)):
             raise Wrong(f"{place} of {last} records found: {printed}")
         return place
-
-    def judged(self, printed, found, faults):
-        """Returns ("fault" or "answered", the number of the state that was found)."""
-        place, replies = self.place_of(printed, found), self.order.replies(printed.out)
-        if printed == self.printed:
-            return "answered", place
-        if not self.is_fault(printed, faults) or not replies <= place <= replies + 1:
-            raise Wrong(f"printed {printed}, and {place} of {len(self.states) - 1} records are found")
-        return "fault", place
 
     def check_beside(self, office, printed, keeps):
         """Checks that nothing is next to the office but a copy that was reported, or what may be kept of one: all of it, or no office."""
@@ -108,32 +102,38 @@ class Trial:
         if again != wanted or left(office) != self.states[-1]:
             raise Wrong(f"{printed}, and given again {again}")
 
-    def refused(self, refusal, faults):
-        """Gives the order with a refusal, judges, and gives it again. Returns nothing if it met no refusal."""
-        here, note = self.office.copied(self.folder / "run"), self.folder / "told"
-        remove(note)
-        printed = self.order.done(here, env={**refusal, "REFUSING_TOLD": str(note)})
-        if not note.exists() and printed != self.printed:
-            raise Wrong(f"nothing was refused: {printed}")
-        self.check_beside(here, printed, refusal.get("REFUSING_WAY") == "gone")
-        what = self.judged(printed, left(here, printed.status), faults)
-        self.check_again(here, printed, what[1])
-        return what if note.exists() else None
+    def traced(self, names=(), changes=(), under=(), env=(), calls=ON_FILES):
+        """Gives the order under `strace`. Returns the office, what was printed, and the trace."""
+        here, trace = self.office.copied(self.folder / "run"), self.folder / "trace"
+        words = [*strace(trace, here.folder, names, *changes, calls=calls), *under]
+        # A write past the length of `prlimit --fsize` fails only if its signal is ignored, as Python has it.
+        printed = self.order.done(here, env=env, under=words, restore_signals=False)
+        return here, printed, trace.read_text(errors="replace")
 
-    def runs(self, refusals, faults):
-        """Gives the order with each refusal until a run meets none. Returns ([how many met one, and what they found], [what was wrong])."""
-        found, wrong = [], []
-        for which, refusal in refusals:
+    def refused(self, faults, keeps=False, **how):
+        """Gives the order with a refusal, judges, and gives it again. Returns (whether a fault was reported, the number of the state that
+        was found), or None if it met no refusal."""
+        here, printed, trace = self.traced(**how)
+        printed = printed._replace(err=printed.err.removeprefix(NO_SOCKET))
+        self.check_beside(here, printed, keeps)
+        found = left(here, printed.status)
+        place, replies = self.place_of(printed, found), self.order.replies(printed.out)
+        differs, is_met = printed != self.printed, REFUSED.search(trace)
+        if differs and not (is_met and self.is_fault(printed, faults) and replies <= place <= replies + 1):
+            raise Wrong(f"printed {printed}, and {place} of {len(self.states) - 1} records are found")
+        self.check_again(here, printed, place)
+        return (differs, place) if is_met else None
+
+    def runs(self, refusals):
+        """Gives the order with each refusal. Returns [how many met one, reported a fault, and were answered, and what they found]."""
+        found = []
+        for which, how in refusals:
             try:
-                what = self.refused(refusal, faults)
+                found += filter(None, [self.refused(**how)])
             except Wrong as error:
-                wrong.append(f"{self.order.name}: {which}: {error}")
-                continue
-            if what is None:
-                break
-            found.append(what)
-        kinds = [kind for kind, _ in found]
-        return [len(found), kinds.count("fault"), kinds.count("answered"), *self.places([place for _, place in found])], wrong
+                raise Wrong(f"{self.order.name}: {which}: {error}") from error
+        faults = sum(is_fault for is_fault, _ in found)
+        return [len(found), faults, len(found) - faults, *self.places([place for _, place in found])]
 
     def places(self, places):
         """Returns how many found the rows before the order, those after it, and some records."""
@@ -158,14 +158,10 @@ def trials(folder, name="", orders=None):
     return [trial for trial in found if name in ("", trial.order.words[0])]
 
 
-def side_by_side(runs, tried):
-    """Yields each trial with the numbers of its runs, of two trials at a time. Prints what was wrong, and raises that at the end."""
-    wrongs = refused = 0
-    with ProcessPoolExecutor(2) as pool:
-        for trial, results in zip(tried, pool.map(runs, tried)):
-            for counts, wrong in results:
-                print(*wrong, sep="\n", end="\n" * bool(wrong), file=sys.stderr, flush=True)
-                wrongs, refused = wrongs + len(wrong), refused + counts[0]
-            yield trial, [counts for counts, _ in results]
-    if wrongs or not refused:
-        raise Wrong(f"{wrongs} runs were wrong" if wrongs else "nothing was refused: the program has to be linked dynamically")
+def side_by_side(act, items):
+    """Yields what a function returns of each item, of as many at once as there are processors; what it raises ends the others."""
+    with ThreadPoolExecutor(len(os.sched_getaffinity(0))) as pool:
+        try:
+            yield from pool.map(act, items)
+        finally:
+            pool.shutdown(wait=False, cancel_futures=True)

@@ -1,18 +1,15 @@
-"""Made-up wards, with offices of the program that they are played in."""
+"""Made-up wards, and offices of the program in which they are sealed."""
 import collections
-import re
+import shlex
 
 from office_tools.election import keying
-from office_tools.office import Office, Wrong
+from office_tools.office import Office
 
 PIECES = ["Ann", "O'Neill", 'Bob "jr"', "back\\slash", "\\", '"', "Zoë", "李小龙", "🗳", "a, b", " two  blanks ", "#7", "-Hyphen", "withdrawn",
-          "\u0085", "0", "long" * 20]
-# The least and the most candidates of a ward, papers of it, and kinds of papers.
-SMALL, MIDDLING = [(2, 6), (0, 24), (1, 4)], [(5, 14), (20, 90), (10, 60)]
-CROWDED, LARGE = [(4, 30), (0, 120), (4, 120)], [(30, 30), (300, 900), (20, 900)]
-SHAPES = [SMALL] * 3 + [MIDDLING] * 4 + [CROWDED] * 3 + [LARGE]
-# The verdict is None if a paper isn't doubtful, 0 if it is accepted with its marks, else the code of its rejection.
-Paper = collections.namedtuple("Paper", "marks verdict")
+          "\u0085", "0", "long" * 14]
+# The least and the most candidates of a ward, papers of it, and kinds of papers: of small wards, middling, crowded and large ones.
+SHAPES = [[(2, 6), (0, 24), (1, 4)]] * 3 + [[(5, 14), (20, 90), (10, 60)]] * 4
+SHAPES += [[(4, 30), (0, 120), (4, 120)]] * 3 + [[(30, 30), (300, 900), (20, 900)]]
 
 
 def judged(numbers, marks):
@@ -31,30 +28,17 @@ class Ward:
     """A made-up ward, with its papers as they are marked."""
 
     def __init__(self, chance):
-        self.chance, self.is_neat = chance, chance.randrange(2) == 0
         size, papers, kinds = (chance.randint(*limits) for limits in chance.choice(SHAPES))
-        self.is_contested = chance.randrange(8) > 0
-        if self.is_contested:
-            self.seats = chance.randint(1, min(size - 1, chance.choice([4, 15])))
-        else:
-            self.seats = chance.randint(1, 15)
-            size = chance.randint(1, self.seats)
-        self.number, self.name = chance.randint(1, 99), self.made_up_name()
-        numbers = sorted(chance.sample(range(1, 31), size)) if chance.randrange(2) else range(1, size + 1)
-        self.names = {number: self.made_up_name() for number in numbers}
+        self.chance, self.number, self.seats = chance, chance.randint(1, 99), chance.randint(1, min(size, chance.choice([4, 15])))
+        self.name, *names = (" ".join(chance.choices(PIECES, k=chance.randint(1, 2))) for _ in range(size + 1))
+        self.names = dict(zip(sorted(chance.sample(range(1, 31), size)), names))
+        self.is_contested, self.is_neat = size > self.seats, chance.randrange(2) == 0
         self.papers = [self.paper(preferences) for preferences in self.voted(papers, kinds)] if self.is_contested else []
-
-    def made_up_name(self):
-        pieces = [self.chance.choice(PIECES) for _ in range(self.chance.randint(1, 4))]
-        return " ".join(pieces).encode()[:120].decode(errors="ignore")
 
     def voted(self, papers, kinds):
         """Returns the preferences of about so many papers, of about so many kinds: many are equal, so that many candidates tie."""
         chance, numbers, spread = self.chance, list(self.names), self.chance.choice([1, 4, 12, 40])
         favourites = chance.sample(numbers, len(numbers))
-        if chance.randrange(3) == 0:
-            level = min(len(numbers) - 1, chance.choice([len(numbers) // 2, self.seats, self.seats + 2]))
-            return self.levelled(favourites[:level], favourites[level:], papers)
         kinds = [chance.sample(numbers, chance.randint(1, len(numbers))) for _ in range(kinds)]
         for preferences in kinds:
             # The smaller the spread, the more often the favourites come first, and have surpluses.
@@ -67,70 +51,38 @@ class Ward:
         copies = papers // len(kinds)
         return kinds * copies if copies and chance.randrange(2) else [chance.choice(kinds) for _ in range(papers)]
 
-    def levelled(self, level, others, papers):
-        """Returns the preferences by which some candidates tie at last, with votes that came from the others at different stages."""
-        return [
-            list(dict.fromkeys([*self.chance.sample(others, self.chance.choice([0, 0, 0, 1])), number, *self.chance.sample(level, 1)]))
-            for number in level for _ in range(papers // len(level))
-        ]
-
     def paper(self, preferences):
-        """Returns a paper with these preferences; in half of the wards now and then with other marks too, and now and then doubtful."""
+        """Returns a paper's marks, now and then other ones too, and None; or, if it is doubtful, 0 or the code of its rejection."""
         marks = [str(preferences.index(number) + 1) if number in preferences else "" for number in self.names]
-        if self.is_neat:
-            return Paper(marks, None)
-        while self.chance.randrange(12) == 0:
+        while not self.is_neat and self.chance.randrange(12) == 0:
             marks[self.chance.randrange(len(marks))] = self.chance.choice(["", "1", "2", "3", "99"])
-        if self.chance.randrange(20):
-            return Paper(marks, None)
-        return Paper(marks, self.chance.choice([0, 3, 4, 5] if isinstance(judged(self.names, marks), tuple) else [3, 4, 5]))
+        if self.is_neat or self.chance.randrange(20):
+            return marks, None
+        return marks, self.chance.choice([0, 3, 4, 5] if isinstance(judged(self.names, marks), tuple) else [3, 4, 5])
 
     def judged(self):
         """Returns how many papers have each list of preferences, in ascending order, and how many are rejected by each code."""
-        found = collections.Counter(paper.verdict or judged(self.names, paper.marks) for paper in self.papers)
+        found = collections.Counter(verdict or judged(self.names, marks) for marks, verdict in self.papers)
         rejected = [found.pop(code, 0) for code in range(1, 6)]
         return sorted((papers, preferences) for preferences, papers in found.items()), rejected
 
 
-class PlayedWard:
-    """An office of the program, with a made-up ward, and the lots that were drawn, by stage."""
-
-    def __init__(self, folder, ward):
-        self.office, self.ward, self.lots = Office(folder), ward, {}
-
-    def told(self, *words, refusals=""):
-        """Returns what an order prints as bytes; or the text of its refusal, if it is of the form that may come."""
-        printed = self.office.run(*words)
-        if printed.status == 0 and not printed.err:
-            return printed.out.encode("utf-8", "surrogateescape")
-        if printed.status == 1 and not printed.out and printed.err and re.fullmatch(refusals, printed.err):
-            return printed.err
-        raise Wrong(f"{' '.join(map(str, words))}: {printed}")
-
-    def seal(self):
-        """Makes the office, and sends all orders up to the ward's seal as one script."""
-        ward, number = self.ward, self.ward.number
-        quoted = {candidate: name.replace('"', '""') for candidate, name in ward.names.items()}
-        self.office.write("names.csv", ["ward,candidate,name"] + [f'{number},{candidate},"{name}"' for candidate, name in quoted.items()])
-        # A double quote in a word of a script stands between two single ones.
-        name = ward.name.replace('"', "\"'\"'\"")
-        orders = [f'ward --id w -- {number} {ward.seats} "{name}"', "import-candidates names.csv --id c", f"close {number} --id n"]
-        papers, batches = ward.papers, ward.chance.sample(range(1, 10000), len(ward.papers))
-        while papers:
-            size = ward.chance.randint(1, 500)
-            orders += self.keyed(batches.pop(), papers[:size])
-            papers = papers[size:]
-        self.office.begin(orders + [f"seal {number} --id s"] * ward.is_contested)
-
-    def keyed(self, batch, papers):
-        """Returns the orders by which a batch is given out and keyed, and its doubtful papers are judged."""
-        first, second = self.ward.chance.sample(range(1, 1000), 2)
-        orders = [f"batch {batch} {self.ward.number} {len(papers)} {first} {second} --id b{batch}"]
+def sealed_office(folder, ward):
+    """Returns an office with the ward, which one script brings to its seal; an uncontested ward is closed."""
+    office, chance, papers = Office(folder), ward.chance, ward.papers
+    quoted = {candidate: name.replace('"', '""') for candidate, name in ward.names.items()}
+    office.write("names.csv", ["ward,candidate,name"] + [f'{ward.number},{candidate},"{name}"' for candidate, name in quoted.items()])
+    orders = [f"ward --id w -- {ward.number} {ward.seats} {shlex.quote(ward.name)}", "import-candidates names.csv --id c",
+              f"close {ward.number} --id n"]
+    for batch in chance.sample(range(1, 10000), len(papers)):
+        size, (first, second) = chance.randint(1, 500), chance.sample(range(1, 1000), 2)
+        keyed, papers = papers[:size], papers[size:]
+        office.write(f"{batch}.csv", keying([",".join(marks) if verdict is None else "D" for marks, verdict in keyed], ward.names))
+        orders.append(f"batch {batch} {ward.number} {len(keyed)} {first} {second} --id b{batch}")
         orders += [f"import-keying {clerk} {batch} 1 {batch}.csv --id k{batch}" for clerk in (first, second)]
-        for place, (marks, verdict) in enumerate(papers, 1):
-            if verdict is not None:
-                word = f"reject:{verdict}" if verdict else f"accept:{','.join(marks)}"
-                orders.append(f"judge {batch} {place} {word} --id v{batch}-{place}")
-        texts = [",".join(marks) if verdict is None else "D" for marks, verdict in papers]
-        self.office.write(f"{batch}.csv", keying(texts, self.ward.names))
-        return orders
+        for place, (marks, verdict) in enumerate(keyed, 1):
+            word = f"reject:{verdict}" if verdict else f"accept:{','.join(marks)}"
+            orders += [f"judge {batch} {place} {word} --id v{batch}-{place}"] * (verdict is not None)
+        if not papers:
+            break
+    return office.begin(orders + [f"seal {ward.number} --id s"] * ward.is_contested)

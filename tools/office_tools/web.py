@@ -1,5 +1,8 @@
-"""HTTP as bytes: requests, what a connection brings back, and a proxy before an office."""
+"""HTTP as bytes: requests, what a connection brings back, crowds of clients, and a proxy before an office."""
+import asyncio
 import base64
+import contextlib
+import itertools
 import re
 import socket
 import socketserver
@@ -8,9 +11,7 @@ import threading
 HERE = "127.0.0.1"
 PATIENCE = 60
 BROKEN = (BrokenPipeError, ConnectionResetError)
-PAGE = b"<!DOCTYPE html><title>elsewhere</title><body>"
-FOUND = b"HTTP/1.1 200 OK\r\nContent-Type: text/html\r\nConnection: close\r\nContent-Length: %d\r\n\r\n%b" % (len(PAGE), PAGE)
-MISSING = b"HTTP/1.1 404 Not Found\r\nConnection: close\r\nContent-Length: 0\r\n\r\n"
+PAGE = b"HTTP/1.1 200 OK\r\nContent-Type: text/html\r\nConnection: close\r\n\r\n<!DOCTYPE html><title>elsewhere</title><body>"
 
 
 def request(target, *headers, body="", method=""):
@@ -29,23 +30,18 @@ def basic(name, code):
 def received(line):
     """Reads until the connection ends, and closes it."""
     text = b""
-    with line:
-        try:
-            while piece := line.recv(65536):
-                text += piece
-        except ConnectionResetError:
-            pass
+    with line, contextlib.suppress(ConnectionResetError):
+        while piece := line.recv(65536):
+            text += piece
     return text
 
 
 def answer(line, sends, shut=False):
-    """Sends bytes, at wish without leaving the sending side open, and returns what comes back until the connection ends."""
-    try:
+    """Sends bytes, closes the sending side if `shut`, and returns what comes back until the connection ends."""
+    with contextlib.suppress(OSError):
         line.sendall(sends)
         if shut:
             line.shutdown(socket.SHUT_WR)
-    except OSError:
-        pass
     return received(line)
 
 
@@ -65,20 +61,65 @@ def is_whole(text):
     return bool(found) and len(found[2]) == int(found[1])
 
 
+class Crowd(threading.Thread):
+    """Clients who say nothing, or what they are told to, during a `with`. One that is disconnected, or goes, connects again."""
+
+    def __init__(self, port, count, sends=b"", *, host=HERE, goes=False, reads=True):
+        super().__init__(daemon=True)
+        self.address, self.count, self.came, self.is_over = (host, port), count, 0, False
+        self.sends, self.goes, self.reads = sends, goes, reads
+
+    async def connect(self):
+        """Connects, and stays until it is disconnected."""
+        loop = asyncio.get_running_loop()
+        with socket.socket(socket.AF_INET6 if ":" in self.address[0] else socket.AF_INET) as line, contextlib.suppress(OSError):
+            if not self.reads:
+                # What nobody reads fills these sockets soon.
+                line.setsockopt(socket.IPPROTO_TCP, socket.TCP_MAXSEG, 536)
+                line.setsockopt(socket.SOL_SOCKET, socket.SO_RCVBUF, 1)
+            line.setblocking(False)
+            await loop.sock_connect(line, self.address)
+            await loop.sock_sendall(line, self.sends)
+            self.came += 1
+            while not self.goes and (not self.reads or await loop.sock_recv(line, 65536)):
+                await asyncio.sleep(0 if self.reads else PATIENCE)
+
+    async def stay(self, number):
+        # Of those that go, five hundred come a second: more would ask than the office can answer.
+        pause = self.count / 500 if self.goes else 0.01
+        await asyncio.sleep(number * pause / self.count)
+        while True:
+            await asyncio.gather(self.connect(), asyncio.sleep(pause))
+
+    async def all(self):
+        clients = [asyncio.create_task(self.stay(number)) for number in range(self.count)]
+        while clients and not self.is_over:
+            await asyncio.sleep(0.05)
+
+    def run(self):
+        asyncio.run(self.all())
+
+    def __enter__(self):
+        self.start()
+        return self
+
+    def __exit__(self, kind, *_):
+        self.is_over = True
+        self.join()
+        assert kind or self.came >= self.count, f"of {self.count} clients {self.came} came"
+
+
 class Carried(socketserver.StreamRequestHandler):
     """A request that comes to a proxy, which carries it to the office, and the answer back."""
 
     def handle(self):
-        lines = [self.rfile.readline()]
-        while lines[-1] not in (b"\r\n", b""):
-            lines.append(self.rfile.readline())
-        head, proxy = b"".join(lines), self.server
-        length = re.search(rb"(?i)\r\ncontent-length: *(\d+)", head)
-        sends = head + self.rfile.read(int(length[1]) if length else 0)
-        if not lines[-1]:
+        proxy, lines = self.server, list(itertools.takewhile(bytes.strip, iter(self.rfile.readline, None)))
+        if not lines:
             return
+        length = re.search(rb"(?i)\ncontent-length: *(\d+)", b"".join(lines))
+        sends = b"".join([*lines, b"\r\n", self.rfile.read(int(length[1]) if length else 0)])
         proxy.asked.append(lines[0].decode().rstrip())
-        back = FOUND if sends.startswith(b"GET /page ") else ask(proxy.office, sends) if proxy.office else MISSING
+        back = ask(proxy.office, sends) if proxy.office and not sends.startswith(b"GET /page ") else PAGE
         if sends.startswith(b"POST") and proxy.cuts:
             proxy.cuts -= 1
         else:
@@ -86,7 +127,7 @@ class Carried(socketserver.StreamRequestHandler):
 
 
 class Proxy(socketserver.ThreadingTCPServer):
-    """A server that hands requests on to an office, and notes them; it may break once an answer is there. It has an empty page at /page."""
+    """A server that hands requests on to an office, and notes them. It drops the next `cuts` answers to a POST. It has a page at /page."""
 
     allow_reuse_address = daemon_threads = True
     request_queue_size = 64
@@ -97,10 +138,8 @@ class Proxy(socketserver.ThreadingTCPServer):
         threading.Thread(target=self.serve_forever, args=[0.02], daemon=True).start()
 
     def handle_error(self, *_):
-        """A connection that breaks is no fault of the proxy."""
+        """Says nothing of a connection that breaks."""
 
-    def close(self, *_):
+    def __exit__(self, *_):
         self.shutdown()
         self.server_close()
-
-    __exit__ = close

@@ -19,25 +19,13 @@ LARGE = {
     "desk": "replay run send_all send_lines send_turns tell_numbered",
     "count_office": "fill fill_open finish perform_held perform_on", "store_tests": "are_refused give",
 }
-FIXED = re.compile(r'.*"[^"]{60,}')
-
-
-def parameters(head):
-    """Returns the names of a function's parameters but itself and the allocator, from its head."""
-    text = re.sub("[-=]>", "", head)
-    while (plain := re.sub(r"<[^<>]*>", "", text)) != text:
-        text = plain
-    text = text[text.index("(") + 1:]
-    while (plain := re.sub(r"[(\[][^()\[\]]*[)\]]", "", text)) != text:
-        text = plain
-    names = [re.search(r"[a-z0-9]*$", part.split(":")[0].rstrip())[0] for part in text.split(")")[0].split(",") if part.strip()]
-    return [name for name in names if name not in ("self", "alloc")]
+PARAMETER, FIXED = re.compile(r"[(,]\s*(?:mut )?(?!alloc:)(?:\([^()]*\)|[a-z_]\w*):(?!:)"), re.compile(r'.*"[^"]{60,}')
 
 
 def sizes():
     """Yields what is larger than the house rules have it, and not named above, or named above and no longer larger."""
     for crate in sources.crates():
-        large = {f.name for f in crate.functions if len(parameters(f.head)) > PARAMETERS or f.body.count("\n") - 1 > LINES}
+        large = {f.name for f in crate.functions if len(PARAMETER.findall(f.head)) > PARAMETERS or f.body.count("\n") - 1 > LINES}
         for name in sorted(large ^ set(LARGE.get(crate.name, "").split())):
             yield f"{crate.name}: {name} has more than {PARAMETERS} parameters or {LINES} lines, and isn't among LARGE; or needn't be"
         paths = [] if crate.name.endswith("_tests") else [*crate.folder.glob("src/**/*.rt"), *crate.folder.glob("*/**/*.antt")]

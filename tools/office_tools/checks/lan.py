@@ -22,7 +22,7 @@ PORTS = {"1": True, "65535": True, "0": False, "65536": False, "080": False, "80
 
 def told(*words):
     """Returns the status of the script with --print, and what it prints on both outputs."""
-    ran = subprocess.run([ROOT / "tools/count-office-lan", "--print", *words], capture_output=True, text=True)
+    ran = subprocess.run([ROOT / "release/package/count-office-lan", "--print", *words], capture_output=True, text=True)
     return ran.returncode, ran.stdout, ran.stderr
 
 

@@ -20,12 +20,9 @@ def pages():
 
 def headings(page):
     """Returns the names of a page's headings, as links have them: one that comes again has a number after it."""
-    seen, names = {}, set()
-    for heading in re.findall(r"^#{1,6} +(.*)$", FENCED.sub("", page.read_text(encoding="utf-8")), re.M):
-        own = slug(re.sub(r"\[([^]]*)\]\([^)]*\)", r"\1", heading))
-        seen[own] = seen.get(own, -1) + 1
-        names.add(f"{own}-{seen[own]}" if seen[own] else own)
-    return names
+    found = re.findall(r"^#{1,6} +(.*)$", FENCED.sub("", page.read_text(encoding="utf-8")), re.M)
+    names = [slug(re.sub(r"\[([^]]*)\]\([^)]*\)", r"\1", heading)) for heading in found]
+    return {f"{name}-{names[:place].count(name)}".removesuffix("-0") for place, name in enumerate(names)}
 
 
 def lost(page):
@@ -35,10 +32,8 @@ def lost(page):
         to = (page.parent / file).resolve() if file else page
         if re.match(r"[a-z]+:", target):
             continue
-        if not to.exists():
-            yield f"{page.name}: no file of {target}"
-        elif heading and (to.suffix != ".md" or heading not in headings(to)):
-            yield f"{page.name}: no heading of {target}"
+        if not to.exists() or heading and (to.suffix != ".md" or heading not in headings(to)):
+            yield f"{page.name}: no file or heading of {target}"
 
 
 def unlinked():

@@ -1,9 +1,8 @@
 """Compares what names the orders of the program with the program's own help.
 
-The program tells its orders by `--help`, and the words of each by `ORDER --help`. By these are compared: what `--help` tells of the words
-of orders, and their examples; the tables of orders and of words, with their ranges, in docs/ORDERS.md; the orders that a script may
-have, in docs/IMPORTS.md; the orders that examples/help.sh plays; and the election of tools/try, which has each order that a
-script may have. Which these are, the program tells of a script of one line.
+These are what `--help` tells of the words of orders, and their examples; the tables of orders and of words, with their ranges, in
+docs/ORDERS.md; the orders that a script may have, in docs/IMPORTS.md; the orders that examples/help.sh plays; and the election of
+tools/try, which has each order that a script may have. Which these are, the program tells of a script of one line.
 """
 import re
 import shlex
@@ -13,27 +12,6 @@ from office_tools.office import ROOT, SCRIPT, Office, program, temporary_folder
 from office_tools.releasing import help as helps
 
 RANGE = re.compile(r"\d+ to \d+")
-PLAYED = "tools/office_tools/election.py"
-differences = []
-
-
-def differ(place, what, is_so=False):
-    if not is_so:
-        differences.append(f"{place}: {what}")
-
-
-def same(place, what, found, wanted):
-    differ(place, f"{what}: {found} is not {wanted}", found == wanted)
-
-
-def same_names(place, found, wanted):
-    for name in sorted(set(found) ^ set(wanted)):
-        differ(place, f"{name} {'is no order there' if name in found else 'is missing'}")
-    differ(place, "an order stands twice", len(set(found)) == len(found))
-
-
-def text_of(path):
-    return (ROOT / path).read_text(encoding="utf-8")
 
 
 class Order:
@@ -42,20 +20,18 @@ class Order:
     def __init__(self, told):
         self.has_id, self.has_many = "--id <ID>" in told.usage, told.usage.endswith("...")
         self.name, *self.words = re.sub(r" --id <ID>| \[OPTIONS\]|[<>]", "", told.usage).split()
+        self.typed = " ".join([self.name, *self.words, *["--id ID"] * self.has_id])
         self.options = [re.sub("[<>]", "", option.name) for option in told.long_options() if option.name != "--id <ID>"]
         self.example = shlex.split(told.example.removeprefix("count-office town.db "))
-        named = {re.search(r"[<[](\w+)", item.name): item.text for item in told.words + told.options}
-        self.ranges = {found[1]: RANGE.findall(text) for found, text in named.items() if found}
-
-    def typed(self):
-        return " ".join([self.name, *self.words, *(["--id ID"] if self.has_id else [])])
+        named = [(re.search(r"[<[](\w+)", item.name), item.text) for item in told.words + told.options]
+        self.ranges = {found[1]: RANGE.findall(text)[:1] for found, text in named if found}
 
     def takes(self, words):
         """Returns whether the words are of its form; some may be left out, and the last one may be there any number of times."""
         needed = [word for word in self.words if word[0] != "["]
         given = words[1:words.index("--id")] if "--id" in words else words[1:]
         is_enough = len(needed) <= len(given) and (self.has_many or len(given) <= len(self.words))
-        return words[0] == self.name and is_enough and ("--id" in words) == self.has_id
+        return words[:1] == [self.name] and is_enough and ("--id" in words) == self.has_id
 
 
 def in_script(order):
@@ -66,43 +42,50 @@ def in_script(order):
         return "stands in no script" not in office.run("replay", SCRIPT).err
 
 
-def check_pages(orders, scripted):
-    """Compares the tables of docs/ORDERS.md, and the list of docs/IMPORTS.md."""
-    place, text, ranges = "docs/ORDERS.md", text_of("docs/ORDERS.md"), {}
+def unlike(place, found, wanted):
+    """Yields the names that stand in one of two lists alone, and whether one stands twice."""
+    yield from (f"{place}: {name} {'is no order there' if name in found else 'is missing'}" for name in sorted(set(found) ^ set(wanted)))
+    if len(set(found)) < len(found):
+        yield f"{place}: an order stands twice"
+
+
+def unlike_in_pages(orders, scripted):
+    """Yields what the tables of docs/ORDERS.md, the list of docs/IMPORTS.md and examples/help.sh have otherwise."""
+    text = (ROOT / "docs/ORDERS.md").read_text(encoding="utf-8")
     rows = re.findall(r"^\| `([a-z-]+)([^`]*)` \| (.*)$", text.split("\n## All orders\n")[1].split("\n## ")[0], re.M)
-    same_names(place, [name for name, _, _ in rows], orders)
-    for name, words, rest in rows:
-        if name in orders:
-            same(place, name, name + words, orders[name].typed())
-            for option in orders[name].options:
-                differ(place, f"{name}: {option} is missing", f"`{option}`" in rest)
-    for names, told in re.findall(r"^\| ([A-Z_, ]+) \| (.*) \|$", text.split("| Word | Range |")[1].split("\n\n")[0], re.M):
-        ranges.update({name: RANGE.findall(told)[:1] for name in names.split(", ")})
+    yield from unlike("docs/ORDERS.md", [name for name, _, _ in rows], orders)
+    for order, words, rest in ((orders[name], words, rest) for name, words, rest in rows if name in orders):
+        if order.name + words != order.typed:
+            yield f"docs/ORDERS.md: {order.name + words} is not {order.typed}"
+        yield from (f"docs/ORDERS.md: {order.name}: {option} is missing" for option in order.options if f"`{option}`" not in rest)
+    table = re.findall(r"^\| ([A-Z_, ]+) \| (.*) \|$", text.split("| Word | Range |")[1].split("\n\n")[0], re.M)
+    ranges = {name: RANGE.findall(told)[:1] for names, told in table for name in names.split(", ")}
     for order in orders.values():
         for word, told in order.ranges.items():
-            same(place, f"{word} of {order.name}", ranges.get(word), told[:1])
-    scripts = text_of("docs/IMPORTS.md").split("These orders may stand in it:")[1].split("\n")[0]
-    same_names("docs/IMPORTS.md, scripts", re.findall(r"`([a-z-]+)`", scripts), scripted)
+            if ranges.get(word) != told:
+                yield f"docs/ORDERS.md: {word} of {order.name}: {ranges.get(word)} is not {told}"
+    imports = (ROOT / "docs/IMPORTS.md").read_text(encoding="utf-8").split("These orders may stand in it:")[1].split("\n")[0]
+    yield from unlike("docs/IMPORTS.md, scripts", re.findall(r"`([a-z-]+)`", imports), scripted)
+    played = (ROOT / "examples/help.sh").read_text(encoding="utf-8").split("for order in ")[1].split("; do")[0]
+    yield from unlike("examples/help.sh", played.replace("\\\n", " ").split(), orders)
+
+
+def differences():
+    commands, listed = helps.listed(program())
+    orders = {told.name: Order(told) for told in helps.orders(program())}
+    yield from unlike("--help", [*commands, *(name for name, _ in listed)], orders)
+    for name, order in orders.items():
+        if not (order.name == name and order.takes(order.example)):
+            yield f"--help: the help of {name}, or its example, is of other words"
+    for typed, order in ((f"{name} {words}".strip(), orders[name]) for name, words in listed):
+        if typed != order.typed:
+            yield f"--help: {typed} is not {order.typed}"
+    scripted = {name for name, order in orders.items() if order.example and in_script(order)}
+    yield from unlike_in_pages(orders, scripted)
+    played = [order.words for order in (*ELECTION, REPLAY, *(order for _, order in READS))]
+    yield from (f"election.py: {words} is no order" for words in played if words[0] not in orders or not orders[words[0]].takes(words))
+    yield from (f"election.py: {name} is missing" for name in sorted((scripted | {"init"}) - {words[0] for words in played}))
 
 
 def main():
-    commands, listed = helps.listed(program())
-    orders = {told.name: Order(told) for told in helps.orders(program())}
-    differ("--help", "an order stands twice", len(orders) == len(commands) + len(listed))
-    for name, order in orders.items():
-        same("--help", f"the help of {name}", order.name, name)
-        differ("--help", f"{name}: its example is not of its words", bool(order.example) and order.takes(order.example))
-    for name, words in listed:
-        same("--help", name, f"{name} {words}".strip(), orders[name].typed())
-    scripted = {name for name, order in orders.items() if order.example and in_script(order)}
-    check_pages(orders, scripted)
-    played = text_of("examples/help.sh").split("for order in ")[1].split("; do")[0].replace("\\\n", " ").split()
-    same_names("examples/help.sh", played, orders)
-    election = [*ELECTION, REPLAY, *(order for _, order in READS)]
-    for order in election:
-        differ(PLAYED, f"{order.name} is no order", order.words[0] in orders and orders[order.words[0]].takes(order.words))
-    for name in sorted((scripted | {"init"}) - {order.words[0] for order in election}):
-        differ(PLAYED, f"{name} is missing")
-    if not differences:
-        print(f"{len(orders)} orders, each named as the program names it")
-    return differences
+    return list(differences())

@@ -3,9 +3,6 @@ import io
 import lzma
 import tarfile
 
-# What reading an archive raises if it is damaged.
-DAMAGED = (tarfile.TarError, lzma.LZMAError, EOFError, OSError)
-
 
 def tar_bytes(files, time):
     """Returns a tar archive of {path: (mode, bytes)}, each entry at the same time. A path that ends in / is a folder."""
@@ -26,20 +23,6 @@ def xzed(plain):
 
 def files_of(archive):
     """Returns {path: (mode, bytes)} of an archive, without the folder that they are in, and the time of its files."""
-    with tarfile.open(fileobj=io.BytesIO(archive), mode="r:*") as tar:
+    with tarfile.open(fileobj=io.BytesIO(archive)) as tar:
         entries = [entry for entry in tar if entry.isfile()]
         return {entry.name.partition("/")[2]: (entry.mode, tar.extractfile(entry).read()) for entry in entries}, entries[-1].mtime
-
-
-def first_difference(own, other):
-    """Returns the first difference between two sets of files, in a sentence; None if they are equal."""
-    for path in sorted(own.keys() | other.keys()):
-        if path not in own or path not in other:
-            return f"{path} is {'in the release alone' if path in other else 'missing in the release'}"
-        (own_mode, own_text), (mode, text) = own[path], other[path]
-        if own_mode != mode:
-            return f"{path} has the mode {mode:o} in the release, and {own_mode:o} as built here"
-        if own_text != text:
-            same = (at for at, (a, b) in enumerate(zip(own_text, text)) if a != b)
-            return f"{path} differs from byte {next(same, min(len(own_text), len(text)))} on"
-    return None

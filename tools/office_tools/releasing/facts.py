@@ -8,25 +8,16 @@ from pathlib import Path
 from office_tools.office import ROOT
 
 PROGRAMS = {"count-office": "count_office", "check-count": "check_count"}
-VERSION = "crates/desk/src/version.rt"
+PACKAGE, VERSION, BUILT_FROM = ROOT / "release/package", "crates/desk/src/version.rt", "lib/count-office/BUILT-FROM"
 
 
 def fail(text):
     raise SystemExit(f"{Path(sys.argv[0]).name}: {text}")
 
 
-def read(path):
-    try:
-        return Path(path).read_bytes()
-    except OSError as error:
-        fail(f"cannot read {path}: {error.strerror}")
-
-
 def said(*words, **how):
-    ran = subprocess.run(words, cwd=ROOT, stdout=subprocess.PIPE, text=True, **how)
-    if ran.returncode:
-        fail(f"{' '.join(map(str, words))} ended with {ran.returncode}")
-    return ran.stdout.strip()
+    """Returns what a command prints; it has to end with status 0."""
+    return subprocess.run(words, cwd=ROOT, check=True, stdout=subprocess.PIPE, text=True, **how).stdout.strip()
 
 
 def sha256(content):
@@ -35,22 +26,20 @@ def sha256(content):
 
 def told(text, name):
     """Returns what a line of BUILT-FROM says."""
-    found = re.search(f"^{re.escape(name)}: (.*)$", text, re.M)
-    return found[1] if found else "none"
+    return re.search(f"^{re.escape(name)}: (.*)$", text, re.M)[1]
 
 
-def put_program(folder, name, content):
-    """Writes a program into a folder, and returns its path."""
-    path = Path(folder, name)
-    path.write_bytes(content)
-    path.chmod(0o755)
-    return path
+def filled(name, **texts):
+    """Returns a file of release/package/ with texts in place of their names: `NAME` in a line, or a line of its own that is `# NAME`."""
+    names = "|".join(texts)
+    frame = (PACKAGE / name).read_text(encoding="utf-8")
+    return re.sub(rf"^ *# ({names})\n|\b({names})\b", lambda found: texts[found[1] or found[2]], frame, flags=re.M)
 
 
 def version():
     """Returns the number in the sources, which CHANGELOG.md has to begin with; above it only what comes next may be listed."""
-    own = re.search(r'^pub const VERSION: &str = "(\d+\.\d+\.\d+)";$', read(ROOT / VERSION).decode(), re.M)
-    newest = re.search(r"^## (?!Next$)(\S+)", read(ROOT / "CHANGELOG.md").decode(), re.M)
-    if not own or not newest or newest[1] != own[1]:
-        fail(f"CHANGELOG.md begins with version {newest and newest[1]}, and {VERSION} has {own and own[1]}")
+    own = re.search(r'^pub const VERSION: &str = "(\d+\.\d+\.\d+)";$', (ROOT / VERSION).read_text(encoding="utf-8"), re.M)
+    newest = re.search(r"^## (?!Next$)(\S+)", (ROOT / "CHANGELOG.md").read_text(encoding="utf-8"), re.M)
+    if newest[1] != own[1]:
+        fail(f"CHANGELOG.md begins with version {newest[1]}, and {VERSION} has {own[1]}")
     return own[1]

@@ -1,67 +1,59 @@
-"""Fails each call on the disk of each order that writes, in several ways, and sees that nothing is lost.
+"""Fails each call on the disk of each order that writes, and sees that nothing is lost.
 
-A file without room gets a page more each time. docs/HOSTILE.md says what must hold in each run. LIMIT is the most calls of a file, way and
-order, 0 for all; ORDER means the orders of this name alone.
+docs/HOSTILE.md says what must hold in each run. STEP tries one call in STEP, ORDER the orders of one name alone.
 """
-import functools
-import itertools
+import collections
+import re
 
 from office_tools.election import COPY, COPY_LOG, FILE
-from office_tools.office import LOG, SCRIPT, TOWN, temporary_folder
+from office_tools.office import LOG, SCRIPT, TOWN, Wrong, needs, temporary_folder
 from office_tools.tables import Table, added
-from office_tools.trials import NOT_WRITTEN, RESULTS, library, side_by_side, trials
+from office_tools.trials import CALL, NOT_WRITTEN, ON_FILES, RESULTS, side_by_side, trials
 
-PAGE = 4096
-FAULTS, READING = [r"fault 102: store"], [r"file fault 8 at record \d+: read failed"]
-OFFICE, COPIED, FOLDER = [(TOWN, "DB"), (LOG, "its log")], [(COPY, "a copy"), (COPY_LOG, "a copy's log")], [("run", "the folder")]
-GONE = [(":".join(name for name, _ in files), what) for files, what in ((OFFICE + COPIED + FOLDER, "any"), (COPIED, "a copy and its log"))]
-READ = [(FILE, "the import file"), (SCRIPT, "the script")]
-# A way of failing: its name in the library, what it is, the files, each alone, and what the program may report.
-WAYS = [
-    ("once", "a call fails once", OFFICE + FOLDER + COPIED, FAULTS),
-    ("gone", "all calls fail from one on", GONE, FAULTS),
-    ("torn", "a write moves one byte, and no later one any", OFFICE + COPIED, FAULTS),
-    ("room", "no room past a length", OFFICE + COPIED, FAULTS),
-    ("less", "a read gives a byte less", OFFICE + COPIED, FAULTS),
-    ("one", "a read gives one byte", OFFICE + COPIED, FAULTS),
-    ("written", "a write takes one byte, and the next the others", OFFICE + COPIED, []),
-    ("once", "a call fails once", READ, READING),
-    ("one", "a read gives one byte", READ, []),
-]
-KINDS = [(way, what, name, file, faults) for way, what, files, faults in WAYS for name, file in files]
+FAULT, GONE_FILE, READ = "fault 102: store", "fault 113: file gone or replaced", r"file fault 8 at record \d+: read failed"
+COPIED, EVERY = [COPY, COPY_LOG], [TOWN, LOG, COPY, COPY_LOG, "."]
+ONCE, GONE, ROOM = "a call fails once", "all calls fail from one on", "no room past a length, which cuts a write"
+KINDS = [
+    (ONCE, "DB", [TOWN]), (ONCE, "its log", [LOG]), (ONCE, "the folder", ["."]), (ONCE, "a copy", [COPY]),
+    (ONCE, "a copy's log", [COPY_LOG]), (ONCE, "the import file", [FILE]), (ONCE, "the script", [SCRIPT]), (GONE, "any", EVERY),
+    (GONE, "a copy and its log", COPIED), (ROOM, "any", EVERY)]
+WRITE = re.compile(r" pwrite64\(.*, (\d+), (\d+)\) = ")
 
 
-def refusals(trial, made, way, name, limit):
-    """Yields each failure in turn: its name, and what the library is told."""
-    path = trial.office.folder / name
-    size = path.stat().st_size if way == "room" and path.exists() else 0
-    for call in range(1, limit + 1) if limit else itertools.count(1):
-        room = (size // PAGE + call - 1) * PAGE if call > 1 else size
-        env = {"LD_PRELOAD": made, "REFUSING_WAY": way, "REFUSING_NAMES": name, "REFUSING_CALL": str(call), "REFUSING_ROOM": str(room)}
-        yield f"{way} {name} {room if way == 'room' else call}", env
+def allowed(trial, names):
+    """Returns what the program may report. A copy reports its own files as its own; `serve` takes a file that it can't see for gone."""
+    if names in ([FILE], [SCRIPT]):
+        return [READ]
+    if not trial.is_copy:
+        return [FAULT, GONE_FILE] if trial.order.sends else [FAULT]
+    return [NOT_WRITTEN] if set(names) <= set(COPIED) else [FAULT, NOT_WRITTEN]
 
 
-def allowed(trial, name, faults):
-    """Returns what the program may report: that a copy can't be written if its own files fail, or else that too."""
-    if not trial.is_copy or not faults:
-        return faults
-    return [NOT_WRITTEN] if name.startswith(COPY) else [*faults, NOT_WRITTEN]
+def refusals(trial, way, names, step):
+    """Yields each failure: its name, and how the order is given. Each order begins with another call, so not all miss the same."""
+    how, trace = {"names": names, "faults": allowed(trial, names)}, trial.traced(names)[-1]
+    if way == ROOM:
+        for room in sorted({int(place) + int(length) // 2 for length, place in WRITE.findall(trace)})[trial.number % step::step]:
+            yield f"room for {room} bytes", {"under": ["prlimit", f"--fsize={room}"], **how}
+        return
+    calls = CALL.findall(trace)
+    for number in range(trial.number % step, len(calls), step):
+        before = collections.Counter(calls[:number])
+        which = [f"{name}:error=EIO:when={before[name] + 1}" for name in (calls[number:number + 1] if way == ONCE else ON_FILES)]
+        yield f"{way}: {which[0]}", {"changes": which if way == ONCE else [f"{one}+" for one in which], "keeps": way == GONE, **how}
 
 
-def runs(trial, made, limit):
-    return [trial.runs(refusals(trial, made, way, name, limit), allowed(trial, name, faults)) for way, _, name, _, faults in KINDS]
-
-
-def main(limit=0, order=""):
+def main(step=1, order=""):
+    needs("strace")
     totals = [[0] * 6 for _ in KINDS]
     with temporary_folder() as folder:
         tried = [trial for trial in trials(folder, order) if len(trial.states) > 1]
-        try:
-            for _, found in side_by_side(functools.partial(runs, made=library(folder), limit=limit), tried):
-                totals = [added(total, counts) for total, counts in zip(totals, found)]
-        finally:
-            title = (f"`{order}`" if order else f"{len(tried)} orders") + (f", {limit} calls at most" if limit else "")
-            table = Table(f"The disk ({title})", "of", "runs", "a fault reported", "answered all the same", *RESULTS)
-            for (_, what, _, file, _), counts in zip(KINDS, totals):
-                if counts[0]:
-                    table.row(what, file, *counts)
+        for found in side_by_side(lambda one: [one.runs(refusals(one, way, names, step)) for way, _, names in KINDS], tried):
+            totals = [added(total, counts) for total, counts in zip(totals, found)]
+    title = (f"`{order}`" if order else f"{len(tried)} orders") + (f", one call in {step}" if step > 1 else "")
+    table = Table(f"The disk ({title})", "of", "runs", "a fault reported", "answered all the same", *RESULTS)
+    for (way, what, _), counts in zip(KINDS, totals):
+        if counts[0]:
+            table.row(way, what, *counts)
+    if not sum(counts[0] for counts in totals):
+        raise Wrong("no call failed")

@@ -1,105 +1,95 @@
 """Opens pages from elsewhere in Chromium, which try to key and to read at an office on this machine.
 
-None of them may. Then `curl` keys and reads, the work is opened as if typed, and a page of the origin that `serve` was given by
-`--origin` keys and reads through a proxy: these must be answered. It needs the programs `chromium` and `curl`.
+None of them may. With --codes the office asks for codes, and the browser is logged in as the clerk whose batches they are. Then the work
+is opened as if typed, and a page of the origin that `serve` was given by `--origin` keys and reads through a proxy: these must be answered.
+It needs `chromium`, `chromium-driver` and `python3-selenium`.
 """
-import subprocess
+import json
 
-from office_tools.browser import LOOSE, NAME, PLACES, Browser, is_of_office, tries
-from office_tools.election import ward_orders
-from office_tools.office import SECONDS, Office, Wrong, free_port, needs, temporary_folder
+from office_tools.browser import Browser
+from office_tools.election import CODES, ward_orders
+from office_tools.office import ROOT, Office, Wrong, free_port, temporary_folder
 from office_tools.tables import Table
 from office_tools.web import HERE, Proxy
 
-CLERK, FIRST, BATCHES = 4, 100, 120
-PAGES = ("another port", "a name that leads here", "a name that leads here, at that name")
+CLERK, FIRST, BATCHES, NAME = 4, 100, 50, "elsewhere.example"
+# Words for Chromium: the name leads to this machine, and no newer guard of its own stands before that of the office.
+LOOSE = ("--disable-features=LocalNetworkAccessChecks,BlockInsecurePrivateNetworkRequests", f"--host-resolver-rules=MAP {NAME} {HERE}")
+# What pages are, where they come from, and where they look for the office.
+PAGES = ("another port", HERE, HERE), ("a name that leads here", NAME, HERE), ("a name that leads here, at that name", NAME, NAME)
+
+
+def is_of_office(text):
+    """Returns whether a text that was read is something of an office."""
+    return any(word in text for word in ('"work"', '"reply"', '"refusal"', "atch", "lerk"))
 
 
 class Tried:
     """An office with a batch for each try, and the table of what came of them."""
 
-    def __init__(self, folder, browser):
-        self.browser, self.office, self.port, self.kept, self.wrong = browser, Office(folder / "office"), free_port(), set(), 0
+    def __init__(self, folder, browser, codes):
+        self.browser, self.office, self.port, self.wrong = browser, Office(folder), free_port(), 0
+        self.login, self.words = (f"{CLERK}:{CODES[CLERK]}@", ["--codes", "codes.txt"]) if codes else ("", [])
+        self.office.write_codes(CODES)
         self.office.begin(ward_orders(*((batch, 1, CLERK, 9) for batch in range(FIRST, FIRST + BATCHES))))
         self.table = Table("A page of", "tries", "kept", "read")
 
     def serve(self, *words):
-        return self.office.serve(*words, port=self.port).wait()
+        return self.office.serve(*words, *self.words, port=self.port).wait()
 
-    def address(self, host=HERE):
-        return f"http://{host}:{self.port}"
+    def type(self, host, port):
+        """Types the address of the clerk's work, with the login if the office asks for it. The browser must show the work."""
+        self.browser.open(f"http://{self.login}{host}:{port}/clerks/{CLERK}/work")
+        is_shown = is_of_office(self.browser.text())
+        self.table.row(f"no page: typed, at {host}", "the work", "", "read" if is_shown else "–")
+        self.wrong += not is_shown
 
-    def note_kept(self):
-        self.kept |= {receipt[1] for receipt in self.office.rows()["receipt"] if receipt[0] == CLERK}
-
-    def row(self, what, tried, is_kept, is_read):
-        self.table.row(what, tried, {None: "", True: "kept", False: "–"}[is_kept], "read" if is_read else "–")
-
-    def opened(self, address, office, batch, meanwhile=lambda: None):
-        """Opens a page, and returns what it tried."""
-        window = self.browser.another()
-        window.open(address)
-        meanwhile()
-        found = tries(window, office, batch)
-        window.close()
-        return found
+    def opened(self, page, office, batch, meanwhile=lambda: None):
+        """Opens a page, and returns what it tried. A host and a port say whose page it is, and where it looks for the office."""
+        setting = {"office": "http://%s:%d" % office, "batch": batch, "turns": 3}
+        with self.browser.another():
+            self.browser.open("http://%s:%d/page" % page)
+            meanwhile()
+            script = (ROOT / "tools/office_tools/elsewhere.js").read_text(encoding="utf-8")
+            return self.browser.value(script.replace("SETTING", json.dumps(setting)))
 
     def show(self, what, tried, must_pass=False):
         """Prints a line for each try. None may pass; or some must, to key and to read."""
-        results = [(name, own in self.kept, is_of_office(text)) for name, own, text in tried]
-        for result in results:
-            self.row(what, *result)
-        _, kept, read = zip(*results)
-        self.wrong += not (any(kept) and any(read)) if must_pass else sum(map(max, kept, read))
+        receipts = {receipt[1] for receipt in self.office.rows()["receipt"]}
+        kept, read = [own in receipts for _, own, _ in tried], [is_of_office(text) for *_, text in tried]
+        for (name, *_), is_kept, is_read in zip(tried, kept, read):
+            self.table.row(what, name, "kept" if is_kept else "–", "read" if is_read else "–")
+        self.wrong += not (any(kept) and any(read)) if must_pass else any(kept) + any(read)
 
     def pages(self):
         """Opens the pages that may neither key nor read."""
         with self.serve(), Proxy() as pages:
-            found = [self.opened(f"http://{page}:{pages.port}/page", self.address(office), FIRST + 20 * number)
-                     for number, (page, office) in enumerate(PLACES)]
+            self.type(HERE, self.port)
+            for number, (what, page, office) in enumerate(PAGES):
+                self.show(what, self.opened((page, pages.port), (office, self.port), FIRST + 10 * number))
         servings, front = [], Proxy(port=self.port)
 
         def changes():
-            front.close()
+            front.__exit__()
             servings.append(self.serve())
         # The page comes from the very address that the office has afterwards.
-        found.append(self.opened(self.address(NAME) + "/page", self.address(NAME), FIRST + 60, changes))
+        tried = self.opened((NAME, self.port), (NAME, self.port), FIRST + 30, changes)
         servings[0].kill()
-        self.note_kept()
-        for what, tried in zip((*PAGES, "the office's own address, by another name"), found):
-            self.show(what, tried)
+        self.show("the office's own address, by another name", tried)
 
-    def others(self):
-        """Asks without a page, and through a proxy: these are answered."""
-        work, batch = f"{self.address()}/clerks/{CLERK}/work", FIRST + 80
-        with self.serve():
-            read = curled(work)
-            reply = curled("-d", '{"id":"curl","round":1,"papers":["1,2,"]}', f"{self.address()}/clerks/{CLERK}/batches/{batch}/keying")
-            for name in (HERE, "localhost"):
-                self.browser.open(work.replace(HERE, name))
-                text = self.browser.text()
-                self.wrong += not is_of_office(text)
-                self.row(f"no page: typed, at {name}", "the work", None, is_of_office(text))
-        self.note_kept()
-        self.row("no page: `curl`", "a POST and the work", "curl" in self.kept, is_of_office(read))
-        self.wrong += not is_of_office(read) or reply != f'{{"reply":"batch {batch} round 1 keyed"}}' or "curl" not in self.kept
-        with Proxy(self.port) as front:
-            origin = f"http://{NAME}:{front.port}"
-            with self.serve("--origin", origin):
-                found = self.opened(f"{origin}/page", origin, FIRST + 100)
-        self.note_kept()
-        self.show("the origin that was given, through a proxy", found, True)
+    def origin(self):
+        """Opens the work by another name, and a page of the origin that `serve` is given: these are answered."""
+        with Proxy(self.port) as front, self.serve("--origin", f"http://{NAME}:{front.port}"):
+            for host, port in (("localhost", self.port), (NAME, front.port)):
+                self.type(host, port)
+            tried = self.opened((NAME, front.port), (NAME, front.port), FIRST + 40)
+            self.show("the origin that was given, through a proxy", tried, True)
 
 
-def curled(*words):
-    return subprocess.run(["curl", "--silent", "--max-time", str(SECONDS), *words], capture_output=True, text=True, check=False).stdout
-
-
-def main():
-    needs("chromium", "curl")
-    with temporary_folder() as folder, Browser(folder, words=LOOSE) as browser:
-        tried = Tried(folder, browser)
+def main(*, codes=False):
+    with temporary_folder() as folder, Browser(LOOSE) as browser:
+        tried = Tried(folder, browser, codes)
         tried.pages()
-        tried.others()
+        tried.origin()
     if tried.wrong:
         raise Wrong(f"{tried.wrong} otherwise than it must be")

@@ -6,63 +6,40 @@ log, but root's, or if others may write to DB; `serve` refuses another's codes (
 import os
 import random
 import re
-import shlex
 import shutil
-import sqlite3
-import stat
 
 from office_tools.damage import noise
-from office_tools.election import execute, keying, ward_orders
+from office_tools.election import COPYING, ELECTION, END, FILE, READS, REPLAY, REQUESTS, execute, offices
 from office_tools.office import LOG, TOWN, Office, Wrong, remove, temporary_folder
 from office_tools.tables import Table
 from office_tools.web import request, status
 
-JOURNAL, PAGE, BITS_A_PAGE, FILE = "town.db-journal", 4096, 6, "keying.csv"
-PAPERS = ["1,2,"] * 4 + ["1,,2"] * 2 + [",1,", ",,1", ",,1"]
-MADE = ["init", *ward_orders((12, len(PAPERS), 4, 9))]
-COUNTED = [f"import-keying 4 12 1 {FILE} --id k", f"import-keying 9 12 1 {FILE} --id k", "seal 7 --id s", "advance 7 --id a"]
+JOURNAL, PAGE, BITS_A_PAGE = "town.db-journal", 4096, 6
 STATUS, QUAY = "status 7", "ward 8 1 Quay --id q"
-# Every other order, each with words that it understands.
-FURTHER = [
-    "withdraw 7 2 --id x", "third 12 5 --id t", "again 12 --id g", "judge 12 1 accept:1,2, --id j", "lot 7 3 2 --id l", "declare 7 --id d",
-    f"import-candidates {FILE} --id i", STATUS, "wards", "batches 7", "doubtful 7", "differences 12", "papers 12", "receipts", "journal",
-    "next 7", "sheet 7", "ballots 7", "result 7", "page 7", "table 7", "index", f"key 9 12 1 {' '.join(PAPERS)} --id y", "count 7 --id e",
-    f"replay {FILE}", "copy copy.db", "migrate", "serve 65000 1"]
-EVERY = [shlex.split(line) for line in MADE + COUNTED + FURTHER]
+# Every order, each with words that it understands.
+EVERY = [order.words for order in (*ELECTION, REPLAY, COPYING, *(order for _, order in READS))] + [
+    line.split() for line in ("ballots 7", "page 7", "table 7", "index", "migrate", "serve 65000 1")]
 # The longest log that `init` begins before it writes the first page of the file.
 BEGUN, FRAME = 41, 24 + PAGE
 LENGTHS = [0, 1, 31, 32, BEGUN, BEGUN + 1, 55, 56, 511, 512, 567, 568, FRAME + 31, FRAME + 32, 3 * PAGE]
-LOG_LENGTHS = (1, 31, 32, 40, PAGE, 3 * PAGE)
-STRANGE = ["CREATE TABLE a (b)", "CREATE TABLE office (x)", "CREATE TABLE ward (ward INT)"]
-OTHERS = [
+OTHERS = (
     "CREATE TABLE other (x)", "CREATE VIEW seen AS SELECT * FROM ward", "CREATE INDEX by_name ON ward (name)",
-    "CREATE TRIGGER t AFTER INSERT ON ward BEGIN DELETE FROM candidate; END", "CREATE TABLE child (x INT REFERENCES ward (ward))"]
+    "CREATE TRIGGER t AFTER INSERT ON ward BEGIN DELETE FROM candidate; END", "CREATE TABLE child (x INT REFERENCES ward (ward))")
 FAULT_105 = (3, "", "fault 105: wrong database\n")
 STRANGER = 65534
 FOREIGN_LOG = (3, "", "fault 102: store\ntown.db-wal belongs to another account than town.db, and isn't read\n")
 NO_SOCKET = "no socket for orders beside the database: the database belongs to another account\n"
 
 
-def small_office(folder, orders):
-    office = Office(folder)
-    office.write(FILE, keying(PAPERS, range(1, 4)))
-    for line in orders:
-        office.do(*shlex.split(line))
-    return office
-
-
-def changed(folder, town, statement):
+def changed(path, town, statement):
     """Returns the bytes of a database after a statement."""
-    path = folder / "made.db"
     path.write_bytes(town)
     execute(path, statement)
-    found = path.read_bytes()
-    remove(path)
-    return found
+    return path.read_bytes()
 
 
 def kinds(folder, town, chance):
-    """Returns [(what, the files' bytes, the logs' or None)]."""
+    """Returns [(what, the files' bytes)]."""
     def turned(place):
         return town[:place] + bytes([town[place] ^ 1 << chance.randrange(8)]) + town[place + 1:]
 
@@ -70,19 +47,14 @@ def kinds(folder, town, chance):
         return town[:a] + town[b:b + PAGE] + town[a + PAGE:b] + town[a:a + PAGE] + town[b + PAGE:]
 
     pages, lengths = range(0, len(town), PAGE), (100, 101, 512, PAGE, len(town))
-    return [(what, files) for what, *files in (
-        ("random bytes", [noise(chance, length) for length in (0, 2, 15, 16, 100, 512, PAGE, 3 * PAGE, len(town)) for _ in range(4)]),
-        ("one byte", [noise(chance, 1) for _ in range(4)]),
+    return [
+        ("random bytes", [noise(chance, length) for length in (0, 1, 2, 15, 16, 100, 512, PAGE, 3 * PAGE, len(town)) for _ in range(4)]),
         ("a header and random bytes", [town[:100] + noise(chance, length - 100) for length in lengths for _ in range(4)]),
-        ("cut before each page", [town[:place] for place in pages]),
-        ("cut within each page", [town[:place + chance.randrange(1, PAGE)] for place in pages]),
+        ("cut before and within each page", [town[:place + more] for place in pages for more in (0, chance.randrange(1, PAGE))]),
         ("a page of zeros", [town[:place] + bytes(PAGE) + town[place + PAGE:] for place in pages]),
         ("one bit turned in each page", [turned(place + chance.randrange(PAGE)) for place in pages for _ in range(BITS_A_PAGE)]),
         ("two pages of each other's", [swapped(*sorted(chance.sample(pages, 2))) for _ in range(20)]),
-        ("another program's", [changed(folder, b"", text) for text in STRANGE]),
-        ("an office with other things beside", [changed(folder, town, text) for text in OTHERS]),
-        ("an office and a log of random bytes", [town] * len(LOG_LENGTHS), [noise(chance, length) for length in LOG_LENGTHS]),
-        ("no file, and a log of random bytes", [None] * len(LOG_LENGTHS), [noise(chance, length) for length in LOG_LENGTHS]))]
+        ("an office with other things beside", [changed(folder / "changed.db", town, text) for text in OTHERS])]
 
 
 def put(folder, **contents):
@@ -97,21 +69,10 @@ def put(folder, **contents):
     return office
 
 
-def seen(folder):
-    """Returns every name of a folder, and what it is."""
-    found = {}
-    for path in sorted(folder.iterdir()):
-        kind = stat.S_IFMT(path.lstat().st_mode)
-        content = os.readlink(path) if stat.S_ISLNK(kind) else path.read_bytes() if stat.S_ISREG(kind) else sorted(os.listdir(path))
-        found[path.name] = kind, content
-    return found
-
-
-def is_whole(office):
-    base = sqlite3.connect(office.folder / TOWN)
-    found = base.execute("PRAGMA integrity_check").fetchall()
-    base.close()
-    return found == [("ok",)]
+def seen(office):
+    """Returns every name of an office's folder, and what it is: where a link leads, the names in a folder, or a file's bytes."""
+    return {path.name: os.readlink(path) if path.is_symlink() else os.listdir(path) if path.is_dir() else path.read_bytes()
+            for path in office.folder.iterdir()}
 
 
 def tried(folder, what, town, log=None):
@@ -119,45 +80,29 @@ def tried(folder, what, town, log=None):
     found = []
     for line in (STATUS, QUAY):
         office = put(folder / "tried", **{TOWN: town, LOG: log})
-        before = seen(office.folder)
+        before = seen(office)
         printed = office.run(*line.split())
         fault = re.fullmatch(r"fault (\d+): .*\n", printed.err)
         if printed.status not in (0, 3) or (printed.status == 3) != bool(fault):
             raise Wrong(f"{what}: {line}: {printed}")
-        if fault and (seen(office.folder) != before or office.run(*line.split()).err != printed.err):
+        if fault and (seen(office) != before or office.run(*line.split()).err != printed.err):
             raise Wrong(f"{what}: {line}: a fault, and a file changed, or not the same fault again")
-        if not fault and line is QUAY and not is_whole(office):
-            raise Wrong(f"{what}: a ward was added, and the file isn't whole")
+        if not fault and line is QUAY and not office.rows():
+            raise Wrong(f"{what}: a ward was added, and no office is there")
         found.append(fault[1] if fault else "opens")
     if found[0] != found[1]:
         raise Wrong(f"{what}: {found}")
     return found[0]
 
 
-def killed_log(folder):
+def killed_log(office):
     """Returns the log of an office that was killed while it served, which holds what it answered."""
-    office = small_office(folder / "killed", MADE)
-    body = '{"id":"k","round":1,"papers":[%s]}' % ",".join(f'"{marks}"' for marks in PAPERS)
-    with office.serve(connections=9) as serving:
-        answer = serving.ask(request("/clerks/4/batches/12/keying", body=body))
+    with office.serve() as serving:
+        answer = serving.ask(REQUESTS[1][1].sends)
     log = (office.folder / LOG).read_bytes()
     if status(answer) != 200 or len(log) < 32 + FRAME:
         raise Wrong(f"the office that is killed: {answer}, a log of {len(log)} bytes")
     return log
-
-
-def beside(chance, log):
-    """Returns [(what is next to the place of DB, its name, [its bytes, where a link leads, or None for a folder])]."""
-    return [
-        ("a log of random bytes", LOG, [noise(chance, length) for length in LENGTHS]),
-        ("a log of zeros", LOG, [bytes(length) for length in LENGTHS]),
-        ("the log of a killed office, cut at each frame", LOG, [log[:place] for place in (*range(32, len(log), FRAME), len(log))]),
-        ("the same, cut within each frame", LOG, [log[:place + chance.randrange(1, FRAME)] for place in range(32, len(log), FRAME)]),
-        ("a link to nothing, and one to a file, as log", LOG, ["nothing", FILE]),
-        ("a folder as log", LOG, [None]),
-        ("a rollback journal", JOURNAL, [bytes(0), bytes(512), b"\xd9\xd5\x05\xf9 \xa1c\xd7" + bytes(504)]),
-        ("a link to nothing, and a folder, as rollback journal", JOURNAL, ["nothing", None]),
-    ]
 
 
 def tried_beside(folder, town, name, content, words):
@@ -165,22 +110,27 @@ def tried_beside(folder, town, name, content, words):
     office = put(folder / "beside", **{TOWN: town, FILE: b"paper,1,2,3\n", name: content})
     if content is None:
         (office.folder / name).mkdir()
-    before = seen(office.folder)
+    before = seen(office)
     printed = office.run(*words)
-    if printed == FAULT_105 and seen(office.folder) == before:
+    if printed == FAULT_105 and seen(office) == before:
         return "105"
     is_begun = town is not None and name == LOG and isinstance(content, bytes) and len(content) <= BEGUN
-    if words == ["init"] and is_begun and printed == (0, "office ready\n", "") and office.run("wards").status == 0 and is_whole(office):
+    if words == ["init"] and is_begun and printed == (0, "office ready\n", "") and office.run("wards").status == 0 and office.rows():
         return "made"
     raise Wrong(f"{words} beside {name}: {printed}; {len(before)} files before")
 
 
-def print_beside(folder, chance):
-    """Prints the table of what is next to the place of DB."""
+def print_beside(folder, log, chance):
+    """Prints the table of what is next to the place of DB: bytes, where a link leads, or None for a folder."""
     made = "`init` makes an office"
     heads = ("DB missing: fault 105", "DB of 0 bytes: fault 105", made, "DB of 1 byte: fault 105", made)
     table = Table(f"What stands beside the place of DB ({len(EVERY)} orders each)", *heads)
-    for what, name, contents in beside(chance, killed_log(folder)):
+    for what, name, contents in (
+            ("a log of random bytes", LOG, [noise(chance, length) for length in LENGTHS]),
+            ("a log of zeros", LOG, [bytes(length) for length in LENGTHS]),
+            ("the log of a killed office, cut at each frame", LOG, [log[:place] for place in (*range(32, len(log), FRAME), len(log))]),
+            ("a link to nothing, one to a file, and a folder, as log", LOG, ["nothing", FILE, None]),
+            ("a rollback journal", JOURNAL, [bytes(0), bytes(512), b"\xd9\xd5\x05\xf9 \xa1c\xd7" + bytes(504), "nothing", None])):
         cells = []
         for town in (None, b"", b"\0"):
             found = [tried_beside(folder, town, name, content, words) for content in contents for words in EVERY]
@@ -211,9 +161,9 @@ def check_log_of(folder, town, case):
         office = of_account(of_account(put(folder / "foreign", **{TOWN: town, LOG: bytes(BEGUN)}), owner, TOWN), owner_of_log, LOG)
         for name in (TOWN, LOG):
             (office.folder / name).chmod(mode)
-        before = seen(office.folder)
+        before = seen(office)
         printed = office.run(*line.split())
-        is_right = printed == FOREIGN_LOG and seen(office.folder) == before if wanted == "refused" else printed.status == 0
+        is_right = printed == FOREIGN_LOG and seen(office) == before if wanted == "refused" else printed.status == 0
         if not is_right:
             raise Wrong(f"{what}: {line}: {printed}, and not {wanted}")
 
@@ -248,12 +198,15 @@ def print_foreign(folder, town):
 
 
 def main(seed=7):
-    columns = ["opens", "101", "102", "103", "105", "106"]
+    columns, chance = ["opens", "101", "102", "103", "105", "106"], random.Random(seed)
     with temporary_folder() as folder:
-        town = (small_office(folder / "office", MADE + COUNTED).folder / TOWN).read_bytes()
+        before = offices(folder)
+        town = (before[END].folder / TOWN).read_bytes()
         table = Table(f"The file ({len(town) // PAGE} pages, seed {seed})", "files", *columns)
-        for what, files in kinds(folder, town, random.Random(seed)):
-            found = [tried(folder, what, *contents) for contents in zip(*files)]
+        for what, files in kinds(folder, town, chance):
+            found = [tried(folder, what, content) for content in files]
             table.row(what, len(found), *map(found.count, columns))
-        print_beside(folder, random.Random(seed))
+        found = [tried(folder, "a log of random bytes", town, noise(chance, length)) for length in LENGTHS]
+        table.row("an office and a log of random bytes", len(found), *map(found.count, columns))
+        print_beside(folder, killed_log(before[REQUESTS[1][0]]), chance)
         print_foreign(folder, town)

@@ -4,18 +4,29 @@ docs/HOSTILE.md says what the evenings have, and what must hold. As many evening
 (`taskset -c 0,1` for two).
 """
 import collections
-import concurrent.futures
-import os
+import contextlib
 import random
 import re
 
+from office_tools.election import keying
 from office_tools.office import SCRIPT, Office, Wrong, temporary_folder
-from office_tools.sessions import Session, typed
 from office_tools.tables import Table
+from office_tools.trials import side_by_side
 
 SECONDS = 120
 PHASES = ("nominations", "keying", "sealed", "declared")
 REFUSED = re.compile(r"line (\d+): refused (\d+): (.*)\n")
+CLERKS = (1, 4, 5, 9, 17, 998, 999)
+NAMES = (
+    "Ann", "Bob", "Old Harbour", "O'Neill", 'the "Red" one', '"', "'", "''", '""', "\"'\"'", "-Harbour", "-", "--", "--id", "--id=x",
+    "--help", "-h", "#", "# a comment", "key", "ward 7 2", "withdrawn candidate 1", " before", "behind ", "  ", "\\", "a\\b", "$HOME",
+    "`ls`", "=1+1", "*", "~", "Łódź", "名前", "\u00a0", "\u0080", "\u202eeman", "\ufeff", "x" * 120, "é" * 60, "7", "0", "accept:1,,")
+# What an id begins with, before a number.
+IDS = ("k", "-", "--", "---", "-x", "--id", "--help-", "7", "0", "z" * 32)
+# Orders that are always refused.
+REFUSALS = (
+    "seal 100", "close 0", "ward 7 0 Harbour", "candidate 7 31 Ann", "withdraw 7 31", "judge 10000 1 reject:5", "judge 1 1 reject:9",
+    "lot 7 2 30", "lot 7 32 1", "third 10000 4", "batch 1 7 0 4 4", "key 1000 1 1 D", "key 4 10000 1 D")
 
 
 def replayed(office, text):
@@ -24,37 +35,141 @@ def replayed(office, text):
     return office.run("replay", SCRIPT, seconds=SECONDS)
 
 
+def typed(words):
+    """Returns the line of a script that these words are: each is between two ', and a ' between two "."""
+    return " ".join("'" + word.replace("'", "'\"'\"'") + "'" for word in words) + "\n"
+
+
 def sent(office, orders):
     """Sends orders, past those that are refused. Returns for each its refusal, a number and a text, or None."""
     results = []
     while len(results) < len(orders):
         rest = orders[len(results):]
-        printed = replayed(office, "".join(typed(words) + "\n" for words in rest))
+        printed = replayed(office, "".join(map(typed, rest)))
         if printed.status == 0:
             return results + [None] * len(rest)
         refused = REFUSED.fullmatch(printed.err)
         if printed.status != 1 or not refused:
-            raise Wrong(f"a session's orders: {printed}")
+            raise Wrong(f"an evening's orders: {printed}")
         results += [None] * (int(refused[1]) - 1) + [(int(refused[2]), refused[3])]
     return results
 
 
-def played(chance, office):
-    """Plays a session. Returns how many of its orders were refused."""
-    session = Session(chance, office)
-    answers, refused = {session.ward(number): None for number in session.wards}, 0
-    while answers:
-        life = chance.choice(list(answers))
-        try:
-            orders = life.send(answers[life])
-        except StopIteration:
-            del answers[life]
-            continue
-        noise = [session.noise() for _ in range(chance.choice((0, 0, 0, 1, 2)))]
-        results = sent(office, noise + orders)
-        refused += sum(result is not None for result in results)
-        answers[life] = results[len(noise):]
-    return refused
+class Evening:
+    """What happens at an office in an evening. Wards and batches are generators of lists of orders, which are sent what came of each."""
+
+    def __init__(self, chance, office):
+        self.chance, self.office, self.ids = chance, office, collections.defaultdict(list)
+        self.batches = chance.sample(range(1, 10000), 9)
+
+    def chosen(self, likely):
+        return self.chance.random() < likely
+
+    def order(self, *words, name=None, is_used=False):
+        """Returns the words of an order with its id, one in forty of something else. A name comes last, and may look like an option."""
+        given = self.ids[str(words[1]) if "key" in words[0] else ""]
+        if not (given and (is_used or self.chosen(0.025))):
+            given.append(self.chance.choice(IDS) + str(len(given)))
+        return [*map(str, words), f"--id={self.chance.choice(given) if is_used else given[-1]}", *(["--", name] if name else [])]
+
+    def play(self):
+        """Plays the evening, with orders in between that are refused. Returns how many were refused."""
+        wards, answer, refused = self.chance.sample(range(1, 100), self.chance.choice((0, 1, 1, 2, 3))), None, 0
+        life = self.in_turns(map(self.ward, wards))
+        with contextlib.suppress(StopIteration):
+            while True:
+                orders = life.send(answer)
+                lines = self.chance.sample(REFUSALS, self.chance.choice((0, 0, 0, 0, 1)))
+                results = sent(self.office, [self.order(*line.split(), is_used=self.chosen(0.5)) for line in lines] + orders)
+                refused, answer = refused + sum(result is not None for result in results), results[len(lines):]
+        return refused
+
+    def in_turns(self, lives):
+        """Plays some lives, each a piece further when its turn is drawn."""
+        answers = {life: None for life in lives}
+        while answers:
+            life = self.chance.choice(list(answers))
+            try:
+                answers[life] = yield life.send(answers[life])
+            except StopIteration:
+                del answers[life]
+
+    def ward(self, ward):
+        """Plays a ward, from its first order on, as far as it comes."""
+        chance, seats, standing = self.chance, self.chance.randint(1, 3), set()
+        yield [self.order("ward", ward, seats, name=chance.choice(NAMES))]
+        numbers = chance.sample(range(1, chance.choice((6, 30)) + 1), chance.choice((1, 3, 4, 5, 5, 6)))
+        if self.chosen(0.3):
+            names = [chance.choice(NAMES).replace('"', '""') for _ in numbers]
+            lines = [f'{ward},{number},"{name}"' for number, name in zip(numbers, names)]
+            self.office.write(f"names{ward}.csv", ["ward,candidate,name", *lines])
+            (refusal,) = yield [self.order("import-candidates", f"names{ward}.csv")]
+            standing.update(() if refusal else numbers)
+        for number in [*numbers, *(chance.choice(numbers) for _ in range(chance.choice((0, 0, 1, 3, 6))))]:
+            is_there = number in standing
+            words = self.order("withdraw", ward, number) if is_there else self.order("candidate", ward, number, name=chance.choice(NAMES))
+            if not is_there or self.chosen(0.3):
+                (refusal,) = yield [words]
+                standing ^= set() if refusal else {number}
+        if self.chosen(0.9):
+            yield [self.order("close", ward)]
+            if len(standing) > seats:
+                yield from self.in_turns(self.batch(ward, sorted(standing)) for _ in range(chance.choice((0, 1, 1, 2, 3))))
+                yield [self.order("seal", ward)]
+            yield from self.count(ward)
+
+    def ranked(self, columns, least):
+        """Returns marks by which so many candidates at least are ranked."""
+        fields = [""] * len(columns)
+        for place, column in enumerate(self.chance.sample(range(len(columns)), self.chance.randint(least, len(columns))), 1):
+            fields[column] = str(place)
+        return ",".join(fields)
+
+    def marks(self, columns):
+        """Returns the marks of a paper: one in six is doubtful, and one in twenty has other numbers."""
+        odd = ",".join(self.chance.choice(("", "1", "2", "99")) for _ in columns)
+        return "D" if self.chosen(0.17) else odd if self.chosen(0.05) else self.ranked(columns, 0)
+
+    def keyed(self, columns, clerk, batch, turn, papers):
+        """Returns the order of a keying, by words or by a file; of some keyings one paper is keyed otherwise."""
+        if turn < self.chance.choice((1, 1, 2, 4)):
+            papers = [self.marks(columns), *papers[1:]]
+        if self.chosen(0.7):
+            order = self.order("key", clerk, batch, turn)
+            return [*order, *papers]
+        name = f"k{clerk}-{batch}-{turn}.csv"
+        self.office.write(name, keying(papers, columns))
+        return self.order("import-keying", clerk, batch, turn, name)
+
+    def batch(self, ward, columns):
+        """Plays a batch, keyed in rounds until two clerks agree, or left before, and the verdicts."""
+        batch, (first, second, third) = self.batches.pop(), self.chance.sample(CLERKS, 3)
+        papers = [self.marks(columns) for _ in range(self.chance.choice((1, 2, 3, 5, 8)))]
+        yield [self.order("batch", batch, ward, len(papers), first, second)]
+        for turn in range(1, self.chance.choice((2, 3, 4, 5))):
+            clerks = self.chance.sample((first, second), 1 if self.chosen(0.05) else 2)
+            yield [self.keyed(columns, clerk, batch, turn, papers) for clerk in clerks]
+            if self.chosen(0.4):
+                (refusal,) = yield [self.order("third", batch, third)]
+                if not refusal and self.chosen(0.8):
+                    yield [self.keyed(columns, third, batch, turn, papers)]
+            (refusal,) = yield [self.order("again", batch)]
+            if refusal:
+                break
+        for paper in [number for number, text in enumerate(papers, 1) if text == "D"]:
+            yield [self.order("judge", batch, paper, self.chance.choice((f"accept:{self.ranked(columns, 1)}", "reject:3", "reject:5")))]
+
+    def count(self, ward):
+        """Plays the stages of a ward's count, with its lots, up to the declaration, or to where it is left."""
+        while not self.chosen(0.03):
+            (refusal,) = yield [self.order("advance", ward)]
+            number, text = refusal or (0, "")
+            if number == 26:
+                stage, tied = text.removeprefix("lot needed at stage ").split(" among ")
+                yield [self.order("lot", ward, stage, self.chance.choice(tied.split(", ")))]
+            elif number:
+                yield [self.order("declare", ward)]
+                return
 
 
 def journal(office):
@@ -71,38 +186,27 @@ def compared(office, chance, in_other_forms):
     if len(lines) != len(found["receipt"]):
         raise Wrong(f"{len(lines)} lines for {len(found['receipt'])} receipts")
     new = Office(office.folder / "new").begin()
-    printed = replayed(new, text)
+    printed, again = replayed(new, text), new.rows()
     if printed.status or printed.err or printed.out.count("\n") != len(lines):
         raise Wrong(f"the journal sent: {printed}")
-    again = new.rows()
     if other := [f"table {table}: {rows} and {again[table]}" for table, rows in found.items() if again[table] != rows]:
         raise Wrong(other[0])
     if journal(new) != text:
         raise Wrong("the new office has another journal")
-    if in_other_forms:
-        check_other_forms(office, chance, text, found)
+    lines = text.split("\n")
+    cut, mixed = text[:chance.randint(0, len(text))], "\n".join(chance.sample(lines, len(lines)))
+    for name, form in (("twice", text + text), ("cut", cut), ("shuffled", mixed)) * in_other_forms:
+        new = Office(office.folder / name).begin()
+        printed = replayed(new, form)
+        if printed.status not in (0, 1, 2) or name == "twice" and (printed.status or new.rows() != found):
+            raise Wrong(f"the journal {name}: {printed}, or other tables")
+        journal(new)
     return found
 
 
-def check_other_forms(office, chance, text, found):
-    """Sends the journal in other forms to new offices."""
-    lines = text.split("\n")
-    mixed = list(lines)
-    chance.shuffle(mixed)
-    cut, lines_cut = text[:chance.randint(0, len(text))], lines[:chance.randint(0, len(lines))]
-    for name, form in (("twice", text + text), ("cut", cut), ("lines-cut", "\n".join(lines_cut)), ("shuffled", "\n".join(mixed))):
-        new = Office(office.folder / name).begin()
-        printed = replayed(new, form)
-        if printed.status not in (0, 1, 2) or (name == "twice" and printed.status):
-            raise Wrong(f"the journal {name}: {printed}")
-        if name == "twice" and new.rows() != found:
-            raise Wrong("the journal sent twice made other tables")
-        journal(new)
-
-
 def counted(found, refused):
-    """Returns what a session had, by its rows."""
-    had = collections.Counter({"sessions": 1, "orders accepted": len(found["receipt"]), "orders refused": refused})
+    """Returns what an evening had, by its rows."""
+    had = collections.Counter({"evenings": 1, "orders accepted": len(found["receipt"]), "orders refused": refused})
     had["candidates withdrawn"] = sum(receipt[2].startswith("withdraw ") for receipt in found["receipt"])
     had.update(f"wards in {PHASES[ward[2] - 1]}" for ward in found["ward"])
     had.update({
@@ -112,27 +216,20 @@ def counted(found, refused):
     return had
 
 
-def session_of(seed, number):
-    """Plays one session and compares. Returns what it had, counted."""
+def evening_of(seed, number):
+    """Plays one evening and compares. Returns what it had, counted."""
     chance = random.Random(f"{seed} {number}")
     with temporary_folder() as folder:
         try:
             office = Office(folder / "town").begin()
-            refused = played(chance, office)
+            refused = Evening(chance, office).play()
             return counted(compared(office, chance, number % 10 == 0), refused)
         except Wrong as wrong:
-            raise Wrong(f"session {number} of seed {seed}: {wrong}") from wrong
+            raise Wrong(f"evening {number} of seed {seed}: {wrong}") from wrong
 
 
-def main(sessions=200, seed=7):
-    had = collections.Counter()
-    with concurrent.futures.ThreadPoolExecutor(len(os.sched_getaffinity(0))) as pool:
-        try:
-            for result in pool.map(lambda number: session_of(seed, number), range(sessions)):
-                had.update(result)
-        except Wrong:
-            pool.shutdown(wait=False, cancel_futures=True)
-            raise
-    table = Table(f"What the sessions had (seed {seed})", "number")
+def main(evenings=200, seed=7):
+    had = sum(side_by_side(lambda number: evening_of(seed, number), range(evenings)), collections.Counter())
+    table = Table(f"What the evenings had (seed {seed})", "number")
     for name, number in had.items():
         table.row(name, number)

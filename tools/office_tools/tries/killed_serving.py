@@ -1,78 +1,18 @@
 """Kills `serve` at random moments while clients are answered, and sees that nothing is lost.
 
-One client sends a request, at once or in pieces. Then twenty clerks key at once, next to silent clients, and ten orders are handed
-over. docs/HOSTILE.md says what must hold after each kill.
+Twenty clerks key at once, and ten orders are handed over. docs/HOSTILE.md says what must hold after each kill.
 """
 import collections
 import random
-import socket
-import statistics
-import time
 from concurrent.futures import ThreadPoolExecutor
 
-from office_tools.election import REQUESTS, offices, ward_orders
-from office_tools.office import SECONDS, STORE, Office, Wrong, temporary_folder
+from office_tools.election import ward_orders
+from office_tools.office import STORE, Office, Wrong, temporary_folder, timed
 from office_tools.tables import Table
-from office_tools.trials import Trial
-from office_tools.web import BROKEN, HERE, is_whole, request
+from office_tools.web import is_whole, request
 
-PIECES = 8
-CLERKS, SILENT, PAPERS, WARDS = range(1, 21), 10, 2, range(11, 21)
-AT_ONCE, IN_PIECES, AFTER = "at once", "in pieces", "killed after the answer"
+CLERKS, PAPERS, WARDS = range(1, 21), 2, range(11, 21)
 KEYING = '{"id":"k","round":1,"papers":["1,2,","D"]}'
-
-
-def cut(sends, chance):
-    """Returns a request in pieces."""
-    places = sorted(chance.sample(range(1, len(sends)), PIECES))
-    return [sends[begin:end] for begin, end in zip([0, *places], [*places, len(sends)])]
-
-
-def exchanged(line, parts, pauses):
-    """Sends a request in parts, each before a pause, and returns what comes back until the answer is whole, or the connection ends."""
-    text = b""
-    line.setsockopt(socket.IPPROTO_TCP, socket.TCP_NODELAY, 1)
-    try:
-        for part, pause in zip(parts, [*pauses, 0]):
-            line.sendall(part)
-            time.sleep(pause)
-        while not is_whole(text) and (piece := line.recv(65536)):
-            text += piece
-    except BROKEN:
-        pass
-    return text
-
-
-class OneClient:
-    """A request on the office before it, and how long its answer takes."""
-
-    def __init__(self, folder, office, order):
-        self.trial, self.sends, self.seconds = Trial(folder, office, order), order.sends, 0
-        self.seconds = statistics.median(self.served([self.sends])[0] for _ in range(5))
-
-    def served(self, parts, wait=None):
-        """Returns (seconds, the office, what the client had) of a `serve` that is killed after so many seconds, or after the answer."""
-        here = self.trial.office.copied(self.trial.folder / "run")
-        with here.serve(connections=2) as serving, serving.connect() as line:
-            began = time.perf_counter()
-            killer = serving.killed_after(wait)
-            text = exchanged(line, parts, [self.seconds / PIECES] * (len(parts) - 1))
-            seconds = time.perf_counter() - began
-            killer.join()
-        return seconds, here, text
-
-    def killed(self, how, chance):
-        """Returns (whether the client had the whole answer, whether the rows are those after the request)."""
-        parts = cut(self.sends, chance) if how == IN_PIECES else [self.sends]
-        longest = self.seconds * (2.4 if how == IN_PIECES else 1.2)
-        _, here, text = self.served(parts, None if how == AFTER else chance.uniform(0, longest))
-        states, found = self.trial.states, (here.rows(), None)
-        if found not in states:
-            raise Wrong(f"{self.trial.order.name} left other rows")
-        if is_whole(text) and (found != states[-1] or text.decode() != self.trial.printed.out):
-            raise Wrong(f"{self.trial.order.name} was answered {text} and is lost")
-        self.trial.check_again(here, text, 0)
-        return is_whole(text), found == states[-1] != states[0]
 
 
 class Crowd:
@@ -82,20 +22,10 @@ class Crowd:
         self.office, self.here = Office(folder / "office").begin(ward_orders(*((n, PAPERS, n, 999) for n in CLERKS))), folder / "here"
         self.before = self.office.rows()
         here = self.office.copied(self.here)
-        self.seconds, self.answers, printed = self.served(here, random.Random(0))
+        self.seconds, self.answers, added = self.served(here)
         self.after = here.rows()
-        if not all(map(is_whole, self.answers.values())) or set(printed) != set(WARDS):
-            raise Wrong(f"twenty clerks at once get {self.answers}, and the wards {printed} are added")
-
-    def key(self, port, number, pauses):
-        """Keys a batch, and returns what the clerk had of the answer."""
-        sends = request(f"/clerks/{number}/batches/{number}/keying", body=KEYING)
-        parts = [sends[9 * place:9 * place + 9] for place in range(len(pauses))] + [sends[9 * len(pauses):]]
-        try:
-            with socket.create_connection((HERE, port), timeout=SECONDS) as line:
-                return exchanged(line, parts, pauses)
-        except (*BROKEN, ConnectionRefusedError):
-            return b""
+        if not all(map(is_whole, self.answers.values())) or set(added) != set(WARDS):
+            raise Wrong(f"twenty clerks at once get {self.answers}, and the wards {added} are added")
 
     def order(self, here):
         """Adds ten wards, one after the other, and returns those that were answered. The others must print a fault of the store."""
@@ -108,20 +38,16 @@ class Crowd:
                 raise Wrong(f"the order for ward {ward} prints {printed}")
         return added
 
-    def served(self, here, chance, wait=None):
-        """Returns (seconds, the clerks' answers, the wards) of a `serve` that is killed after so many seconds, or at the end."""
-        pauses = {n: [chance.uniform(0, 0.002) for _ in range(PIECES)] if n % 2 else [] for n in CLERKS}
-        with here.serve() as serving, ThreadPoolExecutor(len(CLERKS) + 1) as pool:
-            silent = [serving.connect() for _ in range(SILENT)]
-            began = time.perf_counter()
-            killer = serving.killed_after(wait)
-            wards = pool.submit(self.order, here)
-            answers = dict(zip(CLERKS, pool.map(lambda n: self.key(serving.port, n, pauses[n]), CLERKS)))
-            added, seconds = wards.result(), time.perf_counter() - began
+    def served(self, here, wait=None):
+        """Returns (seconds of clerks and of orders, answers, wards) of a `serve` that is killed after some seconds, or at the end."""
+        with here.serve().wait() as serving, ThreadPoolExecutor(len(CLERKS) + 1) as pool:
+            def key_all():
+                return list(pool.map(lambda n: serving.ask(request(f"/clerks/{n}/batches/{n}/keying", body=KEYING)), CLERKS))
+
+            killer, wards = serving.killed_after(wait), pool.submit(timed, self.order, here)
+            (answers, keying), (added, ordering) = timed(key_all), wards.result()
             killer.join()
-            for line in silent:
-                line.close()
-        return seconds, answers, added
+        return (keying, ordering), dict(zip(CLERKS, answers)), added
 
     def kept(self, found):
         """Returns (the clerks whose keyings are there, the wards that are), each whole and with its receipt. There are no other rows."""
@@ -139,12 +65,12 @@ class Crowd:
     def killed(self, chance):
         """Returns how many clerks were answered, keyings are kept, orders were answered, and orders are kept."""
         here = self.office.copied(self.here)
-        _, answers, added = self.served(here, chance, chance.uniform(0, 1.2 * self.seconds))
+        _, answers, added = self.served(here, chance.uniform(0, 1.2 * chance.choice(self.seconds)))
         kept, wards = self.kept(here.rows())
         had = {number for number, text in answers.items() if is_whole(text)}
         if not had <= kept or not set(added) <= wards:
             raise Wrong(f"the keyings of {sorted(had - kept)}, or the wards {sorted(set(added) - wards)}, were answered, and are lost")
-        _, answers, again = self.served(here, chance)
+        _, answers, again = self.served(here)
         if answers != self.answers or set(again) != set(WARDS) or here.rows() != self.after:
             raise Wrong("twenty clerks who key again, and the officer, get something else, or leave other rows")
         return len(had), len(kept), len(added), len(wards)
@@ -152,18 +78,11 @@ class Crowd:
 
 def main(runs=200, seed=7):
     chance = random.Random(seed)
-    table = Table(f"The request ({runs} runs each, seed {seed})", "sent", "the whole answer had", "rows before it found", "rows after it")
     with temporary_folder() as folder:
-        before = offices(folder)
-        for number, order in (REQUESTS[place] for place in (1, 0, 2)):
-            for how in (AT_ONCE, IN_PIECES, AFTER):
-                client = OneClient(folder / "client", before[number], order)
-                found = [client.killed(how, chance) for _ in range(runs)]
-                new = sum(is_new for _, is_new in found)
-                table.row(f"`{order.name}`", how, sum(had for had, _ in found), runs - new, new)
         crowd = Crowd(folder)
         found = list(zip(*(crowd.killed(chance) for _ in range(runs))))
-    table = Table("Twenty clerks at once, and ten orders", "runs", "answered", "found", "runs with some of them, and not all")
+    heads = ("runs", "answered", "found", "runs with some of them, and not all")
+    table = Table(f"Twenty clerks at once, and ten orders (seed {seed})", *heads)
     kinds = (("each clerk keys a batch", found[:2], len(CLERKS)), ("the office adds ten wards", found[2:], len(WARDS)))
     for what, (answered, kept), most in kinds:
         table.row(what, runs, sum(answered), sum(kept), sum(0 < count < most for count in kept))

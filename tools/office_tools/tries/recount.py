@@ -5,22 +5,19 @@ prints, or another program's BLT file: without a comment `# Ward N` the ward is 
 Preferences for the withdrawn are passed over, and a paper is read up to the first rank that several share who stand. It prints the stage
 sheet, and stops if a lot is needed that the file doesn't have. Status 1: the file can't be read, or has a lot that isn't needed.
 
-With --wards N wards are made up and played to their declarations. At each stage and lot `ballots` must print the papers that were made
-up, and `sheet` the recount's sheet of them, byte for byte; a lot is asked for just where the recount stops, among the same candidates.
+With --wards N wards are made up and played to their declarations. At each lot and at the end `ballots` must print the papers that were
+made up, and `sheet` the recount's sheet of them, byte for byte; a lot is asked for just where the recount stops, among the same candidates.
 """
 import collections
 import itertools
 import random
 import re
-import shutil
 import sys
-import tempfile
-from dataclasses import dataclass, field
 from pathlib import Path
 
-from office_tools.office import Wrong
+from office_tools.office import Wrong, temporary_folder
 from office_tools.tables import Table
-from office_tools.wards import PlayedWard, Ward
+from office_tools.wards import Ward, sealed_office
 
 # Values are whole hundred-thousandths of a vote.
 VOTE = 100000
@@ -34,11 +31,9 @@ OURS = {
     "lot": ("Lot at stage ([0-9]+) ([0-9]+)", 255),
 }
 BEGINS_AS_OURS = re.compile(r"[^0-9a-z]*(ward|rejected|lot)(?![a-z])", re.ASCII | re.IGNORECASE)
-FINISHED = "refused 25: count finished\n"
 
-# Equal papers, held together.
+# Equal papers, held together; and bundles that a candidate received together, with the value at which each of their papers came.
 Bundle = collections.namedtuple("Bundle", "papers preferences")
-# Bundles that a candidate received together, and the value at which each of their papers came.
 Parcel = collections.namedtuple("Parcel", "value bundles")
 
 
@@ -51,10 +46,10 @@ def told_by(comment, is_alone):
     words = " ".join(re.split("[ \t\r:,]+", comment))
     for what, (form, most) in OURS.items():
         if is_alone and (found := re.fullmatch(f" {form} ?", words, re.ASCII)) and max(map(int, found.groups())) <= most:
-            return what, [int(number) for number in found.groups()]
+            return [(what, [int(number) for number in found.groups()])]
     if BEGINS_AS_OURS.match(comment):
         raise Unreadable(f"a comment that begins as ours do: {comment[:40]!r}")
-    return None
+    return []
 
 
 def words_of(text):
@@ -66,29 +61,20 @@ def words_of(text):
         name, rank, number, comment = found.groups()
         if name is not None:
             words.append(re.sub(r'\\(["\\])', r"\1", name))
-        elif rank:
-            words.append(tuple(map(int, rank.split("="))))
-        elif number:
-            words.append(int(number))
+        elif rank or number:
+            words.append(int(number) if number else tuple(map(int, rank.split("="))))
         elif comment is not None:
-            line = text[text.rfind("\n", 0, found.start()) + 1:found.start()]
-            if told := told_by(comment, not line.strip(" \t\r")):
-                ours.append(told)
+            before = text[text.rfind("\n", 0, found.start()) + 1:found.start()]
+            ours += told_by(comment, not before.strip(" \t\r"))
     return iter(words), ours
 
 
 def taken(words, kind):
-    """Returns the next word, which must be a number, or a name."""
+    """Returns the next word, which must be of this kind."""
     word = next(words, None)
     if not isinstance(word, kind):
-        raise Unreadable(f"a {'number' if kind is int else 'name'} is wanted in place of {'the end' if word is None else repr(word)}")
+        raise Unreadable(f"a number or a name is wanted in place of {'the end' if word is None else repr(word)}")
     return word
-
-
-def read_up_to_shared(ranks, withdrawn):
-    """Returns the preferences of a paper with these ranks, up to the first that several share who stand."""
-    shared = (place for place, rank in enumerate(ranks) if sum(number not in withdrawn for number in rank) > 1)
-    return [number for rank in ranks[:next(shared, len(ranks))] for number in rank]
 
 
 class Ballots:
@@ -97,36 +83,33 @@ class Ballots:
     def __init__(self, content):
         words, ours = words_of(content.decode("utf-8", "surrogateescape").removeprefix("\ufeff"))
         highest, self.seats = taken(words, int), taken(words, int)
-        numbers, withdrawn = range(1, highest + 1), set()
+        self.numbers, self.withdrawn, self.bundles = range(1, highest + 1), set(), []
         while (papers := taken(words, int)) < 0:
-            withdrawn.add(-papers)
-        self.bundles = []
+            self.withdrawn.add(-papers)
         while papers:
-            ranks = [rank if isinstance(rank, tuple) else (rank,) for rank in iter(lambda: taken(words, (int, tuple)), 0)]
-            preferences = read_up_to_shared(ranks, withdrawn)
-            if papers < 0 or len(set(preferences)) < len(preferences) or not all(number in numbers for rank in ranks for number in rank):
-                raise Unreadable(f"no bundle: {papers} papers with the ranks {ranks}")
-            available = tuple(number for number in preferences if number not in withdrawn)
-            if not available:
-                raise Unreadable(f"no first preference: {papers} papers with the ranks {ranks}")
-            self.bundles.append(Bundle(papers, available))
+            self.bundles.append(self.bundle(papers, list(iter(lambda: taken(words, (int, tuple)), 0))))
             papers = taken(words, int)
-        names = {number: taken(words, str) for number in numbers}
-        self.names = {number: name for number, name in names.items() if number not in withdrawn}
+        names = {number: taken(words, str) for number in self.numbers}
+        self.names = {number: name for number, name in names.items() if number not in self.withdrawn}
         self.ward_name = taken(words, str)
-        if self.seats < 1 or next(words, None) is not None:
-            raise Unreadable("no seats, or words after the ward's name")
-        self.take(*([told for what, told in ours if what == kind] for kind in OURS))
-
-    def take(self, wards, rejected, lots):
-        """Takes the ward's number and the rejected papers, each of which a file may give once at most, and a lot for each stage."""
+        wards, rejected, lots = ([told for what, told in ours if what == kind] for kind in OURS)
         self.lots = dict(lots)
-        if len(wards) > 1 or len(rejected) > 1 or len(self.lots) < len(lots):
-            raise Unreadable("a ward's number or rejected papers told twice, or two lots at one stage")
-        if (self.bundles or rejected) and len(self.names) <= self.seats:
-            raise Unreadable("no more candidates than seats, but papers")
-        self.ward = wards[0][0] if wards else 1
-        self.rejected = rejected[0] if rejected else [0 for _ in CODES]
+        is_told_twice = len(wards) > 1 or len(rejected) > 1 or len(self.lots) < len(lots)
+        has_papers_for_nothing = (self.bundles or rejected) and len(self.names) <= self.seats
+        if self.seats < 1 or next(words, None) is not None or is_told_twice or has_papers_for_nothing:
+            raise Unreadable("no seats, words after the ward's name, one of our comments again, or papers where nobody has to be chosen")
+        self.ward, self.rejected = wards[0][0] if wards else 1, rejected[0] if rejected else [0 for _ in CODES]
+
+    def bundle(self, papers, words):
+        """Returns so many papers with these ranks, up to the first that several share who stand, without the withdrawn."""
+        ranks = [word if isinstance(word, tuple) else (word,) for word in words]
+        shared = (place for place, rank in enumerate(ranks) if len([number for number in rank if number not in self.withdrawn]) > 1)
+        preferences = [number for rank in ranks[:next(shared, None)] for number in rank]
+        available = tuple(number for number in preferences if number not in self.withdrawn)
+        are_numbers = all(number in self.numbers for rank in ranks for number in rank)
+        if papers < 0 or len(set(preferences)) < len(preferences) or not are_numbers or not available:
+            raise Unreadable(f"no bundle: {papers} papers with the ranks {ranks}")
+        return Bundle(papers, available)
 
 
 def worth(parcel):
@@ -138,21 +121,17 @@ def votes_text(value):
 
 
 def written(lines):
-    """Lines as bytes, those of names as they were read."""
+    """Returns lines as bytes, those of names as they were read."""
     return "".join(f"{line}\n" for line in lines).encode("utf-8", "surrogateescape")
 
 
-@dataclass(eq=False)
 class Candidate:
     """A candidate, the parcels that lie before him, and his votes, now and at the end of each stage."""
 
-    number: int
-    name: str
-    parcels: list = field(default_factory=list)
-    votes: int = 0
-    figures: list = field(default_factory=list)
-    # As on the sheet: - while he continues, E at the stage at which he is elected and e after it, x once he is excluded.
-    letter: str = "-"
+    def __init__(self, number, name):
+        self.number, self.name, self.parcels, self.votes, self.figures = number, name, [], 0, []
+        # As on the sheet: - while he continues, E at the stage at which he is elected and e after it, x once he is excluded.
+        self.letter = "-"
 
     def receives(self, parcel):
         """Lays a parcel before him: he is credited with the values of its papers."""
@@ -172,10 +151,13 @@ class Count:
         self.non_transferable = self.lost = 0
         # The lots that no stage has taken; and the stage that a lot is wanted for, with the tied.
         self.lots, self.waits = dict(ballots.lots), None
-        # Where there are no more candidates than seats all are elected, without a poll.
+        # If there are no more candidates than seats all are elected, without a poll.
         self.is_contested = len(self.candidates) > ballots.seats
         if self.is_contested:
-            self.first_preferences()
+            # Each paper is laid before the candidate of its first preference, as one vote.
+            for bundle in ballots.bundles:
+                self.candidates[bundle.preferences[0]].receives(Parcel(VOTE, [bundle]))
+            self.end_stage("first preferences")
             while self.vacancies() and not self.waits:
                 self.next_stage()
 
@@ -185,20 +167,23 @@ class Count:
     def vacancies(self):
         return self.ballots.seats - len(self.those("Ee"))
 
-    def first_preferences(self):
-        """Lays each paper before the candidate of its first preference, as one vote."""
-        for bundle in self.ballots.bundles:
-            self.candidates[bundle.preferences[0]].receives(Parcel(VOTE, [bundle]))
-        self.end_stage("first preferences")
-
     def next_stage(self):
         """Transfers the highest surplus; if there is none, excludes the continuing candidate with the fewest votes."""
         surpluses = [candidate for candidate in self.those("Ee") if candidate.votes > self.quota]
-        chosen = self.foremost(surpluses, max) if surpluses else self.foremost(self.those("-"), min)
-        if chosen and surpluses:
-            self.transfer_surplus(chosen)
-        elif chosen:
-            self.exclude(chosen)
+        giver = self.foremost(surpluses, max) if surpluses else self.foremost(self.those("-"), min)
+        if giver and surpluses:
+            # All his papers are handed on, each at its part of his surplus, and he keeps the quota. What they don't take with them, since
+            # their values are cut down, is lost.
+            surplus, credited = giver.votes - self.quota, giver.votes
+            self.lost += surplus - self.hand_on(giver, lambda received: surplus * received // credited)
+            giver.votes = self.quota
+            self.end_stage(f"surplus of {giver.number}")
+        elif giver:
+            # His papers are handed on at the values at which he received them. If all the others are elected now, his votes stay.
+            giver.letter = "x"
+            is_last = len(self.those("-")) == self.vacancies()
+            giver.votes -= 0 if is_last else self.hand_on(giver, lambda received: received)
+            self.end_stage(f"exclusion of {giver.number}" + ", last vacancies" * is_last)
 
     def foremost(self, candidates, most):
         """Returns the candidate with the most votes, or the fewest; None if a lot has to be drawn for that."""
@@ -216,27 +201,8 @@ class Count:
         self.waits = due, numbers
         return None
 
-    def transfer_surplus(self, giver):
-        """Hands on all papers of an elected candidate, each at its part of his surplus; he keeps the quota."""
-        surplus, credited = giver.votes - self.quota, giver.votes
-        handed_on = self.hand_on(giver, lambda received: surplus * received // credited)
-        giver.votes = self.quota
-        # What his papers didn't take with them, since their values are cut down.
-        self.lost += surplus - handed_on
-        self.end_stage(f"surplus of {giver.number}")
-
-    def exclude(self, giver):
-        """Excludes a candidate, and hands on his papers at the values at which he received them."""
-        giver.letter = "x"
-        if len(self.those("-")) == self.vacancies():
-            # All the others are elected now, so that no paper has to be handed on, and his votes stay.
-            self.end_stage(f"exclusion of {giver.number}, last vacancies")
-        else:
-            giver.votes -= self.hand_on(giver, lambda received: received)
-            self.end_stage(f"exclusion of {giver.number}")
-
     def hand_on(self, giver, value_of):
-        """Hands on each parcel of a candidate, at the value that comes of the one at which he received it. Gives the worth of all."""
+        """Hands on each parcel of a candidate, at the value that comes of the one at which he received it. Returns the worth of all."""
         handed_on = 0
         for parcel in giver.parcels:
             heaps = collections.defaultdict(list)
@@ -254,8 +220,8 @@ class Count:
 
     def next_available(self, bundle, giver):
         """Returns the continuing candidate whom a bundle's papers prefer next after the one that has them, if there is one."""
-        behind = bundle.preferences[bundle.preferences.index(giver.number) + 1:]
-        return next((self.candidates[number] for number in behind if self.candidates[number].letter == "-"), None)
+        after = bundle.preferences[bundle.preferences.index(giver.number) + 1:]
+        return next((self.candidates[number] for number in after if self.candidates[number].letter == "-"), None)
 
     def end_stage(self, action):
         """Deems elected who has the quota, or is needed for the last vacancies, and writes the stage down."""
@@ -273,13 +239,12 @@ class Count:
         lines.append(f"   {votes_text(self.lost):>13} lost by fractions")
         self.stages.append(written(lines))
 
-    def sheet(self, done=None):
-        """Returns the stage sheet: with so many stages, or with all."""
+    def sheet(self):
         lines = [f"Ward {self.ballots.ward} {self.ballots.ward_name}", f"Seats {self.ballots.seats}, uncontested"]
         if self.is_contested:
             lines[1] = f"Seats {self.ballots.seats}, valid {self.valid}, quota {votes_text(self.quota)}"
             lines.append("Rejected " + ", ".join(f"{code}: {papers}" for code, papers in zip(CODES, self.ballots.rejected)))
-        return written(lines) + b"".join(self.stages[:done])
+        return written(lines) + b"".join(self.stages)
 
     def declaration(self):
         elected = self.those("Ee" if self.is_contested else "-")
@@ -294,61 +259,44 @@ def compare(what, told, wanted):
             raise Wrong(f"{what}, line {place}: told is {line}, wanted {right}")
 
 
-def recounted(played, done):
-    """Returns the count of the program's ballots file, once that is found right, and the program's sheet of so many stages too."""
-    number = played.ward.number
-    count = Count(Ballots(played.told("ballots", number)))
-    bundles, rejected = played.ward.judged()
-    told = [(bundle.papers, bundle.preferences) for bundle in sorted(count.ballots.bundles)]
-    compare("ballots, sorted", written([count.ballots.rejected, *told]), written([rejected, *bundles]))
-    compare("sheet", played.told("sheet", number), count.sheet(done))
-    if count.lots:
-        raise Wrong(f"ballots: no stage takes these lots: {count.lots}")
+def play(ward, folder):
+    """Plays a ward to its declaration, and compares all that the program prints on the way. Returns its count."""
+    number, office = ward.number, sealed_office(folder, ward)
+
+    def told(*words):
+        return office.do(*words).encode("utf-8", "surrogateescape")
+    while True:
+        count = Count(Ballots(told("ballots", number)))
+        bundles, rejected = ward.judged()
+        papers = [(bundle.papers, bundle.preferences) for bundle in sorted(count.ballots.bundles)]
+        compare("ballots, sorted", written([count.ballots.rejected, *papers]), written([rejected, *bundles]))
+        if count.lots:
+            raise Wrong(f"ballots: no stage takes these lots: {count.lots}")
+        stage, tied = count.waits or (0, [])
+        last = f"lot needed at stage {stage} among {', '.join(map(str, tied))}" if tied else "count finished"
+        compare("count", told("count", number, "--id", f"count-to-{stage}").splitlines()[-1], last.encode())
+        compare("sheet", told("sheet", number), count.sheet())
+        if not tied:
+            break
+        told("lot", number, stage, ward.chance.choice(tied), "--id", f"l{stage}")
+    told("declare", number, "--id", "d")
+    compare("result", told("result", number), count.declaration())
     return count
 
 
-def play(played, totals):
-    """Plays a ward to its declaration, and compares all that the program prints on the way."""
-    number, done = played.ward.number, 0
-    played.seal()
-    count = recounted(played, done)
-    while (told := played.told("advance", number, "--id", f"a{done}", refusals="refused 2[56]: .*\n")) != FINISHED:
-        if isinstance(told, bytes):
-            done += 1
-            totals.update({"stages compared": 1, "figures compared": len(played.ward.names) + 2})
-        else:
-            stage, among = count.waits or (0, [])
-            if told != f"refused 26: lot needed at stage {stage} among {', '.join(map(str, among))}\n":
-                raise Wrong(f"advance after stage {done}: {told!r}, where the recount waits for {count.waits}")
-            totals["lots drawn"] += 1
-            played.lots[stage] = played.ward.chance.choice(among)
-            played.told("lot", number, stage, played.lots[stage], "--id", f"l{stage}")
-        count = recounted(played, done)
-    if count.waits or done < len(count.stages):
-        raise Wrong(f"{FINISHED!r} after stage {done}, where the recount continues")
-    played.told("declare", number, "--id", "d")
-    recounted(played, done)
-    compare("result", played.told("result", number), count.declaration())
-
-
 def play_wards(wards, seed):
-    totals, home = collections.Counter(), Path(tempfile.mkdtemp(prefix="recount-"))
+    totals = collections.Counter()
     for place in range(1, wards + 1):
-        played = PlayedWard(home / str(place), Ward(random.Random(f"{seed} {place}")))
-        try:
-            play(played, totals)
-            shutil.rmtree(home / str(place))
-        except Wrong as error:
-            totals["differences"] += 1
-            print(f"recount: seed {seed}, ward {place}: {error}; kept in {home / str(place)}", file=sys.stderr, flush=True)
-        totals["contested" if played.ward.is_contested else "uncontested"] += 1
-        totals["wards with a lot"] += bool(played.lots)
+        ward = Ward(random.Random(f"{seed} {place}"))
+        with temporary_folder() as folder:
+            try:
+                count = play(ward, folder)
+            except Wrong as error:
+                raise Wrong(f"seed {seed}, ward {place}: {error}") from error
+        totals.update({"contested": ward.is_contested, "stages compared": len(count.stages), "lots drawn": len(count.ballots.lots)})
     table = Table(f"Made-up wards, seed {seed}", wards)
-    for what in ("uncontested", "contested", "stages compared", "figures compared", "lots drawn", "wards with a lot", "differences"):
-        table.row(what, totals[what])
-    if totals["differences"]:
-        raise Wrong("not all wards are counted alike")
-    home.rmdir()
+    for what, number in totals.items():
+        table.row(what, number)
 
 
 def main(ballots: Path = None, *, wards=0, seed=1):
@@ -366,4 +314,3 @@ def main(ballots: Path = None, *, wards=0, seed=1):
         print(f"a lot is needed at stage {count.waits[0]} among {', '.join(map(str, count.waits[1]))}", file=sys.stderr)
     if count.lots:
         raise Wrong("no stage takes " + ", ".join(f"the lot at stage {stage}: {number}" for stage, number in count.lots.items()))
-    return 0

@@ -1,29 +1,37 @@
 """Refuses each growth of memory of each order in turn, and sees that nothing is lost.
 
-docs/HOSTILE.md says what must hold in each run. Every growth of every order takes hours; STEP tries every STEPth, ORDER the orders of one
+docs/HOSTILE.md says what must hold in each run. Every growth of every order takes hours; STEP tries one in STEP, ORDER the orders of one
 name alone.
 """
-import functools
-import itertools
-
-from office_tools.office import temporary_folder
+from office_tools.office import Wrong, needs, temporary_folder
 from office_tools.tables import Table, added
-from office_tools.trials import RESULTS, library, side_by_side, trials
+from office_tools.trials import CALL, RESULTS, side_by_side, trials
 
 FAULTS = [r"fault 101: memory", r"file fault 9 at record \d+: memory"]
+# With this setting the GNU C library asks the system for each growth by itself. `brk` and `mremap` never give any, so it asks by `mmap`.
+SETTING = {"GLIBC_TUNABLES": "glibc.malloc.mmap_threshold=1"}
+NEVER = ["brk:error=ENOMEM", "mremap:error=ENOMEM"]
 
 
-def runs(trial, made, step):
-    """Begins each order with another growth, so that not all of them miss the same ones."""
-    growths = itertools.count(1 + trial.number % step, step)
-    return [trial.runs(((f"growth {growth}", {"LD_PRELOAD": made, "REFUSING_GROWTH": str(growth)}) for growth in growths), FAULTS)]
+def refusals(trial, step):
+    """Yields each refusal: its name, and how the order is given. Before the program sets what signals do, growths are the loader's."""
+    how = {"calls": ("mmap", "brk", "mremap", "rt_sigaction"), "env": SETTING}
+    calls = CALL.findall(trial.traced(changes=NEVER, **how)[-1])
+    first = calls[:calls.index("rt_sigaction")].count("mmap") + 1
+    # Each order begins with another growth, so that not all miss the same ones. What `mmap` refuses is asked for once more.
+    for growth in range(first + trial.number % step, calls.count("mmap") + 1, step):
+        yield f"growth {growth}", {"faults": FAULTS, "changes": [*NEVER, f"mmap:error=ENOMEM:when={growth}..{growth + 1}"], **how}
 
 
 def main(step=1, order=""):
-    title, totals = f"Order (every {step}th growth)" if step > 1 else "Order", [0] * 6
+    needs("strace")
+    title, totals = f"Order (one growth in {step})" if step > 1 else "Order", [0] * 6
     table = Table(title, "growths refused", "fault 101", "answered all the same", *RESULTS)
     with temporary_folder() as folder:
-        for trial, (counts,) in side_by_side(functools.partial(runs, made=library(folder), step=step), trials(folder, order)):
+        tried = trials(folder, order)
+        for trial, counts in zip(tried, side_by_side(lambda trial: trial.runs(refusals(trial, step)), tried)):
             table.row(f"`{trial.order.name}`", *counts)
             totals = added(totals, counts)
     table.row("all", *totals)
+    if not totals[0]:
+        raise Wrong("no growth was refused: the program has to be one of the GNU C library")

@@ -1,26 +1,23 @@
 """Gives two orders at one file at once, takes files away, and looks at the rights of what is made.
 
-docs/HOSTILE.md says what the orders may print, and what the files hold afterwards. The last table is of orders that wait before each
-call on the file that they make, and of `serve`: all that is there must be its owner's alone.
+docs/HOSTILE.md says what the orders may print, and what the files hold afterwards. By `strace` an order stops within its calls on the file
+that it makes, and the last table looks at the rights with which files are made: all must be their owner's alone.
 """
-import ctypes
-import functools
-import itertools
+import contextlib
 import os
 import random
-import resource
+import re
 import shutil
 import signal
-import tempfile
 import time
-from pathlib import Path
 
 from office_tools.election import COPY, COPYING, ELECTION, FILE, REPLAY, REQUESTS, SCRIPTED, Order, offices
-from office_tools.office import LOG, NO_OFFICE, SECONDS, STORE, TOWN, Office, Wrong, ended, remove, temporary_folder, timed, waited
+from office_tools.office import LOG, NO_OFFICE, SECONDS, STORE, TOWN, Office, Wrong, ended, needs, remove, temporary_folder, timed, waited
 from office_tools.tables import Table
-from office_tools.trials import NOT_WRITTEN, left, library
+from office_tools.trials import CALL, NOT_WRITTEN, left, strace
 
 KEYINGS = 7
+FAULTS = ("102", "105", "109", "110", "113")
 GONE = "fault 113: file gone or replaced\n"
 GONE_SENT = ("HTTP/1.1 503 Service Unavailable\r\nContent-Type: application/json\r\nContent-Length: 13\r\nConnection: close\r\n"
              '\r\n{"fault":113}')
@@ -40,13 +37,11 @@ PAIRS = [
     ("two wards", KEYINGS, QUAY, HILL),
     ("a ward and a status", KEYINGS, QUAY, STATUS),
     ("two stages of one count", 15, ELECTION[15], ELECTION[16]),
-    ("a ward's sealing and its first stage", 14, ELECTION[14], ELECTION[15]),
     ("two `init`", 0, INIT, INIT),
     ("`init` and a ward", 0, INIT, QUAY),
     ("a copy and a ward", KEYINGS, COPYING, QUAY),
     ("two copies at one path", KEYINGS, COPYING, COPYING),
     ("a script and a copy", SCRIPTED[0], REPLAY, COPYING),
-    ("a script and a ward", SCRIPTED[0], REPLAY, QUAY),
     ("a script and its first order", SCRIPTED[0], REPLAY, ELECTION[SCRIPTED[0]]),
     ("a copy and `init` at its path", KEYINGS, COPYING, Order(["init"], town=COPY)),
 ]
@@ -99,41 +94,28 @@ class Pair:
 
 
 def print_pairs(folder, before, runs, chance):
-    kinds = ("102", "105", "109", "110")
-    table = Table(f"Two orders at once ({runs} runs each)", "both answered", *(f"one: fault {word}" for word in kinds))
+    table = Table(f"Two orders at once ({runs} runs each)", "both answered", *(f"one: fault {word}" for word in FAULTS[:4]))
     for what, number, first, second in PAIRS:
         pair = Pair(folder, before[number], first, second)
         found = [pair.tried(chance) for _ in range(runs)]
-        table.row(what, *map(found.count, ("both", *kinds)))
+        table.row(what, *map(found.count, ("both", *FAULTS[:4])))
 
 
-def without_rights():
-    """Takes from the child to come what lets the superuser write to any file."""
-    drop_from_bounds, write_to_any = 24, 1
-    ctypes.CDLL(None).prctl(drop_from_bounds, write_to_any, 0, 0, 0)
-
-
-def held(office):
-    """Opens the two files, so that they can be read after they are removed."""
-    return {name: open(office.folder / name, "rb") for name in (TOWN, LOG)}
-
-
-class Meddling:
-    """What is done to an office's files while orders run, and what must come of it."""
+class Taking:
+    """Files that are taken from an order, or from `serve`, and what must come of it."""
 
     def __init__(self, folder, before, chance):
         self.folder, self.office, self.keyed, self.chance = folder, before[KEYINGS], before[KEYINGS + 1], chance
         self.other = before[2].copied(folder / "other")
         QUAY.done(self.other)
-        self.before, self.keying = self.office.rows(), ELECTION[KEYINGS]
 
-    def after(self, office, order):
-        """Returns what an order prints if nothing is done to its file, and the rows and the copy that it leaves."""
-        here = office.copied(self.folder / "after")
-        return order.done(here), left(here)
+    def begun(self, office):
+        """Returns a copy of an office, and its two files, opened so that their rows can be read after they are removed."""
+        here = office.copied(self.folder / "run")
+        return here, {name: open(here.folder / name, "rb") for name in (TOWN, LOG)}
 
     def held_rows(self, files):
-        """Returns the rows of files that were held."""
+        """Returns the rows of files that were opened before."""
         shutil.rmtree(self.folder / "held", ignore_errors=True)
         kept = Office(self.folder / "held")
         for name, file in files.items():
@@ -141,141 +123,109 @@ class Meddling:
                 (kept.folder / name).write_bytes(file.read())
         return kept.rows()
 
-    def read_only(self, names, order):
-        """Gives an order on files that can't be written to, and again when they can."""
-        here = self.office.copied(self.folder / "run")
-        before, (wanted, _) = left(here), self.after(self.office, order)
-        for name in names:
-            (here.folder / name).chmod(0o555 if name == "." else 0o444)
-        printed = here.run(*order.words, preexec_fn=without_rights)
-        for name in names:
-            (here.folder / name).chmod(0o755 if name == "." else 0o644)
-        if printed.status == 3 and left(here, 3) != before or order.done(here) != wanted:
-            raise Wrong(f"{names} read-only: {printed}, or other rows then")
-        return printed
-
-    def begun(self, order):
-        """Begins an order, and waits a random part of the time that it takes. Returns the office, its files, and the process."""
-        seconds, here = timed(order.done, self.office.copied(self.folder / "timed"))[1], self.office.copied(self.folder / "run")
-        files, process = held(here), order.started(here)
-        time.sleep(self.chance.uniform(0, 1.2 * seconds))
-        return here, files, process
-
-    def removed(self, names, order):
-        """Removes files while an order runs."""
-        here, files, process = self.begun(order)
-        remove(*(here.folder / name for name in names))
-        printed, found = ended(process), self.held_rows(files)
-        wanted, (after, copy) = self.after(self.office, order)
-        faults = [(3, "", fault) for fault in (STORE, NO_OFFICE, *([NOT_WRITTEN + "\n"] if order is COPYING else []))]
-        if printed not in [wanted, *faults] or found not in (self.before, after) or printed == wanted and found != after:
-            raise Wrong(f"{names} removed: {printed}, or other rows")
-        if left(here)[1] != (copy if printed == wanted else None) or TOWN in names and STATUS.done(here) != (3, "", NO_OFFICE):
-            raise Wrong(f"{names} removed: {printed}, and another copy, or an office is there")
-        return printed
-
-    def replaced(self, names, order):
-        """Puts another office's files in the place of those that an order opened."""
+    def take(self, here, names, is_replaced):
+        """Removes files of an office, or puts another's in their place."""
         come = self.other.copied(self.folder / "come")
-        here, files, process = self.begun(order)
         for name in names:
-            os.replace(come.folder / name, here.folder / name)
+            if is_replaced:
+                os.replace(come.folder / name, here.folder / name)
+            else:
+                remove(here.folder / name)
+
+    def from_order(self, names, is_replaced, order=ELECTION[KEYINGS]):
+        """Takes files while an order runs, which is answered, or reports a fault. Another office's file may get the order, and no other."""
+        after, there = (office.copied(self.folder / name) for office, name in ((self.office, "after"), (self.other, "there")))
+        (wanted, seconds), before, theirs = timed(order.done, after), self.office.rows(), self.other.rows()
+        elsewhere = order.done(there)
+        here, files = self.begun(self.office)
+        process = order.started(here)
+        time.sleep(self.chance.uniform(0, 1.2 * seconds))
+        self.take(here, names, is_replaced)
         printed, found, at = ended(process), self.held_rows(files), here.rows()
-        wanted, (after, _) = self.after(self.office, order)
-        there, (both, _) = self.after(self.other, order)
-        theirs = self.other.rows()
-        if (printed, found, at) not in [(wanted, after, theirs), ((3, "", STORE), self.before, theirs), (there, self.before, both)]:
-            raise Wrong(f"{names} replaced: {printed}; before {found == self.before}, other's {at == theirs}, both {at == both}")
+        allowed = [(wanted, after.rows(), theirs), ((3, "", STORE), before, theirs), (elsewhere, before, there.rows())]
+        if not is_replaced:
+            gone = None if TOWN in names else at
+            allowed = [(wanted, after.rows(), gone), *(((3, "", fault), before, gone) for fault in (STORE, NO_OFFICE))]
+        if (printed, found, at) not in allowed:
+            raise Wrong(f"{names} taken from an order: {printed}, or other rows")
         return printed
 
-    def served(self, names, is_replaced, order, result):
-        """Takes files away while `serve` has them open. If none is, the order that is handed over and a client's keying are done."""
-        here = self.keyed.copied(self.folder / "run")
-        files = held(here)
+    def from_serve(self, names, is_replaced, result, order=HILL):
+        """Takes files that `serve` has open: it says so, and keeps nothing more, neither an order nor a client's keying."""
+        here, files = self.begun(self.keyed)
         with here.serve(connections=2) as serving:
             serving.ask(REQUESTS[0][1].sends)
-            for name in names:
-                (here.folder / name).unlink()
-                if is_replaced:
-                    shutil.copyfile(self.other.folder / name, here.folder / name)
+            self.take(here, names, is_replaced)
             printed, client = order.done(here), serving.ask(REQUESTS[1][1].sends).decode()
             said = serving.ended()
-        after, bare = (self.keyed.copied(self.folder / name) for name in ("after", "bare"))
-        there = self.other.copied(self.folder / "there")
-        if not names:
-            order.done(after)
-        answered = GONE_SENT if names else REQUESTS[1][1].done(after).out
-        if result == "answered":
+        there = (self.other if is_replaced else self.keyed).copied(self.folder / "there")
+        if not is_replaced:
+            remove(*(there.folder / name for name in names))
+        elif result == "answered":
             order.done(there)
-        remove(*(bare.folder / name for name in names))
-        at = left(after) if not names else left(there) if is_replaced else left(bare)
-        is_right = said == (0, "", GONE if names else "") and client == answered and self.held_rows(files) == after.rows()
-        if not is_right or kind(printed) != result or left(here) != at:
+        is_right = said == (0, "", GONE) and client == GONE_SENT and self.held_rows(files) == self.keyed.rows()
+        if not is_right or kind(printed) != result or left(here) != left(there):
             raise Wrong(f"{names} taken from serve, which prints {said}; the order {printed}, the client {client}")
         return printed
 
-    def cases(self, runs):
-        """Returns (what is done to the files, how often, a function that does it once and returns what was printed)."""
-        file, log, both = [TOWN], [LOG], [TOWN, LOG]
-        return [(what, times, functools.partial(*act)) for what, times, *act in (
-            ("the file can't be written to", 1, self.read_only, file, QUAY),
-            ("its log can't be written to", 1, self.read_only, log, QUAY),
-            ("the folder can't be written to", 1, self.read_only, ["."], QUAY),
-            ("the folder can't be written to, where a copy is made", 1, self.read_only, ["."], COPYING),
-            ("the file removed while an order runs", runs, self.removed, file, self.keying),
-            ("its log removed while an order runs", runs, self.removed, log, self.keying),
-            ("both removed while an order runs", runs, self.removed, both, self.keying),
-            ("the file removed while it is copied", runs, self.removed, file, COPYING),
-            ("the file replaced while an order runs", runs, self.replaced, file, self.keying),
-            ("both replaced while an order runs", runs, self.replaced, both, self.keying),
-            ("nothing, and `serve` has them open", 1, self.served, [], False, HILL, "answered"),
-            ("nothing, and `serve` has them open while a copy is made", 1, self.served, [], False, COPYING, "answered"),
-            ("both removed, and `serve` has them open", 1, self.served, both, False, HILL, "105"),
-            ("the file replaced, and `serve` has them open", 1, self.served, file, True, HILL, "102"),
-            ("both replaced, and `serve` has them open", 1, self.served, both, True, HILL, "answered"),
-            ("its log removed, and `serve` has them open", 1, self.served, log, False, HILL, "113"))]
 
-    def show(self, runs, seed):
-        kinds = ("102", "105", "110", "113")
-        table = Table(f"What is done to the file and its log (seed {seed})", "runs", "answered", *(f"fault {word}" for word in kinds))
-        for what, times, meddle in self.cases(runs):
-            found = [kind(meddle()) for _ in range(times)]
-            table.row(what, times, *map(found.count, ("answered", *kinds)))
+def print_taken(taking, runs):
+    table = Table("What is done to the file and its log", "runs", "answered", *(f"fault {word}" for word in FAULTS))
+    both = [TOWN, LOG]
+    for what, times, act, *words in (
+            ("both removed while an order runs", runs, taking.from_order, both, False),
+            ("its log removed while an order runs", runs, taking.from_order, [LOG], False),
+            ("the file replaced while an order runs", runs, taking.from_order, [TOWN], True),
+            ("both replaced while an order runs", runs, taking.from_order, both, True),
+            ("both removed, and `serve` has them open", 1, taking.from_serve, both, False, "105"),
+            ("the file replaced, and `serve` has them open", 1, taking.from_serve, [TOWN], True, "102"),
+            ("both replaced, and `serve` has them open", 1, taking.from_serve, both, True, "answered"),
+            ("its log removed, and `serve` has them open", 1, taking.from_serve, [LOG], False, "113")):
+        found = [kind(act(*words)) for _ in range(times)]
+        table.row(what, times, *map(found.count, ("answered", *FAULTS)))
 
 
-# Orders that make a file, the office before them, the file's name, and those that are given at that file meanwhile.
-MAKING = [("`init`", 0, INIT, TOWN), ("a copy", KEYINGS, COPYING, COPY)]
-COMING = [("`init`", INIT.words), ("a ward", QUAY.words)]
-ROOM = 40960
-# An order that doesn't come so far within so many seconds waits for another. It tries again, so no more of its calls are taken than an
-# order makes that doesn't have to.
+# An order that doesn't come so far within so many seconds waits for another. It tries again, so it stops within its first calls alone.
 STUCK, FIRST_CALLS = 0.4, 24
+NO_ROOM = ["prlimit", "--fsize=40960"]
 
 
-def without_room():
-    """Lets the child to come write no file past a length: such a write fails."""
-    signal.signal(signal.SIGXFSZ, signal.SIG_IGN)
-    resource.setrlimit(resource.RLIMIT_FSIZE, (ROOM, ROOM))
+class Stopping:
+    """An order that stops after one of its calls on a file and its log, drawn at random."""
 
+    def __init__(self, folder, name, order, under=()):
+        self.folder, self.names, self.order, self.under = folder, (name, name + "-wal"), order, under
+        self.trace = folder / f"trace-{len(under)}"
 
-class Waiting:
-    """An order that waits before one of its calls on a file."""
+    def start(self, here, *changes):
+        words = [*strace(self.trace, here.folder, self.names, *changes), *self.under]
+        return self.order.started(here, under=words, restore_signals=False)
 
-    def __init__(self, made, here, order, name, call, has_room=True, limit=SECONDS):
-        place = Path(tempfile.mkdtemp(dir=here.folder.parent))
-        note, self.awaited = place / "waits", place / "goes"
-        env = {**os.environ, "LD_PRELOAD": made, "REFUSING_WAY": "waits", "REFUSING_NAMES": name, "REFUSING_CALL": str(call),
-               "REFUSING_TOLD": str(note), "REFUSING_AWAITED": str(self.awaited)}
-        self.process = order.started(here, env=env, restore_signals=False, preexec_fn=None if has_room else without_room)
-        waited(lambda: note.exists() or self.process.poll() is not None, limit)
-        self.waits = note.exists()
+    def calls(self, office):
+        """Returns its calls, if it is alone."""
+        ended(self.start(office.copied(self.folder / "alone")))
+        return CALL.findall(self.trace.read_text(errors="replace"))
 
-    def ended(self, seconds=None):
+    def begin(self, here, calls, number, seconds=SECONDS):
+        """Begins it, and returns whether it stops within these seconds after a call of this number."""
+        remove(self.trace)
+        self.goes_on, place = False, calls[:number + 1].count(calls[number])
+        self.process = self.start(here, f"{calls[number]}:signal=STOP:when={place}")
+        return waited(lambda: self.is_stopped() or self.process.poll() is not None, seconds) and self.is_stopped()
+
+    def is_stopped(self):
+        return self.trace.exists() and "--- stopped by SIGSTOP ---" in self.trace.read_text(errors="replace")
+
+    def is_ended(self):
+        """Lets it go on once it has stopped, and returns whether it ended."""
+        if self.is_stopped() and not self.goes_on:
+            self.process.send_signal(signal.SIGCONT)
+            self.goes_on = True
+        return self.process.poll() is not None
+
+    def end(self, seconds=SECONDS):
         """Lets it go on, and returns what it prints; None if it doesn't end within these seconds."""
-        self.awaited.touch()
-        if seconds and not waited(lambda: self.process.poll() is not None, seconds):
-            return None
-        return ended(self.process)
+        return ended(self.process) if waited(self.is_ended, seconds) else None
 
 
 def check_made(here, name, printed, before):
@@ -290,94 +240,64 @@ def check_made(here, name, printed, before):
         raise Wrong(f"an order that finds no room at {name}, and another, which prints {printed}: {there} is left")
 
 
-def gaps(folder, made, office, first, name, words):
-    """Yields what each second order prints, for all pairs of calls before which the two wait."""
-    for one in itertools.count(1):
-        for other in range(1, FIRST_CALLS + 1):
-            here = office.copied(folder / "gap")
-            making = Waiting(made, here, first, name, one, False)
-            if not making.waits:
-                making.ended()
-                return
-            coming = Waiting(made, here, Order(words, town=name), name, other, limit=STUCK)
-            making_printed = making.ended(STUCK)
-            printed = coming.ended()
-            making_printed = making_printed or making.ended()
-            if making_printed.status != 3:
-                raise Wrong(f"{first.words} without room: {making_printed}")
-            check_made(here, name, printed, office)
-            yield printed
-            if not coming.waits:
-                break
+def print_gaps(folder, before, runs, chance):
+    """Prints the table of orders that find no room for the file that they make, and of others that come to it meanwhile."""
+    heads = ("another at that file", "runs", "both stopped", "answered", "fault 102", "fault 105")
+    table, stops = Table("An order that finds no room for its file", *heads), 0
+    for what, number, first, name in (("`init`", 0, INIT, TOWN), ("a copy", KEYINGS, Order(["copy", COPY]), COPY)):
+        for other in (INIT, QUAY):
+            office, found, both = before[number], [], 0
+            making, coming = Stopping(folder, name, first, NO_ROOM), Stopping(folder, name, Order(other.words, town=name))
+            of_making, of_coming = making.calls(office), Stopping(folder, TOWN, other).calls(before[KEYINGS if other is QUAY else 0])
+            for _ in range(runs):
+                here = office.copied(folder / "gap")
+                is_stopped = making.begin(here, of_making, chance.randrange(len(of_making)))
+                both += coming.begin(here, of_coming, chance.randrange(min(FIRST_CALLS, len(of_coming))), STUCK) and is_stopped
+                made = making.end(STUCK)
+                printed = coming.end()
+                made = made or making.end()
+                if not made or not printed or made.status != 3:
+                    raise Wrong(f"{first.words} without room: {made}; another order: {printed}")
+                check_made(here, name, printed, office)
+                found.append(kind(printed))
+            stops += both
+            table.row(what, "`init`" if other is INIT else "a ward", runs, both, *map(found.count, ("answered", "102", "105")))
+    if not stops:
+        raise Wrong("no two orders stopped")
 
 
-def print_gaps(folder, made, before):
-    heads = ("another at that file", "pairs of calls", "answered", "fault 102", "fault 105")
-    table = Table("An order that finds no room for its file", *heads)
-    for (what, number, first, name), (coming, words) in itertools.product(MAKING, COMING):
-        found = [kind(printed) for printed in gaps(folder, made, before[number], first, name, words)]
-        if not found:
-            raise Wrong("no order waits before its calls: the program has to be linked dynamically")
-        table.row(what, coming, len(found), *map(found.count, ("answered", "102", "105")))
+# A file that is made, and the rights that it is made with.
+CREATED = re.compile(r'openat\(AT_FDCWD, "([^"]*)", [A-Z_|]*O_CREAT[A-Z_|]*, (0\d*)\) = \d')
 
 
-def private(office, folder):
-    """Returns a copy of an office, its owner's alone."""
-    here = office.copied(folder)
-    for path in here.folder.iterdir():
-        path.chmod(0o600)
-    return here
-
-
-def open_to_others(office):
-    """Returns the files of an office, of its copy and its socket, that others than their owner have rights to."""
-    paths = [office.folder / (name + ending) for name in (TOWN, COPY) for ending in ("", "-wal", "-journal", "-serve")]
-    return [path.name for path in paths if path.exists() and path.stat().st_mode & 0o077]
-
-
-def rights(folder, made, office, first, name):
-    """Lets an order wait before each of its calls on the file that it makes, and looks at the rights. Returns how many calls there were."""
-    for call in itertools.count(1):
-        here = private(office, folder / "rights")
-        making = Waiting(made, here, first, name, call)
-        found = open_to_others(here)
-        printed = making.ended()
-        if found or open_to_others(here) or printed.status:
-            raise Wrong(f"{first.words}, before call {call}: others have rights to {found}; then {open_to_others(here)}; {printed}")
-        if not making.waits:
-            return call
-
-
-def rights_served(folder, office):
-    """Looks at the rights of what is there while `serve` runs, and after a copy that it made."""
-    here = private(office, folder / "rights")
-    with here.serve(connections=2) as serving:
-        serving.ask(REQUESTS[0][1].sends)
-        printed = COPYING.done(here)
-        if open_to_others(here) or printed.status or not (here.folder / (TOWN + "-serve")).exists():
-            raise Wrong(f"while served others have rights to {open_to_others(here)}; {printed}")
-    return 1
-
-
-def print_rights(folder, made, before):
-    table = Table("What is made, under masks 0, 022 and 077", "its rights looked at, of their owner alone")
-    kinds = [(what, functools.partial(rights, folder, made, before[number], first, name)) for what, number, first, name in MAKING]
-    kinds.append(("a socket, and a copy of an office that is served", functools.partial(rights_served, folder, before[KEYINGS + 1])))
-    for what, look in kinds:
-        looks = 0
+def print_rights(folder, before):
+    """Prints the table of what is made under each mask, and by which calls: all of it has to be its owner's alone."""
+    table = Table("What is made, under masks 0, 022 and 077", "made for its owner alone")
+    for what, number, order in (("`init`", 0, INIT), ("a copy", KEYINGS, COPYING), ("an order while it is served", KEYINGS, QUAY)):
         for mask in (0o000, 0o022, 0o077):
-            own = os.umask(mask)
-            looks += look()
+            here, own = before[number].copied(folder / "rights"), os.umask(mask)
+            for path in here.folder.iterdir():
+                path.chmod(0o600)
+            trace = folder / "rights-trace"
+            under = strace(trace, here.folder, (), calls=("openat",))
+            with here.serve(under=under) if order is QUAY else contextlib.nullcontext() as serving:
+                waited(lambda: not serving or (here.folder / (TOWN + "-serve")).exists())
+                printed = order.done(here, **({} if serving else {"under": under}))
+                made = sorted(os.listdir(here.folder))
+                found = [path.name for path in here.folder.iterdir() if path.stat().st_mode & 0o077]
+                found += [one[1] for one in CREATED.finditer(trace.read_text()) if int(one[2], 8) & 0o077]
             os.umask(own)
-        table.row(what, looks)
+            if printed.status or found:
+                raise Wrong(f"{what}, mask {mask:o}: others have rights to {found}; {printed}")
+        table.row(what, ", ".join(made))
 
 
 def main(runs=100, seed=7):
+    needs("strace")
     chance = random.Random(seed)
     with temporary_folder() as folder:
         before = offices(folder)
         print_pairs(folder, before, runs, chance)
-        Meddling(folder, before, chance).show(runs, seed)
-        made = library(folder)
-        print_gaps(folder, made, before)
-        print_rights(folder, made, before)
+        print_taken(Taking(folder, before, chance), runs)
+        print_gaps(folder, before, runs, chance)
+        print_rights(folder, before)
