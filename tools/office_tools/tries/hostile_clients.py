@@ -25,7 +25,7 @@ class Served:
     """An office that is served, the requests that come, and what the good client gets. With codes each request has its clerk's."""
 
     def __init__(self, office, codes):
-        self.office, self.codes, self.rows = office, codes, office.rows()
+        self.codes, self.rows = codes, office.rows()
         harm = 9 if codes else 4
         self.good_request, self.work = self.of(4, "" if codes else "work"), self.of(harm, "work")
         self.refused = self.of(harm, "batches/99/keying", '{"id":"h1","round":1,"papers":["1,2,","9"]}')
@@ -43,11 +43,6 @@ class Served:
 
     def ask_well(self):
         return answer(self.connect(), self.good_request, shut=True)
-
-    def end(self):
-        """Kills `serve`. It printed nothing, and kept nothing."""
-        if (printed := self.serving.kill()) != (-9, "", "") or self.office.rows() != self.rows:
-            raise Wrong(f"serve: {printed}, or other rows are there than before")
 
 
 def byte_by_byte(line, sends, pause=0.0):
@@ -77,22 +72,18 @@ def endless(line, sends):
     return received(line)
 
 
-def kinds(work, refused):
-    """Returns [(what, how many seconds at most each may take, what each sends, how it sends that)]."""
-    return [
-        ("whole requests, a byte at a time", 5, [work, refused] * 3, byte_by_byte),
-        ("gone, with nothing sent or within the request", 5, [refused[:n] for n in range(len(refused))], gone),
-        ("gone within the answer", 5, [work] * 20, gone),
+def print_kinds(served):
+    """Sends each kind: what it is, how many seconds at most each may take, what each sends, and how it sends that."""
+    table = Table("The clients", "clients", "answers, by status", "let go without one", "seconds")
+    for what, most, sends, how in (
+        ("whole requests, a byte at a time", 5, [served.work, served.refused] * 3, byte_by_byte),
+        ("gone, with nothing sent or within the request", 5, [served.refused[:n] for n in range(len(served.refused))], gone),
+        ("gone within the answer", 5, [served.work] * 20, gone),
         ("a head without an end", 5, [b"GET / HTTP/1.1\r\nX: x"], endless),
         ("a body without an end", 5, [b"POST /clerks/4/batches/12/keying HTTP/1.1\r\nContent-Length: 1048576\r\n\r\n "], endless),
         ("silent", PATIENCE + 5, [b""], answer),
-        ("a byte every five seconds", PATIENCE + 5, [work], lambda line, sends: byte_by_byte(line, sends, 5)),
-    ]
-
-
-def print_kinds(served):
-    table = Table("The clients", "clients", "answers, by status", "let go without one", "seconds")
-    for what, most, sends, how in kinds(served.work, served.refused):
+        ("a byte every five seconds", PATIENCE + 5, [served.work], lambda line, sends: byte_by_byte(line, sends, 5)),
+    ):
         answers, seconds = timed(lambda: [how(served.connect(), text) for text in sends])
         if served.ask_well() != served.good:
             raise Wrong(f"{what}: the next client gets something else")
@@ -132,4 +123,5 @@ def main(*, codes=False):
         with served.serving:
             print_kinds(served)
             print_crowds(served)
-            served.end()
+            if (printed := served.serving.kill()) != (-9, "", "") or office.rows() != served.rows:
+                raise Wrong(f"serve: {printed}, or other rows are there than before")

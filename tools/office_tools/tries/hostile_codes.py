@@ -15,10 +15,9 @@ from office_tools.office import Wrong, temporary_folder
 from office_tools.tables import Table
 from office_tools.web import basic, received, request, status
 
-MOST, MINUTE, SENDERS = 6000, 60, 4
+MOST, MINUTE, SENDERS, DENIED, BODY = 6000, 60, 4, 1000, 200_000
 # The letters of codes, but for the x of wrong ones; the tellers, and a number that no line of the file has.
 LETTERS, TELLERS, NOBODY = "abcdefghjkmnprstuwy2347", range(1, 41), 999
-DENIED, BODY = 1000, 200_000
 SIGNS = [b"%c" % sign for sign in b"0123456789/ =\r\n"]
 
 
@@ -26,8 +25,8 @@ def work(clerk, *headers):
     return request(f"/clerks/{clerk}/work", *headers)
 
 
-def with_code(clerk, code):
-    return work(clerk, f"Authorization: {basic(clerk, code)}")
+def with_code(clerk, code, *headers):
+    return work(clerk, f"Authorization: {basic(clerk, code)}", *headers)
 
 
 def shown(said):
@@ -103,11 +102,11 @@ def check_changed(told, codes, chance):
     print(f"\nOf 2000 requests with bytes changed: {shown(said)}.", flush=True)
 
 
-def check_bodies(serving):
+def check_bodies(connect, *headers):
     """Sends denied requests with bodies that are longer than what a socket holds: each has to be taken whole, and to get 401."""
-    sends, said = request("/clerks/4/batches/14/keying", body="x" * BODY), Counter()
-    for _ in range(DENIED):
-        line = serving.connect()
+    sends, said = request("/clerks/4/batches/14/keying", *headers, body="x" * BODY), Counter()
+    for number in range(DENIED):
+        line = connect(number)
         line.sendall(sends)
         said[status(received(line))] += 1
     print(f"\nOf {DENIED} requests without a code, with bodies of {BODY} bytes each: {shown(said)}.", flush=True)
@@ -123,4 +122,4 @@ def main(seed=7):
         check_limit(told, codes)
         print_denied(told)
         check_changed(told, codes, chance)
-        check_bodies(serving)
+        check_bodies(lambda _: serving.connect())

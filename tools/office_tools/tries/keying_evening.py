@@ -18,7 +18,6 @@ from office_tools.tables import Table
 from office_tools.web import HERE, Proxy
 
 ASKED = re.compile(r"(GET /clerks/\d+/(work|leave|batches/\d+/candidates)?|POST /clerks/\d+/batches/\d+/keying) HTTP/1.1")
-LISTED = "!document.getElementById('batches').hidden && document.activeElement.tagName === 'BUTTON'"
 
 
 def made_up(size, columns, chance):
@@ -49,7 +48,7 @@ class Teller:
         """Opens the clerk's page. The browser has his login from then on, as if it had been typed when the browser asked for it."""
         for login in (f"{self.clerk}:{CODES[self.clerk]}@", ""):
             self.browser.open(f"http://{login}{self.evening.page}{self.clerk}/")
-        self.browser.until(LISTED)
+        self.browser.until("!document.getElementById('batches').hidden && document.activeElement.tagName === 'BUTTON'")
 
     def press(self, *keys, at=0):
         """Presses keys. Then the cursor must be at this paper."""

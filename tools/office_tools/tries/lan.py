@@ -1,8 +1,7 @@
-"""Sets nginx up by count-office-lan in a clean Debian root, and keys and guesses codes through it from another machine.
+"""Sets nginx up by count-office-lan in a clean Debian root, and keys through it from another machine.
 
-The machines are network namespaces: the office's, with the package of release/ and these sources' script in that root; and a client's, with
-a teller's address, and a stranger's in a network that isn't let in. Needs root, Debian's mmdebstrap, iproute2 and curl, and a mirror of its
-packages.
+The machines are network namespaces: the office's, with the package of release/ and these sources' script in that root; a client's, with a
+teller's address, and one of a network that isn't let in. Needs root, Debian's mmdebstrap, iproute2 and curl, and a mirror of its packages.
 """
 import contextlib
 import hashlib
@@ -11,13 +10,12 @@ import re
 import shutil
 import ssl
 import subprocess
-from collections import Counter
 
 from office_tools.election import CODES, evening_office
 from office_tools.office import ROOT, Wrong, needs, temporary_folder, waited
 
 OFFICE, CLIENT = MACHINES = [f"{name}-{os.getpid()}" for name in ("office", "client")]
-HERE, TELLER, OUTSIDER, STRANGER = "192.168.7.1", "192.168.7.20", "192.168.7.21", "192.168.8.20"
+HERE, TELLER, STRANGER = "192.168.7.1", "192.168.7.20", "192.168.8.20"
 LAN, WORK, BATCH, ALLOWED, OTHER = "count-office-lan", "/clerks/4/work", "/clerks/4/batches/14", "192.168.7.0/24", "192.168.8.0/24"
 
 
@@ -38,7 +36,7 @@ def see(what, done, status, *texts):
 def network():
     """Makes the machines, and a line between them with both networks; at the end it ends what runs there, and removes them."""
     lines = [*(f"netns add {machine}" for machine in MACHINES), f"-n {OFFICE} link add line type veth peer name line netns {CLIENT}"]
-    for machine, addresses in ((OFFICE, (HERE, "192.168.8.1")), (CLIENT, (TELLER, OUTSIDER, STRANGER))):
+    for machine, addresses in ((OFFICE, (HERE, "192.168.8.1")), (CLIENT, (TELLER, STRANGER))):
         lines += [f"-n {machine} address add {address}/24 dev line" for address in addresses]
         lines += [f"-n {machine} link set {link} up" for link in ("lo", "line")]
     try:
@@ -96,24 +94,10 @@ def key(secret):
     page = ("-H", f"Origin: https://{HERE}", "-H", "Sec-Fetch-Site: same-origin", "-d", '{"id":"k1","round":1,"papers":["1,2,,,"]}')
     see("a teller keys a batch", curl(TELLER, *secret, *page, f"{BATCH}/keying"), 0, "batch 14 round 1 keyed", " 200")
     see("not without his code", curl(TELLER, *secret[:2], WORK), 0, "unauthorized", " 401")
-    see("nor with a body of 100,000 bytes", curl(TELLER, *secret[:2], "-d", "x" * 100_000, f"{BATCH}/keying"), 0, "unauthorized", " 401")
     see("a stranger's machine is denied, with the code", curl(STRANGER, *secret, WORK), 0, "nginx", " 403")
     for target in ("/office/", "/office/../clerks/4/work", "/wards/7/sheet", "/"):
         see(f"{target} isn't handed on", curl(TELLER, *secret, target), 0, "nginx", " 404")
     see("without TLS nginx names the address with TLS", curl(TELLER, "-i", WORK, at=f"http://{HERE}"), 0, f"https://{HERE}{WORK}", " 301")
-
-
-def guess(secret):
-    """Guesses codes from another address of the teller's network, faster than nginx lets it, under forty numbers; the teller is let in."""
-    wrong, good = Counter(), Counter()
-    for turn in range(400):
-        clerk = turn % 40 + 1
-        wrong[curl(OUTSIDER, *secret[:2], "-u", f"{clerk}:kf7m-2wxt-wrong", f"/clerks/{clerk}/work").stdout[-3:]] += 1
-        if turn % 10 == 0:
-            good[curl(TELLER, *secret, WORK).stdout[-3:]] += 1
-    if not {"401"} <= set(wrong) <= {"401", "503"} or set(good) != {"200"}:
-        raise Wrong(f"an outsider's guesses get {wrong}, and the teller meanwhile {good}")
-    print(f"seen: {wrong['401']} guesses are denied, {wrong['503']} more are held back by nginx, and the teller is let in meanwhile")
 
 
 def change(debian, secret):
@@ -142,7 +126,6 @@ def main():
         waited(lambda: "unauthorized" in debian.run("curl", "-s", f"http://127.0.0.1:8080{WORK}").stdout)
         secret = debian.trusting(printed)
         key(secret)
-        guess(secret)
         change(debian, secret)
         see("everything is removed", debian.run(LAN, "--remove"), 0, "removed")
         debian.compare(before)

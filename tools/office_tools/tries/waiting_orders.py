@@ -18,7 +18,7 @@ from office_tools.office import SCRIPT, STORE, TOWN, Office, Wrong, listens, ope
 from office_tools.tables import Table
 from office_tools.web import Crowd
 
-SERVING, CROWD, LINES = 12, 2000, 2000
+SERVING, CROWD, LINES, LONG = 12, 2000, 2000, (32 << 20) - 4096
 # Each kind of order has wards of its own.
 COMING, PIPED, KILLED, STEERS = range(10, 40), 40, 60, 70
 HELD_BYTE, OFD_SETLK = (1 << 30) + 512, 37
@@ -65,9 +65,6 @@ class Waits:
     def run(self, *words):
         return self.office.run(*words, seconds=180)
 
-    def done(self, what, seconds):
-        self.table.row(what, f"{seconds:.1f}")
-
     def add(self, number):
         return self.run("ward", number, 1, f"Ward {number}", "--id", f"w{number}")
 
@@ -78,12 +75,12 @@ class Waits:
             threading.Timer(1, hold(self.path)).start()
             found, seconds = timed(self.run, "receipts")
             expect(what, (found.status, found.err, seconds >= 1), (0, "", True))
-            self.done(f"the file held by {what} for a second: the order is done", seconds)
+            self.table.row(f"the file held by {what} for a second: the order is done", f"{seconds:.1f}")
             free = hold(self.path)
             found, seconds = timed(self.run, "receipts")
             free()
             expect(what, (found, 9.9 < seconds < 20), ((3, "", f"{STORE}waited ten seconds for town.db: {who}\n"), True))
-            self.done(f"the file held by {what} and stays held: fault 102", seconds)
+            self.table.row(f"the file held by {what} and stays held: fault 102", f"{seconds:.1f}")
 
     def serve(self):
         """Serves the office, and waits for the socket of orders."""
@@ -114,7 +111,8 @@ class Waits:
         for number, printed in cut:
             expect(f"ward {number}, cut off, and given again", (printed, self.add(number).status), ((3, "", STORE), 0))
         what = f"{len(found)} orders while `serve` begins and is ended {SERVING} times: "
-        self.done(f"{what}{len(found) - len(cut)} done at once, {len(cut)} when given again", time.perf_counter() - began)
+        what += f"{len(found) - len(cut)} done at once, {len(cut)} when given again"
+        self.table.row(what, f"{time.perf_counter() - began:.1f}")
 
     def piped(self, what, first, pause, meanwhile=bool):
         """Sends a script of four lines through a pipe, with a pause after each line. Something happens after the second one."""
@@ -133,14 +131,16 @@ class Waits:
     def script(self, what, name, out):
         found, seconds = timed(self.run, "replay", name)
         expect(what, found, (0, out, ""))
-        self.done(what, seconds)
+        self.table.row(what, f"{seconds:.1f}")
 
     def slow_and_long(self):
         """Sends scripts that are slow, or long, while the office is served, the first in a crowd."""
         with self.serve() as serving:
             with Crowd(serving.port, CROWD):
-                self.piped(f"a script through a pipe for a minute, while {CROWD} silent connections are open: it is done", PIPED, 15)
-            lines, out = script_of(PIPED)
+                self.piped(f"a script through a pipe for two minutes, while {CROWD} silent connections are open: it is done", PIPED, 30)
+                lines, out = script_of(PIPED)
+                self.office.write(SCRIPT, ["# " + "x" * LONG, *lines])
+                self.script(f"a script of almost 32 MiB, while {CROWD} silent connections are open: it is done", SCRIPT, out)
             self.office.write(SCRIPT, lines * LINES)
             self.script(f"a script of {4 * LINES} lines, while served: it is done", SCRIPT, out * LINES)
             self.piped("`serve` is killed while a script comes through a pipe: the order is done", KILLED, 1, serving.process.kill)
@@ -151,7 +151,7 @@ class Waits:
         command = ["script", "--quiet", "--command", shlex.join([program(), TOWN, "wards"]), "/dev/null"]
         shown = subprocess.run(command, cwd=self.office.folder, stdin=subprocess.DEVNULL, capture_output=True, timeout=60).stdout
         expect("a name that steers", (SHOWN in shown, STEERING in self.run("wards").out), (True, True))
-        self.done("a name that would steer a terminal, shown there: no character steers", 0)
+        self.table.row("a name that would steer a terminal, shown there: no character steers", "0.0")
 
 
 def main():
