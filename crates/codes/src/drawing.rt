@@ -7,15 +7,15 @@ ghost use Rattle.std.specs.Io.KnownBytes.{append_known};
 #[derive(Clone, Copy, Debug, PartialEq, Eq, Drop)]
 pub struct DrawFailed;
 
-/// Draws random bytes, and counts the draws that failed.
-pub trait Draws {
+/// RandomSource random bytes, and counts the draws that failed.
+pub trait RandomSource {
     /// The bytes drawn so far, as far as they are known.
     ghost drawn: { Self → Option (List ℕ) };
 
     /// How many draws failed.
     ghost failed: { Self → ℕ };
 
-    /// Draws a byte. After `DrawFailed`, none was drawn.
+    /// RandomSource a byte. After `DrawFailed`, none was drawn.
     fn draw(&mut self) -> Result<u8, DrawFailed>
         requires { failed self.old < 2 ^ 64 - 1 }
         ensures drew { IfOk result (λ byte. drawn self.new ≡ append_known (drawn self.old) (byte ∷ [])) }

@@ -4,7 +4,7 @@ ghost use Rattle.std.specs.Prelude.{◌≡◌, ◌++◌, ◌-◌, ◌^◌, ◌<�
 ghost use Rattle.codes.specs.Drawing.{AreDrawn, IsDraw, IsDrawn, IsUndrawn, IsUnwritten};
 ghost use Rattle.codes.specs.Making.{clerks_of, letter_of, letters_for, letters_with, line_of, office_code, office_line, text_of, text_with};
 
-use crate::drawing::Draws;
+use crate::drawing::RandomSource;
 use crate::fault::{CodesError, CodesFault};
 use crate::holders::OFFICE;
 use crate::range::ClerkRange;
@@ -45,8 +45,8 @@ fn letter_of(byte: u8) -> Option<u8>
     }
 }
 
-/// Draws a byte, and appends the letter that it draws, if it draws one.
-fn draw_letter<D: Draws>(draws: &mut D, letters: &mut Vec<u8>) -> Result<(), CodesError>
+/// RandomSource a byte, and appends the letter that it draws, if it draws one.
+fn draw_letter<D: RandomSource>(draws: &mut D, letters: &mut Vec<u8>) -> Result<(), CodesError>
     requires { D.failed draws.old < 2 ^ 64 - 1 }
     ensures ok { OnOk result (IsDraw (D.drawn draws.old) (D.drawn draws.new) letters.old.items letters.new.items) }
     ensures failed { OnOk result (D.failed draws.new ≡ D.failed draws.old) }
@@ -79,8 +79,8 @@ fn letters_count(clerks: ClerkRange, office: bool) -> usize
     }
 }
 
-/// Draws the letters of codes for some clerks, and for the office or not.
-fn draw_letters<D: Draws>(
+/// RandomSource the letters of codes for some clerks, and for the office or not.
+fn draw_letters<D: RandomSource>(
     alloc: Global,
     draws: &mut D,
     clerks: ClerkRange,
@@ -202,9 +202,9 @@ fn text_by(
     Ok(text)
 }
 
-/// Draws the codes of some clerks, and of the office or not, and returns their lines. The error is `NoRandom` if the source fails,
+/// RandomSource the codes of some clerks, and of the office or not, and returns their lines. The error is `NoRandom` if the source fails,
 /// and `BadRandom` if 100 bytes for each letter draw too few.
-pub(crate) fn draw_lines<D: Draws>(
+pub(crate) fn draw_lines<D: RandomSource>(
     alloc: Global,
     draws: &mut D,
     clerks: ClerkRange,

@@ -3,7 +3,7 @@
 //! [`Codes::read`](Codes) reads a file's text, a line for each clerk, and at most one for the office. [`Codes::admits`](Codes)
 //! compares a text with a clerk's credentials, and `Codes::admits_office` with the office's: by their digests first, so that the
 //! time doesn't show how much of it is right. [`RateLimit`] counts wrong codes, by the times of a clock that it is given. [`make`]
-//! returns the text of a new file, made of random bytes ([`Draws`]), and [`make_with_office`] one with a code of the office.
+//! returns the text of a new file, made of random bytes ([`RandomSource`]), and [`make_with_office`] one with a code of the office.
 //!
 //! `specs/Codes.antt` defines the credentials of a clerk and of the office, `specs/Files.antt` what a file of codes says, `specs/RateLimits.antt`
 //! the limit of wrong codes, `specs/Making.antt` the text of a new file, and `specs/Drawing.antt` of which bytes it is made.
@@ -29,7 +29,7 @@ mod reading;
 mod rate_limit;
 
 pub use credentials::{Basic, Credentials};
-pub use drawing::{DrawFailed, Draws};
+pub use drawing::{DrawFailed, RandomSource};
 pub use fault::{CodeFlaw, CodesError, CodesFault};
 pub use holders::Codes;
 pub use making::{make, make_with_office};

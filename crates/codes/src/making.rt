@@ -7,7 +7,7 @@ ghost use Rattle.codes.specs.Files.{CodeEntry, code_entry, file_in, office_in};
 ghost use Rattle.codes.specs.Making.{IsMadeFor, IsMadeWithOffice, are_from, clerks_of, is_file_for, is_letter, is_made, is_made_at, is_made_for_office};
 ghost use Rattle.codes.specs.declared.fault.CodesError.TheVariants.{Memory};
 
-use crate::drawing::Draws;
+use crate::drawing::RandomSource;
 use crate::drawn::{LETTERS, draw_lines};
 use crate::fault::{CodesError, CodesFault};
 use crate::range::ClerkRange;
@@ -123,7 +123,7 @@ fn is_made_for(
 }
 
 /// Returns the text of a file of new codes for some clerks, and for the office or not.
-fn make_file<D: Draws>(
+fn make_file<D: RandomSource>(
     alloc: Global,
     draws: &mut D,
     clerks: ClerkRange,
@@ -151,7 +151,7 @@ fn make_file<D: Draws>(
 ///
 /// `NoRandom` comes only from the source, whose failures rose by one. `BadRandom` comes if 100 bytes for each letter draw too few
 /// letters, or if 100 texts are no files of codes. The only other error is that an allocation failed.
-pub fn make<D: Draws>(
+pub fn make<D: RandomSource>(
     alloc: Global,
     draws: &mut D,
     clerks: ClerkRange,
@@ -168,7 +168,7 @@ pub fn make<D: Draws>(
 
 /// Returns the text of a file of new codes for some clerks, one line each, and for the office, whose line is the last one and whose
 /// code has sixteen letters. It is made as [`make`] makes one, with the same errors.
-pub fn make_with_office<D: Draws>(
+pub fn make_with_office<D: RandomSource>(
     alloc: Global,
     draws: &mut D,
     clerks: ClerkRange,

@@ -36,7 +36,7 @@ use Rattle.server.specs.declared.server_settings.FileNumbers.{FileNumbers}
 use Rattle.count_office.specs.Hosts.{CodeFiles, IsReadAs}
 use Rattle.count_office.specs.declared.gate.GateFiles.{GateFiles}
 use Rattle.count_office.specs.declared.serving.Serving.{Serving}
-use Rattle.count_office.specs.declared.serving.GateSettings.{GateSettings}
+use Rattle.count_office.specs.declared.serving.ServeSettings.{ServeSettings}
 
 -- ---- the settings of the office
 
@@ -74,7 +74,7 @@ abbrev pub settings_with : Option (List ℕ) → Option GateEntry → FileNumber
 settings_with origin gate file whole = record { clients = record { origin = origin; gate = gate }; file = file; whole = whole }
 
 -- the settings of the server
-abbrev pub server_settings_of : GateSettings → Option Bool → ServerSettingsEntry
+abbrev pub server_settings_of : ServeSettings → Option Bool → ServerSettingsEntry
 server_settings_of settings whole = settings_with (given_by settings.serving.origin) (option_map gate_at settings.gate_files.now) settings.file whole
 
 -- The settings for the order to serve: the origin that it names, the gate for the file of codes that it names, and the file of the office.

@@ -7,7 +7,9 @@ ghost use Rattle.desk.specs.Pages.{IsErrorTold, Shows, Tells, outputs_of};
 ghost use Rattle.count_office.specs.NewCodes.{IsFileOfNewCodes, IsPageOfNewCodes, made_page};
 ghost use Rattle.count_office.specs.Serving.{untaken};
 
-use codes::{ClerkRange, Codes, CodesError, CodesFault, DrawFailed, Draws, make, make_with_office};
+use codes::{
+    ClerkRange, Codes, CodesError, CodesFault, DrawFailed, RandomSource, make, make_with_office,
+};
 use desk::{Failure, tell_codes_and_office_made, tell_codes_fault, tell_codes_made, tell_failure};
 use std::alloc::Global;
 use std::fs::{self, File, OpenOptions};
@@ -33,7 +35,7 @@ struct SystemBytes<'a> {
     failures: u64,
 }
 
-impl Draws for SystemBytes<'_> {
+impl RandomSource for SystemBytes<'_> {
     ghost drawn = { λ _. None };
 
     ghost failed = { λ bytes. bytes.failures };
@@ -121,7 +123,7 @@ fn write_new(rt: &HostRuntime, path: &str, text: &str) -> io::Result<()> {
 
 /// Returns the text of a file of new codes for some clerks, and for the office if it is to have one. The errors are those of
 /// [`make`].
-fn codes_for<D: Draws>(
+fn codes_for<D: RandomSource>(
     alloc: Global,
     draws: &mut D,
     clerks: ClerkRange,

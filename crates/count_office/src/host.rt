@@ -24,12 +24,12 @@ pub struct Opened<D, A> {
 
 /// A machine on which an office can be served.
 pub trait Host {
-    type Port: Network;
+    type Sockets: Network;
 
     type Side: SideJobs;
 
     /// What is known of its network on each port, before it is opened and after it is closed.
-    ghost known: { Self → ℕ → NetworkEntry Self.Port.Stream };
+    ghost known: { Self → ℕ → NetworkEntry Self.Sockets.Stream };
 
     /// The codes in the file at each path, as far as they are known.
     ghost codes_at: { Self → CodeFiles };
@@ -42,13 +42,13 @@ pub trait Host {
         ensures { IsReadAs (codes_at self.now path.now) result };
 
     /// Opens the network on a port.
-    fn open(&mut self, port: u32) -> Result<Opened<Self::Port, Self::Side>, Failure>
-        ensures known { IfOk result (λ opened. Self.Port.known opened.network ≡ known self.old port) }
+    fn open(&mut self, port: u32) -> Result<Opened<Self::Sockets, Self::Side>, Failure>
+        ensures known { IfOk result (λ opened. Self.Sockets.known opened.network ≡ known self.old port) }
         ensures file { IfOk result (λ opened. IfSome (file self.old) (λ numbers. opened.file ≡ numbers)) }
         ensures same { known self.new ≡ known self.old };
 
     /// Closes the network on a port.
-    fn close(&mut self, port: u32, opened: Opened<Self::Port, Self::Side>)
-        ensures known { known self.new port ≡ Self.Port.known opened.network }
+    fn close(&mut self, port: u32, opened: Opened<Self::Sockets, Self::Side>)
+        ensures known { known self.new port ≡ Self.Sockets.known opened.network }
         ensures others { (other : ℕ) → other ≢ port → known self.new other ≡ known self.old other };
 }

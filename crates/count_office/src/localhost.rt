@@ -8,9 +8,9 @@ ghost use Rattle.sockets.specs.Pollers.{unknown};
 
 use crate::LockedDatabase;
 use crate::codes_file::read_codes;
+use crate::file_watch::FileWatch;
 use crate::host::{Host, Opened};
-use crate::order_socket::{OrderSocket, closed_streams, reason_of};
-use crate::presence::Presence;
+use crate::order_socket::{OrderSocket, reason_of, reserved_descriptors};
 use crate::side_jobs::LocalJobs;
 use codes::{Codes, CodesError};
 use desk::Failure;
@@ -47,7 +47,7 @@ fn listen<'a>(
 }
 
 /// Returns the failure that is printed when the network can't be opened.
-fn failure_at_the_doors(error: &io::Error) -> Failure {
+fn listening_failure(error: &io::Error) -> Failure {
     match error.kind() {
         ErrorKind::OutOfMemory => Failure::Office(Fault::Memory),
         _ => Failure::Output,
@@ -97,17 +97,17 @@ fn open_at<'a>(
     let rt = place.rt;
     let network = match listen(rt, port, orders) {
         Ok(network) => network,
-        Err(error) => return Err(failure_at_the_doors(&error)),
+        Err(error) => return Err(listening_failure(&error)),
     };
     let Ok((device, inode)) = place.held.numbers() else {
         return Err(Failure::Office(Fault::Store));
     };
-    let Some(presence) = Presence::of(rt, place.found, place.held) else {
+    let Some(file_watch) = FileWatch::of(rt, place.found, place.held) else {
         return Err(Failure::FileGone);
     };
     Ok(Opened {
         network,
-        side_jobs: LocalJobs { rt, presence },
+        side_jobs: LocalJobs { rt, file_watch },
         file: FileNumbers { device, inode },
     })
 }
@@ -148,7 +148,7 @@ impl<'a> Localhost<'a> {
 }
 
 impl<'a> Host for Localhost<'a> {
-    type Port = SocketNetwork<&'a HostRuntime>;
+    type Sockets = SocketNetwork<&'a HostRuntime>;
 
     type Side = LocalJobs<'a>;
 
@@ -168,9 +168,9 @@ impl<'a> Host for Localhost<'a> {
         &mut self,
         port: u32,
     ) -> Result<Opened<SocketNetwork<&'a HostRuntime>, LocalJobs<'a>>, Failure> {
-        match closed_streams(self.place.rt) {
+        match reserved_descriptors(self.place.rt) {
             Ok(streams) => self.streams = Some(streams),
-            Err(error) => return Err(failure_at_the_doors(&error)),
+            Err(error) => return Err(listening_failure(&error)),
         }
         let orders = self.listen_beside();
         let opened = open_at(self.place, port, orders);

@@ -28,6 +28,7 @@ ghost use Rattle.sqlite.specs.Closing.{IsCopied};
 mod codes_file;
 mod copies;
 mod file_lock;
+mod file_watch;
 mod gate;
 mod host;
 mod localhost;
@@ -38,7 +39,6 @@ mod order_files;
 mod order_run;
 mod order_socket;
 mod path_state;
-mod presence;
 mod screen;
 mod serving;
 mod side_jobs;
@@ -137,7 +137,7 @@ fn perform_on<H: Host, S: Alter, O: Sink, E: Sink>(
         × IsToldElsewhere page (state S.Store conn) (state S.Store result.1))) }
     ensures serves { (serving : Serving) → order.now ≡ Order.Serve serving.port serving.connections serving.origin serving.codes
         → (out.new ≡ out.old) × ServesOrder (IsErrorTold E.taken E.failed err.old err.new) (err.new ≡ err.old) result.0 serving (H.codes_at host.old) (H.file host.old)
-        (stream_of H.Port.Stream.held H.Port.Stream.taken H.Port.Stream.failed) (state S.Store) (H.known host.old) (H.known host.new) conn result.1 }
+        (stream_of H.Sockets.Stream.held H.Sockets.Stream.taken H.Sockets.Stream.failed) (state S.Store) (H.known host.old) (H.known host.new) conn result.1 }
 {
     let rt = place.rt;
     match order {

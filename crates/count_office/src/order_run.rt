@@ -62,7 +62,7 @@ fn perform_in<O: Sink, E: Sink>(
             let mut host = Localhost::at(place);
             let (status, conn) = perform_on(place, &mut host, order, conn, out, err);
             if status != 0 {
-                place.found.leave(rt);
+                place.found.remove_created(rt);
             }
             let _ = close(conn);
             Ok(status)
@@ -72,7 +72,7 @@ fn perform_in<O: Sink, E: Sink>(
             Err(LockHolder::Program)
         }
         Err((error, left)) => {
-            place.found.leave(rt);
+            place.found.remove_created(rt);
             drop(left);
             Ok(tell_failure(Failure::Office(fault_of(error)), err))
         }
@@ -90,11 +90,11 @@ fn refuse_log<E: Sink>(rt: &HostRuntime, path: &str, err: &mut E) -> u8
 
 /// Returns why an order opens nothing at a path, if it doesn't. Only `init` makes an office, if no log contains anything: any other
 /// order finds no office there.
-fn why_unopened(site: PathKind, order: &Order<'_>) -> Option<Fault>
-    ensures alone { site ≡ PathKind.LogAlone → result ≡ Some Fault.WrongDatabase }
-    ensures unseen { site ≡ PathKind.LogUnseen → result ≡ Some Fault.Store }
+fn why_unopened(kind: PathKind, order: &Order<'_>) -> Option<Fault>
+    ensures alone { kind ≡ PathKind.LogAlone → result ≡ Some Fault.WrongDatabase }
+    ensures unseen { kind ≡ PathKind.LogUnseen → result ≡ Some Fault.Store }
 {
-    match site {
+    match kind {
         PathKind::Taken => None,
         PathKind::Free | PathKind::Empty if matches!(order, Order::Perform(Task::Init)) => None,
         PathKind::Free | PathKind::Empty | PathKind::LogAlone => Some(Fault::WrongDatabase),
@@ -239,7 +239,7 @@ fn attempt<O: Sink, E: Sink>(
     let Ok(found) = PathState::at(request.rt, request.path) else {
         return Ok(tell_failure(Failure::Office(Fault::Memory), err));
     };
-    if let Some(fault) = why_unopened(found.site, request.order) {
+    if let Some(fault) = why_unopened(found.kind, request.order) {
         return Ok(tell_failure(Failure::Office(fault), err));
     }
     if found.has_foreign_log(request.rt) {

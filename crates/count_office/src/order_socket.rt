@@ -116,7 +116,7 @@ impl OrderSocket {
 
 /// Opens the descriptors of standard streams that were closed: otherwise a socket would get one of them, and output would be sent to
 /// its peer.
-pub fn closed_streams(rt: &HostRuntime) -> io::Result<Vec<File>> {
+pub fn reserved_descriptors(rt: &HostRuntime) -> io::Result<Vec<File>> {
     let mut held = Vec::new(rt.alloc());
     for _ in 0..=LAST_STREAM {
         let nothing = File::open(rt, "/dev/null")?;
@@ -143,7 +143,7 @@ pub fn reach(rt: &HostRuntime, database: &str) -> Option<UnixStream> {
     if mode & ALL_RIGHTS != RIGHTS {
         return None;
     }
-    let streams = closed_streams(rt).ok()?;
+    let streams = reserved_descriptors(rt).ok()?;
     let stream = UnixStream::connect(rt, path.as_str()).ok();
     drop(streams);
     stream

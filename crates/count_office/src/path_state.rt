@@ -105,7 +105,7 @@ fn kind_of(database: Option<u64>, log: Option<u64>, journal: Option<u64>) -> Pat
 
 /// Returns the kind of a path at which a database has this length. Its logs have these, unless what has their names couldn't be
 /// examined.
-fn site_beside(
+fn kind_with_log(
     database: Option<u64>,
     log: &io::Result<Option<u64>>,
     journal: &io::Result<Option<u64>>,
@@ -127,7 +127,7 @@ pub struct PathState {
     database: String,
     log: String,
     has_log: bool,
-    pub site: PathKind,
+    pub kind: PathKind,
 }
 
 /// Returns a path with links resolved; the path itself if nothing is there.
@@ -145,7 +145,7 @@ impl PathState {
         let log = format!(in rt.alloc(); "{database}{LOG}")?;
         let journal = format!(in rt.alloc(); "{database}{JOURNAL}")?;
         let log_length = log_length_at(rt, log.as_str());
-        let site = site_beside(
+        let kind = kind_with_log(
             greatest_length_at(rt, database.as_str()),
             &log_length,
             &log_length_at(rt, journal.as_str()),
@@ -154,7 +154,7 @@ impl PathState {
             database,
             log,
             has_log: !matches!(log_length, Ok(None)),
-            site,
+            kind,
         })
     }
 
@@ -183,7 +183,7 @@ impl PathState {
     /// Locks the database. If nothing was there, its file is made.
     pub fn hold(&self, rt: &HostRuntime) -> io::Result<FileLock> {
         let path = self.database.as_str();
-        match self.site {
+        match self.kind {
             PathKind::Free if is_no_file(path) => Err(ErrorKind::Unsupported.into()),
             PathKind::Free => FileLock::make(rt, path, RIGHTS),
             _ => FileLock::take(rt, path),
@@ -192,13 +192,13 @@ impl PathState {
 
     /// Removes each of the two files that didn't exist before, if nothing was stored in it. The database must be locked, so that no
     /// other order uses it.
-    pub fn leave(&self, rt: &HostRuntime) {
+    pub fn remove_created(&self, rt: &HostRuntime) {
         let database = greatest_length_at(rt, self.database.as_str()).unwrap_or(0);
         let log = match log_length_at(rt, self.log.as_str()) {
             Ok(length) => length.unwrap_or(0),
             Err(_) => u64::MAX,
         };
-        let is_made = matches!(self.site, PathKind::Free)
+        let is_made = matches!(self.kind, PathKind::Free)
             && database.saturating_add(log) < MIN_OFFICE;
         if is_made || (!self.has_log && log < MIN_LOG) {
             let _ = fs::remove_file(rt, self.log.as_str());

@@ -33,7 +33,7 @@ pub struct Serving<'a> {
 /// The settings for serving an office: the words of `serve`, the codes and the page of the gate, if there is one, and the office's
 /// file.
 #[derive(Clone, Copy)]
-pub struct GateSettings<'a> {
+pub struct ServeSettings<'a> {
     pub serving: Serving<'a>,
     pub gate_files: &'a Option<GateFiles>,
     pub file: FileNumbers,
@@ -63,7 +63,7 @@ fn most_of(connections: Option<u32>) -> Option<u64>
 fn serve_through<D: Network, A: SideJobs, S: Alter>(
     alloc: Global,
     network: &mut D,
-    settings: GateSettings<'_>,
+    settings: ServeSettings<'_>,
     side_jobs: &A,
     office: &mut Office<S>,
 ) -> Result<(), ServeError>
@@ -93,7 +93,7 @@ fn serve_at<H: Host, S: Alter>(
 ) -> Result<(), Failure>
     ensures { MayServe (λ given. (given ≡ settings_with (given_by serving.entry.origin) (option_map gate_at gate_files.now) given.file given.whole)
         × IfSome (H.file host.old) (λ numbers. given.file ≡ numbers))
-        (stream_of H.Port.Stream.held H.Port.Stream.taken H.Port.Stream.failed) (state S.Store)
+        (stream_of H.Sockets.Stream.held H.Sockets.Stream.taken H.Sockets.Stream.failed) (state S.Store)
         serving.entry.port (H.known host.old) (H.known host.new) serving.entry.connections office.old office.new result }
 {
     let Opened {
@@ -101,7 +101,7 @@ fn serve_at<H: Host, S: Alter>(
         side_jobs,
         file,
     } = host.open(serving.port)?;
-    let settings = GateSettings {
+    let settings = ServeSettings {
         serving,
         gate_files,
         file,
@@ -146,7 +146,7 @@ pub fn serve<H: Host, S: Alter, E: Sink>(
 ) -> (u8, Connection<S>)
     requires { E.failed err.old < 2 ^ 64 - 1 }
     ensures { ServesOrder (IsErrorTold E.taken E.failed err.old err.new) (err.new ≡ err.old) result.0 serving.entry (H.codes_at host.old) (H.file host.old)
-        (stream_of H.Port.Stream.held H.Port.Stream.taken H.Port.Stream.failed) (state S.Store) (H.known host.old) (H.known host.new) conn result.1 }
+        (stream_of H.Sockets.Stream.held H.Sockets.Stream.taken H.Sockets.Stream.failed) (state S.Store) (H.known host.old) (H.known host.new) conn result.1 }
 {
     let gate_files = match read_gate_files(alloc, &*host, serving.codes) {
         Ok(gate_files) => gate_files,

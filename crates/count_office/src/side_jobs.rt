@@ -4,7 +4,7 @@
 ghost use Rattle.std.specs.Prelude.{◌-◌, ◌<◌, None};
 
 use crate::copies::copy_served;
-use crate::presence::Presence;
+use crate::file_watch::FileWatch;
 use desk::{Failure, journal_open, tell_failure};
 use office::Office;
 use server::{Destination, SideJobs};
@@ -17,7 +17,7 @@ use streams::Sink;
 #[derive(Drop)]
 pub struct LocalJobs<'a> {
     pub rt: &'a HostRuntime,
-    pub presence: Presence<'a>,
+    pub file_watch: FileWatch<'a>,
 }
 
 /// Returns a path as it is seen from a directory.
@@ -48,7 +48,7 @@ impl SideJobs for LocalJobs<'_> {
     ghost whole = { λ _. None };
 
     fn is_whole(&self) -> bool {
-        self.presence.is_whole(self.rt)
+        self.file_watch.is_whole(self.rt)
     }
 
     fn copy<S: Alter, O: Sink, E: Sink>(
@@ -58,7 +58,7 @@ impl SideJobs for LocalJobs<'_> {
         out: &mut O,
         err: &mut E,
     ) -> u8 {
-        match path_of_copy(self.rt.alloc(), self.presence.database(), to) {
+        match path_of_copy(self.rt.alloc(), self.file_watch.database(), to) {
             Ok(path) => copy_served(self.rt, office, path.as_str(), out, err),
             Err(AllocError) => tell_failure(Failure::Office(Fault::Memory), err),
         }

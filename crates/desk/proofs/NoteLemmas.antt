@@ -2,7 +2,7 @@
 use Rattle.std.proofs.Common.{◌≡◌, ◌∙◌, ◌⊎◌, inl, inr, ℕ, Bool, true, false, List, Result, Ok, refl, sym, ap, subst, string_bytes}
 use Rattle.sqlite.specs.State.{State}
 use Rattle.register.specs.Offices.{OfficeState}
-use Rattle.register.specs.Keepings.{is_kept_otherwise}
+use Rattle.register.specs.Repeats.{is_kept_otherwise}
 use Rattle.register.specs.Machine.{Outcome, accepted, kept, refused, state_after, step_of}
 use Rattle.register.specs.declared.command.Request.{Request}
 use Rattle.register.specs.declared.refusal.Reason.{Reason}

@@ -6,7 +6,7 @@ use Rattle.std.specs.List.{flat_map}
 use Rattle.clap.specs.Words.{Text}
 use Rattle.streams.specs.Streams.{AppendsBeginning}
 use Rattle.register.specs.Offices.{OfficeState}
-use Rattle.register.specs.Keepings.{is_kept_otherwise}
+use Rattle.register.specs.Repeats.{is_kept_otherwise}
 use Rattle.register.specs.Reasons.{reason_number, reason_text}
 use Rattle.register.specs.declared.refusal.Reason.{Reason}
 use Rattle.register.specs.declared.refusal.Reason.TheVariants.{CountFinished, LotNeeded, WrongPhase}

@@ -3,7 +3,7 @@
 ghost use Rattle.std.specs.Prelude.{◌≡◌, ◌-◌, ◌^◌, ◌<◌, ℕ, Ok, string_bytes};
 ghost use Rattle.sqlite.specs.State.{HasCleanDisk};
 ghost use Rattle.sqlite.specs.Held.{state};
-ghost use Rattle.register.specs.Keepings.{is_kept_otherwise};
+ghost use Rattle.register.specs.Repeats.{is_kept_otherwise};
 ghost use Rattle.tables.specs.Reading.{OnlyReads};
 ghost use Rattle.store.specs.Offices.{Wears};
 ghost use Rattle.office.specs.Answers.{WhenOpenAt};
@@ -40,7 +40,7 @@ fn kept_before<S: Alter>(office: &mut Office<S>, request: &Request, reply: Reply
         office.new.closed (state S.Store office.old.held) (state S.Store office.new.held)) }
     ensures same { OnlyReads (state S.Store office.old.held) (state S.Store office.new.held) }
 {
-    match office.keeps_other(request) {
+    match office.differs_from_stored(request) {
         Ok(false) => LineOutcome::Replied(reply),
         Ok(true) => match request.id.clone() {
             Ok(id) => LineOutcome::Noted { reply, id },

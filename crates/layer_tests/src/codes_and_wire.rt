@@ -5,7 +5,8 @@ ghost use Rattle.std.specs.Prelude.{Some, take};
 use super::wire_requests::asks_of;
 use crate::sheet_outputs::is_text;
 use codes::{
-    ClerkRange, Codes, CodesError, CodesFault, DrawFailed, Draws, RateLimit, make, make_with_office,
+    ClerkRange, Codes, CodesError, CodesFault, DrawFailed, RandomSource, RateLimit, make,
+    make_with_office,
 };
 use std::alloc::{AllocError, Global};
 use std::process::Abort;
@@ -225,7 +226,7 @@ fn is_reached_after(
     Ok(limit.is_reached(now))
 }
 
-/// Draws these bytes, one after the other. Then it fails.
+/// RandomSource these bytes, one after the other. Then it fails.
 #[derive(Drop)]
 struct Known<'a> {
     bytes: &'a [u8],
@@ -233,7 +234,7 @@ struct Known<'a> {
     failures: u64,
 }
 
-impl Draws for Known<'_> {
+impl RandomSource for Known<'_> {
     ghost drawn = { λ known. Some (take known.at known.bytes.now) };
 
     ghost failed = { λ known. known.failures };
@@ -328,10 +329,7 @@ const OF_CONSOLE: [(&str, &str, &str); 10] = [
 
 /// The bodies of orders, and what they ask.
 const ORDERS: [(&str, &str); 12] = [
-    (
-        r#"{"files":{},"words":["wards"]}"#,
-        "office: wards",
-    ),
+    (r#"{"files":{},"words":["wards"]}"#, "office: wards"),
     (
         r#"{"words":["import-candidates","n.csv","--id","c1"],"files":{"n.csv":"a,b\n"}}"#,
         "office: import-candidates n.csv --id c1 n.csv=a,b\n",

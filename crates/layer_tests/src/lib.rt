@@ -28,7 +28,7 @@ mod sheet_spreadsheets;
 #[cfg(test)]
 mod sheet_texts;
 #[cfg(test)]
-mod votes_values;
+mod streams_and_votes;
 #[cfg(test)]
 mod wire_origins;
 #[cfg(test)]

@@ -5,7 +5,7 @@
 //! of one. `copy_open` and `rows_open` do so of an office that is open, and goes on. `leads_to` says whether requests lead from
 //! an empty office to such entries. `handle` answers one request and `run` a list of them. `status`, `next_step`, `columns`,
 //! `work`, `paper`, `sheet`, `result`, `text` and `index` read the state, and change nothing. So do `wards`, `batches`,
-//! `doubtful`, `differences`, `papers` and `receipts`, for the office alone. `keeps_other` says whether what is kept of a request
+//! `doubtful`, `differences`, `papers` and `receipts`, for the office alone. `differs_from_stored` says whether what is kept of a request
 //! that is sent again differs from what it says. A fault inside a transaction closes the office. It answers 104 until it is opened
 //! again; what is found then is the state before the request or the one after it, whole.
 //!

@@ -6,7 +6,7 @@ ghost use Rattle.sqlite.specs.Held.{state};
 ghost use Rattle.register.specs.Standings.{paper_at, paper_entry, status_entry, work_entry, work_of};
 ghost use Rattle.register.specs.Steps.{step_entry};
 ghost use Rattle.register.specs.Seen.{seen_by};
-ghost use Rattle.register.specs.Keepings.{is_kept_otherwise};
+ghost use Rattle.register.specs.Repeats.{is_kept_otherwise};
 ghost use Rattle.register.specs.declared.refusal.Reason.{Reason};
 ghost use Rattle.tables.specs.Reading.{OnlyReads};
 ghost use Rattle.register.specs.Elections.{ElectionEntry};
@@ -176,14 +176,14 @@ impl<S: Alter> Office<S> {
     ///
     /// Never refused, and nothing is changed. `Memory` leaves the office open; any other fault closes it. A closed office
     /// answers `Closed`.
-    pub fn keeps_other(&mut self, request: &Request) -> Result<bool, Stop>
+    pub fn differs_from_stored(&mut self, request: &Request) -> Result<bool, Stop>
         ensures reads { ReadWhenOpen (state S.Store) self.old self.new (λ differs. differs) (λ s. Ok (is_kept_otherwise s request.now)) result }
         ensures same { OnlyReads (state S.Store self.old.held) (state S.Store self.new.held) }
         ensures closes { IfErr result (ClosesAt self.new.closed) }
         ensures cause { WhenOpenAt (state S.Store) self.old self.new (λ s. IfErr result (StopsBy (state S.Store self.old.held) (state S.Store self.new.held))) }
         ensures closed { self.old.closed ≡ true → (result ≡ Err (Stop.Fault Fault.Closed)) × (self.new ≡ self.old) }
     {
-        read!(self, true => load_keeps_other(request))
+        read!(self, true => load_differs_from_stored(request))
     }
 
     /// The stage sheet of a ward: its papers, and the stages that are done, no more. Of an uncontested ward

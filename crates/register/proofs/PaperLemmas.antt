@@ -3,7 +3,7 @@ use Rattle.std.proofs.Common.{◌≡◌, ◌≢◌, ◌&&◌, ℕ, Bool, true, f
 use Rattle.std.specs.Str.{bytes_eq}
 use Rattle.register.specs.Offices.{KeyedEntry}
 use Rattle.register.specs.Papers.{same_marks}
-use Rattle.register.specs.Keepings.{has_texts}
+use Rattle.register.specs.Repeats.{has_texts}
 
 -- keyings of different lengths don't have the same marks
 pub other_lengths : (js ks : List KeyedEntry) → length js ≢ length ks → same_marks js ks ≡ false

@@ -14,8 +14,8 @@ use Rattle.register.specs.Keyings as keyings
 use Rattle.register.specs.Verdicts as verdicts
 use Rattle.register.specs.Counts as counts
 use Rattle.register.specs.Machine.{step, decided}
-use Rattle.register.specs.Keepings.{has_texts}
-use Rattle.register.specs.WorkedOffice.{WardRows, NominationRows, KeyedRows, ThirdRows, UncontestedRows, KeepingRows}
+use Rattle.register.specs.Repeats.{has_texts}
+use Rattle.register.specs.WorkedOffice.{WardRows, NominationRows, KeyedRows, ThirdRows, UncontestedRows, RepeatRows}
 
 -- ---- names
 
@@ -122,9 +122,9 @@ uncontested_rows =
       all_elected = refl;
     }
 
-pub keeping_rows : KeepingRows
+pub repeat_rows : RepeatRows
 unfolding has_texts candidates.subject_of digits
-keeping_rows =
+repeat_rows =
     record {
       same_ward = λ name is. simp is refl;
       other_seats = λ name is. refl;

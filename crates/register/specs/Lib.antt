@@ -21,7 +21,7 @@ pub mod Batches
 pub mod Keyings
 pub mod Verdicts
 pub mod Counts
-pub mod Keepings
+pub mod Repeats
 pub mod Steps
 pub mod Machine
 pub mod Tabulated

@@ -19,7 +19,7 @@ use Rattle.register.specs.declared.refusal.Reason.TheVariants.{NoDifference, Thi
 use Rattle.register.specs.Offices.{WardEntry, CandidateEntry, BatchEntry, KeyedEntry, JudgedEntry, ReceiptEntry, OfficeState, empty_office}
 use Rattle.register.specs.Papers.{is_taken, is_differing, taken_papers}
 use Rattle.register.specs.Machine.{accepted, kept, refused, step}
-use Rattle.register.specs.Keepings.{is_otherwise}
+use Rattle.register.specs.Repeats.{is_otherwise}
 
 -- ---- requests
 
@@ -266,7 +266,7 @@ pub record UncontestedRows : Type 0 where
 
 -- A repeated command matches what is kept of it, or differs: in seats, name, size, third clerk, marks or verdict. Nothing is kept of a withdrawn
 -- candidate; a later candidate with that number is another one. A command that its subject describes in full never differs.
-pub record KeepingRows : Type 0 where
+pub record RepeatRows : Type 0 where
   pub same_ward : Written (codes "Harbour") (λ name. is_otherwise (in_nominations [] []) 0 (adds_ward 7 2 name) ≡ false)
   pub other_seats : Written (codes "Harbour") (λ name. is_otherwise (in_nominations [] []) 0 (adds_ward 7 3 name) ≡ true)
   pub other_name : Written (codes "Quay") (λ name. is_otherwise (in_nominations [] []) 0 (adds_ward 7 2 name) ≡ true)

@@ -46,7 +46,7 @@ pub mod keyings;
 pub mod verdicts;
 pub mod wards;
 // What the state keeps of a request, compared with a repeated one.
-pub mod keepings;
+pub mod repeats;
 // The machine, which dispatches on the subject.
 mod machine;
 

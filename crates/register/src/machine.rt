@@ -13,7 +13,7 @@ ghost use Rattle.register.specs.Standings.{paper_at, work_of};
 ghost use Rattle.register.specs.Machine.{objections, IsNumbered, subject_of, reply_to, effect_of, judged, ruling_at, step, state_after, after, accepted_of, IsKeptAgain};
 ghost use Rattle.register.specs.Tabulated.{AddsWhatIsCounted};
 ghost use Rattle.register.specs.Additions.{IsAddedFor, DecidesAddition, AddsNoMore};
-ghost use Rattle.register.specs.WorkedOffice.{WardRows, NominationRows, KeyedRows, ThirdRows, UncontestedRows, KeepingRows};
+ghost use Rattle.register.specs.WorkedOffice.{WardRows, NominationRows, KeyedRows, ThirdRows, UncontestedRows, RepeatRows};
 ghost use Rattle.register.specs.Views.{IsViewOf, decided_on, ruling_of, outcome_of, IsToldAlike, IsAdvanced};
 
 use crate::command::Command;
@@ -226,5 +226,5 @@ pub fn rows_are_worked()
     ensures keyings { KeyedRows }
     ensures third { ThirdRows }
     ensures uncontested { UncontestedRows }
-    ensures keepings { KeepingRows }
+    ensures repeats { RepeatRows }
 {}

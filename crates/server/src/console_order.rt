@@ -10,7 +10,7 @@ ghost use Rattle.server.specs.Settings.{settings_in};
 ghost use Rattle.server.specs.ServedOrders.{Follows};
 ghost use Rattle.server.specs.ConsoleOrders.{FollowsEntry, HasPrinted, printed_response, sent_file};
 
-use crate::order_response::{AttachedFiles, Handing, do_asked, unless_gone};
+use crate::order_response::{AttachedFiles, OrderContext, do_asked, unless_gone};
 use crate::served_order::{ServedOrder, served_order_by};
 use crate::server_settings::ServerSettings;
 use crate::side_jobs::SideJobs;
@@ -80,7 +80,10 @@ fn printed_response(alloc: Global, status: u8, out: &[u8], err: &[u8]) -> Respon
 }
 
 /// Does what an order asks, and returns the response with what it printed.
-fn follow_asked<A: SideJobs, S: Alter>(order: &Handing<'_, A>, office: &mut Office<S>) -> Response
+fn follow_asked<A: SideJobs, S: Alter>(
+    order: &OrderContext<'_, A>,
+    office: &mut Office<S>,
+) -> Response
     ensures { Follows (state S.Store) office.old (message_part_entries order.now.attached.files.now) order.now.asked.now (λ cut page. HasPrinted cut page result) office.new }
 {
     let mut out = VecSink::new(order.alloc);
@@ -99,7 +102,7 @@ fn follow_none<A: SideJobs, S: Alter>(
 ) -> Response
     ensures { Follows (state S.Store) office.old [] (ServedOrder.Refused (Failure.Office Fault.Memory)) (λ cut page. HasPrinted cut page result) office.new }
 {
-    let order = Handing {
+    let order = OrderContext {
         alloc,
         side_jobs,
         asked: &ServedOrder::Refused(Failure::Office(Fault::Memory)),
@@ -132,7 +135,7 @@ pub fn answer_console<A: SideJobs, S: Alter>(
         served_order_by(alloc, &read.words),
         server_settings.side_jobs,
     );
-    let handing = Handing {
+    let handing = OrderContext {
         alloc,
         side_jobs: server_settings.side_jobs,
         asked: &asked,

@@ -51,14 +51,14 @@ impl<'b> Folder for AttachedFiles<'b> {
 }
 
 /// An order that is processed: what it asks, the files that came with it, and what it needs besides the office.
-pub struct Handing<'t, A> {
+pub struct OrderContext<'t, A> {
     pub alloc: Global,
     pub side_jobs: &'t A,
     pub asked: &'t ServedOrder<'t>,
     pub attached: AttachedFiles<'t>,
 }
 
-impl<A> Clone for Handing<'_, A> {
+impl<A> Clone for OrderContext<'_, A> {
     ghost is_clone = { λ x y. y ≡ x };
 
     ghost is_infallible = { λ _. ⊤ };
@@ -68,7 +68,7 @@ impl<A> Clone for Handing<'_, A> {
     }
 }
 
-impl<A> Copy for Handing<'_, A> {}
+impl<A> Copy for OrderContext<'_, A> {}
 
 /// Prints what a closed office says of an order: that it is closed, of what is followed; and why anything else isn't.
 fn print_closed<O: Sink, E: Sink>(asked: &ServedOrder<'_>, out: &mut O, err: &mut E) -> u8
@@ -117,7 +117,7 @@ fn destination_of<'t>(folder: Option<&'t [u8]>, path: &'t str) -> Option<Destina
 
 /// Copies the office for an order, to a path as seen from the order's folder, if there is such a path.
 fn copy_for_order<A: SideJobs, S: Alter, O: Sink, E: Sink>(
-    order: &Handing<'_, A>,
+    order: &OrderContext<'_, A>,
     path: &str,
     office: &mut Office<S>,
     out: &mut O,
@@ -137,7 +137,7 @@ fn copy_for_order<A: SideJobs, S: Alter, O: Sink, E: Sink>(
 
 /// Does what an order asks in an office that is open, and returns the status.
 fn do_open<A: SideJobs, S: Alter, O: Sink, E: Sink>(
-    order: &Handing<'_, A>,
+    order: &OrderContext<'_, A>,
     office: &mut Office<S>,
     out: &mut O,
     err: &mut E,
@@ -162,7 +162,7 @@ fn do_open<A: SideJobs, S: Alter, O: Sink, E: Sink>(
 /// Does what an order asks in the office, which is open or closed, and returns the status. A closed office reports that it is
 /// closed, for anything it would do otherwise.
 pub fn do_asked<A: SideJobs, S: Alter, O: Sink, E: Sink>(
-    order: &Handing<'_, A>,
+    order: &OrderContext<'_, A>,
     office: &mut Office<S>,
     out: &mut O,
     err: &mut E,
@@ -187,7 +187,7 @@ pub fn do_asked<A: SideJobs, S: Alter, O: Sink, E: Sink>(
 /// stays in the response, which is sent side by side with others. If the allocation for the last frame fails, the response ends
 /// without it.
 fn respond_to_asked<L: Stream, A: SideJobs, S: Alter>(
-    order: &Handing<'_, A>,
+    order: &OrderContext<'_, A>,
     stream: L,
     office: &mut Office<S>,
 ) -> (L, PendingResponse)
@@ -229,7 +229,7 @@ fn tell_refused<L: Stream, A: SideJobs, S: Alter>(
     ensures told { IsSent (stream_of L.held L.taken L.failed) result.0 result.1.bytes.items result.1.sent }
     ensures followed { TellsAsked (state S.Store) office.old [] (ServedOrder.Refused (Failure.Office fault)) result.1.bytes.items office.new }
 {
-    let order = Handing {
+    let order = OrderContext {
         alloc,
         side_jobs,
         asked: &ServedOrder::Refused(Failure::Office(fault)),
@@ -268,7 +268,7 @@ fn respond_to_message<L: Stream, A: SideJobs, S: Alter>(
         Err(fault) => return tell_refused(alloc, server_settings.side_jobs, fault, stream, office),
     };
     let asked = unless_gone(served_order_by(alloc, &words), server_settings.side_jobs);
-    let order = Handing {
+    let order = OrderContext {
         alloc,
         side_jobs: server_settings.side_jobs,
         asked: &asked,

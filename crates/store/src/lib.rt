@@ -5,7 +5,7 @@
 //! of the state that one request needs. `load_status`, `load_next` and `load_columns` read how a ward stands, what comes next in it,
 //! and what a batch's papers have as columns; `load_work` reads what a clerk has to key. `load_sheet` and `load_counted` read what the
 //! texts of a ward are written from, and `load_book` its count as it was kept. `load_wards`, `load_batches`, `load_doubtful`,
-//! `load_batch_papers`, `load_differences` and `load_receipts` read how all stands. `load_keeps_other` compares a request that is sent
+//! `load_batch_papers`, `load_differences` and `load_receipts` read how all stands. `load_differs_from_stored` compares a request that is sent
 //! again with what is kept of it. `migrate` makes of an office that an earlier
 //! program made one that opens, and `copy` makes the same office in another database. `read_office` reads all of one. `Store::copy_to`
 //! and `Store::rows` do so of an office that is open. `Fault` says why a call gave up.
@@ -21,12 +21,12 @@
 
 pub mod copying;
 mod entries;
-mod keepings;
 mod listing;
 pub mod migration;
 pub mod older;
 mod opening;
 pub mod overviews;
+mod repeats;
 mod standings;
 pub mod storage;
 mod views;

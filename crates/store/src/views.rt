@@ -13,7 +13,6 @@ ghost use Rattle.store.specs.Offices.{IsAt};
 ghost use Rattle.store.specs.Loads.{Loads};
 
 mod batches;
-mod books;
 mod candidates;
 mod counts;
 mod elections;
@@ -22,6 +21,7 @@ pub(crate) mod papers;
 mod receipts;
 mod settled;
 mod sheets;
+mod stored_counts;
 mod wards;
 
 use crate::storage::Store;

@@ -330,15 +330,17 @@ office-own target what named = console (bytes_eq target (office_path office.Cons
         let one : office.Orders ≡ what = cc in
         (bytes_eq-Decides target (office_path office.Orders)).0 same ∙ ap office_path one
     orders false other named = let no : ⊥ = cc in absurd no
+
     leave : (b : Bool) → bytes_eq target (office_path office.Leave) ≡ b
         → (if b then Some office.Leave else (if bytes_eq target (office_path office.Orders) then Some office.Orders else None)) ≡ Some what → target ≡ office_path what
     leave true same named =
         let one : office.Leave ≡ what = cc in
         (bytes_eq-Decides target (office_path office.Leave)).0 same ∙ ap office_path one
     leave false other named = orders (bytes_eq target (office_path office.Orders)) refl named
+
     console : (b : Bool) → bytes_eq target (office_path office.Console) ≡ b
         → (if b then Some office.Console
-            else (if bytes_eq target (office_path office.Leave) then Some office.Leave else (if bytes_eq target (office_path office.Orders) then Some office.Orders else None))) ≡ Some what
+        else (if bytes_eq target (office_path office.Leave) then Some office.Leave else (if bytes_eq target (office_path office.Orders) then Some office.Orders else None))) ≡ Some what
         → target ≡ office_path what
     console true same named =
         let one : office.Console ≡ what = cc in
@@ -367,7 +369,6 @@ own-named target (Resource (Candidates clerk batch)) (c, b, is, own, other) =
     ap named_by is ∙ two-named candidates is-candidates c b clerk batch own other (candidates-found c b (numeric c clerk own) (numeric b batch other))
 own-named target (Keying clerk batch) (c, b, is, own, other) =
     ap named_by is ∙ two-named keyings is-keyings c b clerk batch own other (keyings-found c b (numeric c clerk own) (numeric b batch other))
-
 own-named target (Office office.Console) is = ap named_by is
 own-named target (Office office.Leave) is = ap named_by is
 own-named target (Office office.Orders) is = ap named_by is

@@ -22,12 +22,7 @@ pub(crate) fn reply_body(alloc: Global, text: &str) -> Result<String, AllocError
 }
 
 /// Returns the body with what came of an order, as a value.
-fn order_value(
-    alloc: Global,
-    status: u8,
-    output: &str,
-    errors: &str,
-) -> Result<Value, AllocError>
+fn order_value(alloc: Global, status: u8, output: &str, errors: &str) -> Result<Value, AllocError>
     ensures { IfOk result (λ value. view value ≡ order_data status output.now errors.now) }
 {
     json!(in alloc; {"errors": errors, "output": output, "status": status})

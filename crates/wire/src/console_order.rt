@@ -87,11 +87,7 @@ fn order_members(mut members: Map<String, Value>) -> Option<(Value, Value)>
 }
 
 /// Returns the order made of two values, if each of them has its type.
-fn order_by(
-    alloc: Global,
-    files: Value,
-    words: Value,
-) -> Result<Option<ConsoleOrder>, AllocError>
+fn order_by(alloc: Global, files: Value, words: Value) -> Result<Option<ConsoleOrder>, AllocError>
     ensures { IfOk result (λ found. option_map console_order_entry found ≡ order_by (view files, view words)) }
 {
     let Some(files) = files_in(alloc, files)? else {

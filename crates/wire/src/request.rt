@@ -170,9 +170,10 @@ fn read_behind<'a, R: Source>(
     ensures wanting { IfErr result (FailsAfter (R.held reader.old) (R.held reader.new) (λ got. MissesBytes head.now.wanted head.now.body (behind.now ++ got))) }
     ensures untouched { ((clerk batch : ℕ) → head.now.wanted ≢ Ok (Target.Keying clerk batch)) → head.now.wanted ≢ Ok (Target.Office OfficeTarget.Orders) → reader.new ≡ reader.old }
 {
-    let (Ok(Target::Keying { .. } | Target::Office(OfficeTarget::Orders)), Ok(size)) =
-        (head.wanted, head.body)
-    else {
+    let (Ok(Target::Keying { .. } | Target::Office(OfficeTarget::Orders)), Ok(size)) = (
+        head.wanted,
+        head.body,
+    ) else {
         return Ok(head.asked_with(alloc, settings, behind)?);
     };
     match read_body(alloc, reader, behind, size)? {

@@ -5,8 +5,8 @@ use Rattle.codes.proofs.drawn.draw_letters.Given as goal
 
 abbrev pub invariant-loop-letters : goal.invariant-loop-letters
 invariant-loop-letters g l = record {
-  drawing : IsDrawing (g.D.Draws.drawn l.fn.draws) (g.D.Draws.drawn l.draws) l.letters.items (100 * l.count) l.left;
-  failed : g.D.Draws.failed l.draws ≡ g.D.Draws.failed l.fn.draws;
+  drawing : IsDrawing (g.D.RandomSource.drawn l.fn.draws) (g.D.RandomSource.drawn l.draws) l.letters.items (100 * l.count) l.left;
+  failed : g.D.RandomSource.failed l.draws ≡ g.D.RandomSource.failed l.fn.draws;
   bound : length l.letters.items ≤ l.count;
 }
 

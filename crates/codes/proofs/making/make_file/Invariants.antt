@@ -5,8 +5,8 @@ use Rattle.codes.proofs.making.make_file.Given as goal
 
 abbrev pub invariant-loop-left : goal.invariant-loop-left
 invariant-loop-left g l = record {
-  drawn : HasDrawn l.clerks l.office (g.D.Draws.drawn l.fn.draws) (g.D.Draws.drawn l.draws) l.left;
-  failed : g.D.Draws.failed l.draws ≡ g.D.Draws.failed l.fn.draws;
+  drawn : HasDrawn l.clerks l.office (g.D.RandomSource.drawn l.fn.draws) (g.D.RandomSource.drawn l.draws) l.left;
+  failed : g.D.RandomSource.failed l.draws ≡ g.D.RandomSource.failed l.fn.draws;
 }
 
 abbrev pub decreases-loop-left : goal.decreases-loop-left

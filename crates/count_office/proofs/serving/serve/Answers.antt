@@ -11,7 +11,7 @@ pub returns : goal.returns
 returns g c =
     let tells = IsErrorTold g.E.Sink.taken g.E.Sink.failed c.args.err.now c.tell_outcome-status.new.err in
     let quiet = c.tell_outcome-status.new.err ≡ c.args.err.now in
-    let line = stream_of g.H.Port.Stream.Stream.held g.H.Port.Stream.Stream.taken g.H.Port.Stream.Stream.failed in
+    let line = stream_of g.H.Sockets.Stream.Stream.held g.H.Sockets.Stream.Stream.taken g.H.Sockets.Stream.Stream.failed in
     let served = c.serve_at-outcome in
     let opened = c.in-Ok-open_from in
     subst

@@ -9,18 +9,18 @@ use Rattle.count_office.proofs.serving.serve_at.Goals as goal
 
 pub returns-in-Ok : goal.returns-in-Ok
 returns-in-Ok g c =
-    let line = stream_of g.H.Port.Stream.Stream.held g.H.Port.Stream.Stream.taken g.H.Port.Stream.Stream.failed in
+    let line = stream_of g.H.Sockets.Stream.Stream.held g.H.Sockets.Stream.Stream.taken g.H.Sockets.Stream.Stream.failed in
     let known = g.H.Host.known in
     let found = c.in_ok-network in
     let through = c.serve_through-ended in
     served_on c.args.serving c.args.gate_files.now (g.H.Host.file c.args.host.now) found.field-0.file (g.H.Side.SideJobs.whole found.field-0.side_jobs) line
     (state g.S.Store) (known c.args.host.now) (known c.open.new.self) (known c.close.new.self)
-    (g.H.Port.Network.known found.field-0.network) (g.H.Port.Network.known through.new.network) c.args.office.now through.new.office (Ok c.in-Ok.field-0)
+    (g.H.Sockets.Network.known found.field-0.network) (g.H.Sockets.Network.known through.new.network) c.args.office.now through.new.office (Ok c.in-Ok.field-0)
     found.ensures.same found.ensures.known c.close.ensures.known c.close.ensures.others found.ensures.file c.in-Ok.ensures
 
 pub returns-in-Err : goal.returns-in-Err
 returns-in-Err g c =
-    let line = stream_of g.H.Port.Stream.Stream.held g.H.Port.Stream.Stream.taken g.H.Port.Stream.Stream.failed in
+    let line = stream_of g.H.Sockets.Stream.Stream.held g.H.Sockets.Stream.Stream.taken g.H.Sockets.Stream.Stream.failed in
     let known = g.H.Host.known in
     let found = c.in_ok-network in
     let through = c.serve_through-ended in
@@ -28,5 +28,5 @@ returns-in-Err g c =
     (known c.args.host.now) (known c.close.new.self) c.args.serving.connections c.args.office.now through.new.office (Err why)) (sym c.failure_of.ensures)
     (served_on c.args.serving c.args.gate_files.now (g.H.Host.file c.args.host.now) found.field-0.file (g.H.Side.SideJobs.whole found.field-0.side_jobs) line
     (state g.S.Store) (known c.args.host.now) (known c.open.new.self) (known c.close.new.self)
-    (g.H.Port.Network.known found.field-0.network) (g.H.Port.Network.known through.new.network) c.args.office.now through.new.office (Err c.in-Err.ended)
+    (g.H.Sockets.Network.known found.field-0.network) (g.H.Sockets.Network.known through.new.network) c.args.office.now through.new.office (Err c.in-Err.ended)
     found.ensures.same found.ensures.known c.close.ensures.known c.close.ensures.others found.ensures.file c.in-Err.ensures)

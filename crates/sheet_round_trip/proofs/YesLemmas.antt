@@ -24,8 +24,8 @@ use Rattle.checker.specs.declared.problem.Problem.TheVariants as problem
 use Rattle.register.specs.Marks.{columns_of}
 use Rattle.register.specs.Elections.{ElectionEntry, contest_of, due_of, has_count, is_drawn_for, is_finished, stages_of}
 use Rattle.office.specs.Sheets.{candidate_shown, shown_with}
-use Rattle.own_texts.specs.OwnTexts.{IsConfirmed}
-use Rattle.own_texts.proofs.FinishedLemmas.{all_drawn, counted, end_alone, fair_on_bundles, stages_alone}
+use Rattle.sheet_round_trip.specs.OwnTexts.{IsConfirmed}
+use Rattle.sheet_round_trip.proofs.FinishedLemmas.{all_drawn, counted, end_alone, fair_on_bundles, stages_alone}
 
 -- ---- the sheet and the declaration
 

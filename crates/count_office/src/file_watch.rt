@@ -27,7 +27,7 @@ struct Seen {
 
 /// The database and the log of an open office, as they were last seen.
 #[derive(Drop)]
-pub struct Presence<'a> {
+pub struct FileWatch<'a> {
     found: &'a PathState,
     database: Cell<Seen>,
     log: Cell<Seen>,
@@ -66,16 +66,16 @@ fn is_still_at(rt: &HostRuntime, path: &str, last: &Cell<Seen>) -> bool {
     is_same
 }
 
-impl<'a> Presence<'a> {
+impl<'a> FileWatch<'a> {
     /// Returns the files of an office that was just opened; `None` if they no longer exist, or aren't the locked ones.
-    pub fn of(rt: &HostRuntime, found: &'a PathState, held: &FileLock) -> Option<Presence<'a>> {
+    pub fn of(rt: &HostRuntime, found: &'a PathState, held: &FileLock) -> Option<FileWatch<'a>> {
         let database = seen_at(rt, found.database())?;
         let log = seen_at(rt, found.log())?;
         let (device, inode) = held.numbers().ok()?;
         if database.device != device || database.inode != inode {
             return None;
         }
-        Some(Presence {
+        Some(FileWatch {
             found,
             database: Cell::new(database),
             log: Cell::new(log),

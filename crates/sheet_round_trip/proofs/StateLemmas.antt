@@ -22,9 +22,9 @@ use Rattle.register.specs.Elections.{is_counted_right, is_declared, is_drawn_for
 use Rattle.register.specs.Items.{IsState, all_counted}
 use Rattle.register.proofs.MapLemmas.{found_passes}
 use Rattle.office.specs.Sheets.{bundles_shown, candidate_shown, declaration_of, election_shown, lots_shown, sheet_of, shown_with}
-use Rattle.own_texts.specs.OwnTexts.{IsFinished}
-use Rattle.own_texts.proofs.FinishedLemmas.{same_elected}
-use Rattle.own_texts.proofs.YesLemmas.{HasYes, IsYes, counted_has, uncontested_has}
+use Rattle.sheet_round_trip.specs.OwnTexts.{IsFinished}
+use Rattle.sheet_round_trip.proofs.FinishedLemmas.{same_elected}
+use Rattle.sheet_round_trip.proofs.YesLemmas.{HasYes, IsYes, counted_has, uncontested_has}
 
 -- the count of each ward of a state is right
 pub counted_right : (s : OfficeState) (w : WardEntry) → IsState s → ward_at s w.number ≡ Some w → is_counted_right (election_of s w) ≡ true

@@ -1,7 +1,7 @@
 //! Counts a made-up ward of 10 candidates and 4 seats.
 //!
 //! ```text
-//! made_up_ward PAPERS [parcels|bundles [LISTS [STAGES]]]
+//! count_benchmark PAPERS [parcels|bundles [LISTS [STAGES]]]
 //! ```
 //!
 //! So many papers are made up, each for itself, or drawn from so many lists where LISTS isn't 0. They are

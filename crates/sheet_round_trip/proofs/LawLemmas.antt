@@ -12,11 +12,11 @@ use Rattle.checker.specs.declared.differences.Checked.TheVariants as checked
 use Rattle.checker.specs.ReadingBack.{AreCheckedAsTold, AreHinderedAsTold, AreReadBack, CanBeReadBack}
 use Rattle.office.specs.Sheets.{IsTextual, bundles_shown, declaration_of, election_shown, lots_shown, sheet_of}
 use Rattle.office.specs.declared.sheets.Text.TheVariants.{Ballots, Declaration, Sheet}
-use Rattle.own_texts.specs.OwnTexts.{DeclaredAreFinished, IsConfirmed, IsFinished, IsReadAs, IsTold, IsWardOf}
-use Rattle.own_texts.proofs.BallotLemmas.{can_be_read_back, own_lots_small, own_numbers}
-use Rattle.own_texts.proofs.StateLemmas.{counted_right, declared_is_finished, own_yes}
-use Rattle.own_texts.proofs.ToldLemmas.{told_of}
-use Rattle.own_texts.proofs.YesLemmas.{IsYes, confirmed}
+use Rattle.sheet_round_trip.specs.OwnTexts.{DeclaredAreFinished, IsConfirmed, IsFinished, IsReadAs, IsTold, IsWardOf}
+use Rattle.sheet_round_trip.proofs.BallotLemmas.{can_be_read_back, own_lots_small, own_numbers}
+use Rattle.sheet_round_trip.proofs.StateLemmas.{counted_right, declared_is_finished, own_yes}
+use Rattle.sheet_round_trip.proofs.ToldLemmas.{told_of}
+use Rattle.sheet_round_trip.proofs.YesLemmas.{IsYes, confirmed}
 
 -- a declared ward is one that was sealed
 declared_is_sealed : (phase : Phase) → is_declared phase ≡ true → is_counted phase ≡ true

@@ -25,7 +25,7 @@ use Rattle.register.specs.Items.{IsState, is_batch, is_candidate, is_judged_pape
 use Rattle.register.proofs.MapLemmas.{found_passes, kept_all}
 use Rattle.register.proofs.ContestLemmas.{columns_are_set, few_among, few_batches, papers_are_rankings, papers_have_some}
 use Rattle.office.specs.Sheets.{IsTextual, bundles_shown, candidate_shown, election_shown, lots_shown, shown_with}
-use Rattle.own_texts.proofs.RangeLemmas.{few_rejected, kept_pass, lots_once, lots_small, name_is, names_are}
+use Rattle.sheet_round_trip.proofs.RangeLemmas.{few_rejected, kept_pass, lots_once, lots_small, name_is, names_are}
 
 -- the numbers of candidates, as they are shown
 pub numbers_shown : (cs : List CandidateEntry) → map (λ (candidate : ℕ × List ℕ). candidate.0) (map candidate_shown cs) ≡ map (λ (c : CandidateEntry). c.number) cs

@@ -7,16 +7,16 @@ ghost use Rattle.sqlite.specs.Held.{state};
 ghost use Rattle.register.specs.Offices.{OfficeState, ward_at, candidate_at, batch_at, third_at, keying_of, verdict_at, lots_of};
 ghost use Rattle.register.specs.Papers.{is_third_clerk};
 ghost use Rattle.register.specs.Verdicts.{judged_as};
-ghost use Rattle.register.specs.Keepings.{is_there, is_ward_of, has_other_name, has_withdrawn, is_batch_of, is_keying_otherwise, is_verdict_otherwise, is_drawn, is_kept_otherwise};
+ghost use Rattle.register.specs.Repeats.{is_there, is_ward_of, has_other_name, has_withdrawn, is_batch_of, is_keying_otherwise, is_verdict_otherwise, is_drawn, is_kept_otherwise};
 ghost use Rattle.tables.specs.Reading.{OnlyReads, FailsBy};
 ghost use Rattle.store.specs.Offices.{IsAt};
 ghost use Rattle.store.specs.Loads.{Loads};
 
 use crate::storage::Store;
-use register::keepings::{
+use register::keyings::is_third_clerk;
+use register::repeats::{
     has_other_name, has_texts, has_withdrawn, is_batch_of, is_drawn, is_judged_alike, is_ward_of,
 };
-use register::keyings::is_third_clerk;
 use register::{
     BatchCommand, CandidateCommand, Command, CountCommand, KeyingCommand, Request, VerdictCommand,
     WardCommand,
@@ -107,7 +107,7 @@ impl<S: Alter> Store<S> {
 
     /// Returns whether what is kept of a request that is sent again differs from what it says. Nothing is read for a request whose
     /// subject says all of it. It changes nothing, and adds nothing to what a stop may leave. `Memory` or `Store` if a row can't be read.
-    pub fn load_keeps_other(&mut self, request: &Request) -> Result<bool, Fault>
+    pub fn load_differs_from_stored(&mut self, request: &Request) -> Result<bool, Fault>
         ensures shows { HasCleanDisk (state S.Store self.new) → (s : OfficeState) → IsAt s (state S.Store self.old) → IfOk result (λ found. found ≡ is_kept_otherwise s request.now) }
         ensures cause { HasCleanDisk (state S.Store self.new) → (s : OfficeState) → IsAt s (state S.Store self.old) → IfErr result (FailsBy (state S.Store self.old) (state S.Store self.new)) }
         ensures reads { OnlyReads (state S.Store self.old) (state S.Store self.new) }

@@ -1,6 +1,6 @@
 //! What a check says of the texts that an office prints.
 
-ghost use Rattle.own_texts.specs.OwnTexts.{DeclaredAreFinished, OwnBallotsAreRead, OwnDeclarationsAreConfirmed, OwnSheetsAreConfirmed};
+ghost use Rattle.sheet_round_trip.specs.OwnTexts.{DeclaredAreFinished, OwnBallotsAreRead, OwnDeclarationsAreConfirmed, OwnSheetsAreConfirmed};
 
 use checker::ballots_read_back;
 use office::texts_are_there;

@@ -17,7 +17,7 @@ use Rattle.register.specs.declared.phase.Phase.TheVariants.{Declared}
 use Rattle.register.specs.WorkedOffice.{batch_in, keyed}
 use Rattle.paper.specs.Preferences.{preferences_from}
 use Rattle.office.specs.declared.sheets.Text.TheVariants.{Ballots, Declaration, Sheet}
-use Rattle.own_texts.specs.OwnTexts.{IsFinished, IsTold, IsWardOf}
+use Rattle.sheet_round_trip.specs.OwnTexts.{IsFinished, IsTold, IsWardOf}
 
 -- Harbour has two seats and three candidates; number 2 withdrew. Two clerks keyed its two papers alike, the second as doubtful,
 -- which was accepted. At stage 3 the two who are left are tied, and the lot fell on 4.

@@ -1,6 +1,6 @@
 -- Why `own_texts_are_confirmed` keeps its promise.
-use Rattle.own_texts.proofs.LawLemmas.{ballots_read, declaration_confirmed, declared_finished, sheet_confirmed}
-use Rattle.own_texts.proofs.laws.own_texts_are_confirmed.Goals as goal
+use Rattle.sheet_round_trip.proofs.LawLemmas.{ballots_read, declaration_confirmed, declared_finished, sheet_confirmed}
+use Rattle.sheet_round_trip.proofs.laws.own_texts_are_confirmed.Goals as goal
 
 pub returns-clause-read : goal.returns-clause-read
 returns-clause-read c =

@@ -10,7 +10,7 @@ ghost use Rattle.register.specs.Offices.{ward_entry, candidate_entry, batch_entr
 ghost use Rattle.register.specs.declared.candidates.CandidateCommand.TheVariants.{Withdraw};
 ghost use Rattle.register.specs.Candidates.{subject_of};
 ghost use Rattle.register.specs.Verdicts.{judged_as};
-ghost use Rattle.register.specs.Keepings.{is_there, is_ward_of, has_other_name, has_subject, is_batch_of, has_texts, is_judged_alike, is_drawn};
+ghost use Rattle.register.specs.Repeats.{is_there, is_ward_of, has_other_name, has_subject, is_batch_of, has_texts, is_judged_alike, is_drawn};
 
 use crate::batches::Batch;
 use crate::candidates::{Candidate, CandidateCommand, subject_of};
@@ -86,7 +86,7 @@ pub fn is_batch_of(
     }
 }
 
-#[tactic(auto, unfolding(crate::specs::Keepings::has_texts))]
+#[tactic(auto, unfolding(crate::specs::Repeats::has_texts))]
 /// Returns whether a keying has exactly these marks texts, one per paper, in order.
 pub fn has_texts(keying: &[KeyedPaper], texts: &[String]) -> bool
     ensures { result ≡ has_texts (map keyed_entry keying.now) (map string_bytes texts.now) }

@@ -2,7 +2,7 @@ use Rattle.std.proofs.Common.{map, sym, ◌∙◌, string_bytes}
 use Rattle.std.proofs.lemmas.List.{length-map}
 use Rattle.register.specs.Offices.{keyed_entry}
 use Rattle.register.proofs.PaperLemmas.{other_counts}
-use Rattle.register.proofs.keepings.has_texts.Goals as goal
+use Rattle.register.proofs.repeats.has_texts.Goals as goal
 
 pub returns-then-keying-texts : goal.returns-then-keying-texts
 returns-then-keying-texts c =
