@@ -1,11 +1,11 @@
-//! The program `check-count`: it checks a stage sheet, or a declaration, against the ballots of its ward. It needs
-//! nothing of an office but the two texts, as `ballots` and `sheet` or `result` print them.
+//! The program `check-count`: it checks a stage sheet or a declaration against the ballots of its ward. It needs nothing from an
+//! office but the two texts, as printed by `ballots` and by `sheet` or `result`.
 //!
 //! ```text
 //! check-count ballots.txt sheet.txt
 //! ```
 //!
-//! What it prints, and the status that it ends with, is [`run`] of `checker`; here are this machine's words, files and outputs.
+//! Its output and exit status are those of [`run`] in `checker`; this crate adds only this machine's arguments, files and outputs.
 #![tactic(auto)]
 
 use checker::{ArgumentsFault, InputFiles, NotRead, run};
@@ -21,7 +21,7 @@ struct LocalFiles<'a> {
 }
 
 impl LocalFiles<'_> {
-    /// Why a file wasn't read.
+    /// Returns the reason why a file wasn't read.
     fn unread(&self, error: Error) -> NotRead {
         if error.kind() == ErrorKind::OutOfMemory {
             return NotRead::Memory;
@@ -42,7 +42,7 @@ impl InputFiles for LocalFiles<'_> {
     }
 }
 
-/// The words behind the program's name.
+/// Returns the arguments after the program's name.
 fn words(rt: &HostRuntime) -> Result<Vec<String>, ArgumentsFault> {
     let all = match env::args(rt) {
         Ok(all) => all,

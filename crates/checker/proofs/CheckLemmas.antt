@@ -1,4 +1,4 @@
--- What comes of a count that ended.
+-- The outcome of a count that has ended.
 use Rattle.std.proofs.Common.{◌≡◌, ◌∙◌, ℕ, List, reverse, refl, sym, ap, subst}
 use Rattle.std.specs.Prelude.{Some, None}
 use Rattle.count.specs.Advance.{end_after}
@@ -29,7 +29,7 @@ finished end.Finished is = refl
 finished (end.LotNeeded stage among) is = absurd (cc is)
 finished (end.LotNotAmong stage) is = absurd (cc is)
 
--- what comes of a text where it is
+-- the outcome for a text in that case
 pub counted_so : (ward : SheetEntry) (bundles : List Bundle) (lots : List (ℕ × ℕ)) (text : List ℕ) (checked : Checked) (contest : Contest) (stages : List Stage)
     (history : History) (why : CountEnd) (elected : List ℕ)
     → IsContest contest → contest ≡ contest_in ward bundles → reverse stages ≡ history → IsWholeCount contest lots history → end_after contest lots history ≡ Some why

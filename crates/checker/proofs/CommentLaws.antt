@@ -82,7 +82,7 @@ abbrev rejected_words : ℕ → ℕ → ℕ → ℕ → ℕ → List Text
 rejected_words a b c d e =
     codes "1" ∷ decimal a ∷ codes "2" ∷ decimal b ∷ codes "3" ∷ decimal c ∷ codes "4" ∷ decimal d ∷ codes "5" ∷ decimal e ∷ []
 
--- how many papers each code may have
+-- how many papers each code can have
 pub record AreCounts (a b c d e : ℕ) : Type 0 where
   pub first : a ≤ 4294967295
   pub second : b ≤ 4294967295

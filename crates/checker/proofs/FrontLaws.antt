@@ -1,4 +1,4 @@
--- What stands above the names is read back: the sizes, the withdrawn candidates, and the papers.
+-- Everything before the names is read back: the sizes, the withdrawn candidates, and the papers.
 use Rattle.std.proofs.Common.{◌≡◌, ◌∙◌, ℕ, ◌+◌, ◌≤◌, List, [], ◌∷◌, ◌++◌, Bool, false, length, map, refl, sym, ap, subst, arith, append_assoc, append-nil, length-append, Ok}
 use Rattle.std.specs.Prelude.{codes, replicate}
 use Rattle.std.specs.Fmt.{decimal}
@@ -27,7 +27,7 @@ use Rattle.checker.proofs.LineLaws.{AreFigures, IsFigures, Reads, and_both, is_f
 use Rattle.checker.proofs.NumberLaws.{candidate_back, decimal_figures, number_back}
 use Rattle.checker.proofs.PaperLaws.{CanStand, among_papers, bundle_reads, number_line, papers_at, state, told}
 
--- ---- bundles, one after the other
+-- ---- bundles in order
 
 abbrev lists_of : List Bundle → List (List ℕ)
 lists_of bundles = map (λ (b : Bundle). b.0) bundles

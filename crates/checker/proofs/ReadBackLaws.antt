@@ -61,7 +61,7 @@ rises : (low end : ℕ) (candidates : List (ℕ × Text)) → Ascends low (map (
 rises low end [] up all = tt
 rises low end (x ∷ others) up all = (omega (arith, up.0), omega (arith, all.0), rises x.0 end others up.2 all.1)
 
--- ---- the numbers at which nobody stands
+-- ---- the withdrawn numbers
 
 range_one : (b : Bool) (k : ℕ) (others : List ℕ) → k + 1 ≤ max_candidates → Ascends (k + 1) others → Ascends k (if b then (k + 1) ∷ others else others)
 range_one true k others few up = (omega arith, few, up)
@@ -80,7 +80,7 @@ range_low : (p : ℕ → Bool) (a n end : ℕ) → 1 ≤ a → a + n ≤ end + 1
 range_low p a zero end some few = tt
 range_low p a (suc n) end some few = range_low_one (p a) a end (filter p (range_with_len (a + 1) n)) some (omega arith) (range_low p (a + 1) n end (omega arith) (omega arith))
 
--- ---- who stands
+-- ---- the candidates
 
 named_one : (b : Bool) (x : ℕ × Text) (others : Option (ℕ × Text)) → (b ≡ false → is_none (option_map (λ (candidate : ℕ × Text). candidate.1) others) ≡ false)
     → is_none (option_map (λ (candidate : ℕ × Text). candidate.1) (if b then Some x else others)) ≡ false
@@ -137,7 +137,7 @@ module _ (ward : SheetEntry) where
         bundles_stand bundles most set each.1 fors.1 (omega (arith, few, sum)),
       )
 
-  -- what its names tell
+  -- the content of its names
   abbrev all_names : List Text
   all_names = map (name_of ward.candidates) (range_with_len 1 highest)
 
@@ -176,7 +176,7 @@ five_of (a ∷ b ∷ c ∷ d ∷ e ∷ []) five fit = record {
 }
 five_of (a ∷ b ∷ c ∷ d ∷ e ∷ f ∷ others) five fit = absurd (omega arith)
 
--- the rejected papers that a ward's file tells
+-- the rejected papers in a ward's file
 abbrev rejected_told : Option Poll → Option (List ℕ)
 rejected_told None = None
 rejected_told (Some poll) = Some poll.rejected

@@ -1,4 +1,4 @@
--- The candidates whom a file names.
+-- The candidates in a file.
 use Rattle.std.proofs.Common.{◌≡◌, ◌∙◌, ℕ, ◌+◌, ◌<◌, ◌≤◌, Bool, true, false, nat_eq, String, Global, List, [], ◌∷◌, ◌++◌, length, get_or, map, take, refl, sym, ap, subst, arith}
 use Rattle.std.specs.Prelude.{if◌then◌else◌, string_bytes}
 use Rattle.std.specs.List.{list_any}
@@ -8,7 +8,7 @@ use Rattle.paper.proofs.ColumnSets.{Ascends, columns_from_ascends}
 use Rattle.count.proofs.ColumnLemmas.{columns-take}
 use Rattle.checker.specs.Wards.{candidates_from, candidates_of}
 
--- numbers that ascend from above a number on do so from above a lower one
+-- numbers that ascend above a bound also ascend above a lower one
 pub lower : (k : ℕ) (xs : List ℕ) → Ascends (k + 1) xs → Ascends k xs
 lower k [] up = tt
 lower k (x ∷ xs) up = (omega (arith, up.0), up.1, up.2)
@@ -23,7 +23,7 @@ candidates_ascend withdrawn k [] few = tt
 candidates_ascend withdrawn k (name ∷ names) few =
     one_more (list_any (nat_eq (k + 1)) withdrawn) k name (candidates_from withdrawn (k + 1 + 1) names) (omega arith) (candidates_ascend withdrawn (k + 1) names (omega arith))
 
--- what is shown of candidates has their numbers
+-- the candidates shown have the same numbers
 pub shown_numbers : (candidates : List (ℕ × String Global)) →
     map (λ (candidate : ℕ × List ℕ). candidate.0) (map (λ candidate. (candidate.0, string_bytes candidate.1)) candidates) ≡ map (λ candidate. candidate.0) candidates
 shown_numbers [] = refl
@@ -36,12 +36,12 @@ candidates_set withdrawn names candidates few is =
     let numbers = sym (ap (map (λ (candidate : ℕ × List ℕ). candidate.0)) is) ∙ shown_numbers candidates in
     subst IsColumnSet numbers (columns_from_ascends 0 _ (candidates_ascend withdrawn 0 names (omega arith)))
 
--- ---- the set of their numbers, one after the other
+-- ---- the set of their numbers, one by one
 
 abbrev numbers_in : List (ℕ × String Global) → List ℕ
 numbers_in candidates = map (λ candidate. candidate.0) candidates
 
--- the number of each candidate is one that a candidate may have
+-- the number of each candidate is one that a candidate can have
 IsColumn-candidate : {X : Type 0} (number : X → ℕ) (xs : List X) (i : ℕ) (d : X) → i < length xs → IsColumnSet (map number xs) → IsColumn (number (get_or xs i d))
 IsColumn-candidate number xs i d within set =
     subst IsColumn (get_or-map number xs i d 0 within) (set.within i (omega (arith, length-map xs number)))

@@ -11,22 +11,22 @@ use Rattle.checker.specs.declared.tokens.Separator.TheVariants.{Mark}
 use Rattle.checker.specs.declared.problem.BallotsFlaw.{BallotsFlaw}
 use Rattle.checker.specs.declared.problem.BallotsFlaw.TheVariants.{Lot, Rejected, Twice, Ward}
 
--- what they say: the number of the ward, the rejected papers by their code, and each lot's stage and candidate
+-- the content of our comments: the number of the ward, the rejected papers by code, and the stage and the candidate of each lot
 pub record Remarks : Type 0 where
   pub ward : Option ℕ
   pub rejected : Option (List ℕ)
   pub lots : List (ℕ × ℕ)
 
--- whether a word is this one
+-- whether a word equals this one
 abbrev pub is_word : Text → Text → Bool
 is_word text word = pointwise nat_eq word text
 
--- a number that is understood
+-- a number if it is understood
 abbrev pub understood : Result ℕ BallotsFlaw → Option ℕ
 understood (Ok number) = Some number
 understood (Err flaw) = None
 
--- a number that fits one byte, and one that fits four
+-- a number that fits in one byte, and one that fits in four
 abbrev pub small_in : Text → Option ℕ
 small_in word = understood (number_in 255 word)
 
@@ -39,7 +39,7 @@ ward_in [] = None
 ward_in (number ∷ []) = small_in number
 ward_in (number ∷ other ∷ words) = None
 
--- `1: 0`: the rejected papers of a code, before those of other codes
+-- `1: 0`: the number of rejected papers for a code, before those for other codes
 abbrev pub code_in : Text → List Text → Option (ℕ × List Text)
 code_in code [] = None
 code_in code (told ∷ []) = None
@@ -50,16 +50,16 @@ abbrev pub is_end : List Text → Bool
 is_end [] = true
 is_end (word ∷ words) = false
 
--- the same of several codes, with no words behind them
+-- the same for several codes, with no words after them
 abbrev pub codes_in : List Text → List Text → Option (List ℕ)
 codes_in [] words = if is_end words then Some [] else None
 codes_in (code ∷ others) words = option_and_then (λ first. option_and_then (λ rest. Some (first.0 ∷ rest)) (codes_in others first.1)) (code_in code words)
 
--- `1: 0, 2: 0, 3: 0, 4: 0, 5: 0`: the rejected papers of each code
+-- `1: 0, 2: 0, 3: 0, 4: 0, 5: 0`: the number of rejected papers for each code
 abbrev pub rejected_in : List Text → Option (List ℕ)
 rejected_in words = codes_in (codes "1" ∷ codes "2" ∷ codes "3" ∷ codes "4" ∷ codes "5" ∷ []) words
 
--- `at stage 3: 2`: the candidate whom a lot named
+-- `at stage 3: 2`: the candidate drawn by a lot
 abbrev pub lot_in : List Text → Option (ℕ × ℕ)
 lot_in [] = None
 lot_in (at ∷ []) = None
@@ -69,12 +69,12 @@ lot_in (at ∷ stage ∷ k ∷ c ∷ []) =
     if is_word (codes "at") at && is_word (codes "stage") stage then option_and_then (λ number. option_and_then (λ candidate. Some (number, candidate)) (small_in c)) (small_in k) else None
 lot_in (at ∷ stage ∷ k ∷ c ∷ other ∷ words) = None
 
--- what a comment says, where it is understood, and no comment before said the same
+-- the content of a comment, if it is understood, and if no earlier comment had the same subject
 abbrev pub told_once : {X : Type 0} → BallotsFlaw → Option X → Option X → Result (Option X) BallotsFlaw
 told_once flaw before None = Err flaw
 told_once flaw before (Some told) = if is_some before then Err Twice else Ok (Some told)
 
--- the remarks so far, and what a comment says of the ward, of the rejected papers, and of a lot
+-- the remarks so far, with a comment about the ward, about the rejected papers, or about a lot
 abbrev pub with_ward : Remarks → Option ℕ → Result Remarks BallotsFlaw
 with_ward remarks ward = and_then (told_once Ward remarks.ward ward) (λ kept. Ok (record { ward = kept; rejected = remarks.rejected; lots = remarks.lots }))
 
@@ -93,19 +93,19 @@ with_lot remarks (Some lot) =
 abbrev pub with_other : Remarks → Text → Result Remarks BallotsFlaw
 with_other remarks line = and_then (skip_foreign line) (λ passed. Ok remarks)
 
--- a line with a comment of this kind, and the words behind it
+-- a comment line of this kind, and the words after it
 abbrev pub with_kind : Remarks → Text → Text → List Text → Result Remarks BallotsFlaw
 with_kind remarks line kind words =
     if is_word (codes "Ward") kind then with_ward remarks (ward_in words) else (
     if is_word (codes "Rejected") kind then with_rejected remarks (rejected_in words) else (
     if is_word (codes "Lot") kind then with_lot remarks (lot_in words) else with_other remarks line))
 
--- the words of a line with a comment: our own have a `#` alone before their kind
+-- the words of a comment line: our own have a separate `#` before their kind
 abbrev pub with_words : Remarks → Text → List Text → Result Remarks BallotsFlaw
 with_words remarks line [] = with_other remarks line
 with_words remarks line (sign ∷ []) = with_other remarks line
 with_words remarks line (sign ∷ kind ∷ words) = if is_word (codes "#") sign then with_kind remarks line kind words else with_other remarks line
 
--- a comment on a line of its own; its words are parted by colons and commas too
+-- a comment on a line of its own; its words are also separated by colons and commas
 abbrev pub with_comment : Remarks → Text → Result Remarks BallotsFlaw
 with_comment remarks line = with_words remarks line (pieces_of Mark [] line)

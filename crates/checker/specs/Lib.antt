@@ -1,4 +1,4 @@
--- How ballots are read, and what a text is checked against.
+-- Reading ballots, and checking a text against them.
 pub mod Outcomes
 pub mod Tokens
 pub mod Numbers

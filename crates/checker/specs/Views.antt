@@ -1,4 +1,4 @@
--- What the program's values stand for.
+-- The values of the program, as the specification sees them.
 use Rattle.std.specs.Prelude.{◌≡◌, ℕ, map, string_bytes, Result, Err, ⊤}
 use Rattle.checker.specs.Reading.{Named, ReaderEntry}
 use Rattle.checker.specs.Comments.{Remarks}
@@ -15,19 +15,19 @@ use Rattle.checker.specs.declared.state.CandidateNames.{CandidateNames}
 use Rattle.checker.specs.declared.state.PaperTotals.{PaperTotals}
 use Rattle.checker.specs.declared.state.Reader.{Reader}
 
--- whom a line names so far
+-- the candidates in a line so far
 abbrev pub ranks_of : Ranks → Ranked
 ranks_of ranks = record { named = ranks.named.items; next = ranks.next }
 
--- what a file says of candidates, seats and papers
+-- the candidates, seats and papers in a file
 abbrev pub told_of : PaperTotals → PapersEntry
 told_of papers = record { highest = papers.highest; seats = papers.seats; withdrawn = papers.withdrawn; bundles = papers.bundles }
 
--- a name that is read so far
+-- the name read so far
 abbrev pub quoting_of : Quoted → Quoting
 quoting_of quoted = record { name = quoted.name.items; comment = quoted.comment.items; within = quoted.within }
 
--- what our own comments say
+-- the content of our own comments
 abbrev pub remarks_of : Comments → Remarks
 remarks_of comments = record { ward = comments.ward; rejected = comments.rejected; lots = comments.lots.items }
 
@@ -35,11 +35,11 @@ remarks_of comments = record { ward = comments.ward; rejected = comments.rejecte
 abbrev pub named_of : CandidateNames → Named
 named_of names = record { names = map string_bytes names.names.items; ward = string_bytes names.ward }
 
--- what a file has said so far
+-- the content of a file so far
 abbrev pub reading_of : Reader → ReaderEntry
 reading_of reader = record { place = reader.place; papers = told_of reader.papers; names = named_of reader.names; remarks = remarks_of reader.comments }
 
--- what is wrong with a line, where something is; or memory was wanting
+-- the flaw of a line, if there is one; or an allocation failed
 abbrev pub IsFlawOf : Result ReaderEntry (ℕ × BallotsFlaw) → Problem → Type 0
 IsFlawOf told (problem.Line line flaw) = told ≡ Err (line, flaw)
 IsFlawOf told problem.Memory = ⊤

@@ -1,4 +1,4 @@
-//! What the program is asked for by its words, and what comes of it.
+//! The request in the program's arguments, and its outcome.
 
 ghost use Rattle.std.specs.Prelude.{◌≡◌, ◌-◌, ◌^◌, ◌<◌, map, string_bytes, IfOk, IfErr};
 ghost use Rattle.checker.specs.Arguments.{IsAnswer, IsCheckOutcome, IsFilesOutcome, IsOutcome, IsPageFor, IsTextOutcome, IsUnreadFile, asked, is_help, words_told};
@@ -14,16 +14,16 @@ use crate::report::Report;
 use std::alloc::Global;
 use streams::Sink;
 
-/// Why the program's words can't be read.
+/// The reason why the program's arguments can't be read.
 #[derive(Clone, Copy)]
 pub enum ArgumentsFault {
-    /// One isn't UTF-8.
+    /// An argument isn't UTF-8.
     NotUtf8,
-    /// Memory was wanting.
+    /// An allocation failed.
     Memory,
 }
 
-/// The bytes of a file, or what comes of it where it isn't read.
+/// Returns the bytes of a file, or the outcome if it can't be read.
 fn bytes_of<F: InputFiles>(alloc: Global, folder: &F, path: &str) -> Result<Vec<u8>, Report>
     ensures ok { IfOk result (λ bytes. Holds (F.held folder.now) path.now bytes.items) }
     ensures err { IfErr result (λ told. IsUnreadFile (F.held folder.now) path.now told) }
@@ -39,7 +39,7 @@ fn bytes_of<F: InputFiles>(alloc: Global, folder: &F, path: &str) -> Result<Vec<
     }
 }
 
-/// What comes of a text beside ballots.
+/// Returns the outcome of checking a text against ballots.
 fn checked(alloc: Global, ballots: &[u8], text: &[u8]) -> Report
     ensures { IsCheckOutcome ballots.now text.now result }
 {
@@ -52,7 +52,7 @@ fn checked(alloc: Global, ballots: &[u8], text: &[u8]) -> Report
     }
 }
 
-/// What comes of the file of a text beside ballots.
+/// Returns the outcome of checking the file of a text against ballots.
 fn checked_file<F: InputFiles>(alloc: Global, folder: &F, ballots: &[u8], path: &str) -> Report
     ensures { IsTextOutcome (F.held folder.now) ballots.now path.now result }
 {
@@ -62,7 +62,7 @@ fn checked_file<F: InputFiles>(alloc: Global, folder: &F, ballots: &[u8], path: 
     }
 }
 
-/// What comes of the files of ballots and of a text.
+/// Returns the outcome for the files of ballots and of a text.
 fn checked_files<F: InputFiles>(alloc: Global, folder: &F, ballots: &str, text: &str) -> Report
     ensures { IsFilesOutcome (F.held folder.now) ballots.now text.now result }
 {
@@ -72,14 +72,14 @@ fn checked_files<F: InputFiles>(alloc: Global, folder: &F, ballots: &str, text: 
     }
 }
 
-/// Whether a word asks for help.
+/// Returns whether an argument requests help.
 fn is_help(word: &str) -> bool
     ensures { result ≡ is_help word.now }
 {
     word == "--help" || word == "-h"
 }
 
-/// What comes of what is asked for.
+/// Returns the outcome of a request.
 fn answer<F: InputFiles>(alloc: Global, words: &[String], folder: &F) -> Report
     ensures { IsAnswer (F.held folder.now) (asked (map string_bytes words.now)) result }
 {
@@ -96,7 +96,7 @@ fn answer<F: InputFiles>(alloc: Global, words: &[String], folder: &F) -> Report
     }
 }
 
-/// What comes of the program's words, or of why they can't be read.
+/// Returns the outcome of the program's arguments, or of the failure to read them.
 fn outcome_of<F: InputFiles>(
     alloc: Global,
     words: &Result<Vec<String>, ArgumentsFault>,
@@ -111,12 +111,12 @@ fn outcome_of<F: InputFiles>(
     }
 }
 
-/// Does what the program's words ask, prints what comes of it, and gives the status.
+/// Executes the request in the program's arguments, prints the outcome, and returns the status.
 ///
-/// The words are `--help`, or the paths of the ballots and of the text that is checked against them. The status is 0 for help, and
-/// where the text is the sheet or the declaration that the ballots give; `out` gets that. It is 1 where the text differs. It is 2
-/// where the words or the ballots aren't understood, or the count doesn't come to its end. It is 3 where a file can't be read or
-/// memory is wanting. Each of these goes to `err`. It is 3 too where one of the two outputs fails, which has then taken a beginning.
+/// The arguments are `--help`, or the paths of the ballots and of the text that is checked against them. The status is 0 for help,
+/// and if the text is the sheet or the declaration that results from the ballots; both are printed on `out`. It is 1 if the text
+/// differs, 2 if the arguments or the ballots aren't understood or the count can't be finished, and 3 if a file can't be read or an
+/// allocation fails; these are printed on `err`. It is also 3 if one of the two outputs fails, which has then accepted a prefix.
 pub fn run<F: InputFiles, O: Sink, E: Sink>(
     alloc: Global,
     words: &Result<Vec<String>, ArgumentsFault>,

@@ -1,4 +1,4 @@
-//! A text beside ballots.
+//! Checking a text against ballots.
 
 ghost use Rattle.std.specs.Prelude.{◌≡◌, map, string_bytes, IfOk, IfErr};
 ghost use Rattle.paper.specs.Columns.{IsColumnSet};
@@ -21,7 +21,7 @@ use paper::Columns;
 use sheet::{Ward, declaration_text, sheet_text};
 use std::alloc::{AllocError, Global};
 
-/// A text beside the sheet and the declaration of a ward, with these stages and these elected.
+/// Compares a text with the sheet and the declaration of a ward, given its stages and its elected candidates.
 fn compared(
     alloc: Global,
     ward: &Ward,
@@ -37,7 +37,7 @@ fn compared(
     comparison(alloc, text, sheet.as_str(), declaration.as_str())
 }
 
-/// Why a count isn't finished, if it isn't.
+/// Returns the reason why a count isn't finished, if it isn't.
 fn problem_of(end: CountEnd) -> Option<Problem>
     ensures { result ≡ problem_of end }
 {
@@ -48,7 +48,7 @@ fn problem_of(end: CountEnd) -> Option<Problem>
     }
 }
 
-/// A text beside the sheet and the declaration of a contested ward, once its count is finished.
+/// Compares a text with the sheet and the declaration of a contested ward, after its count is finished.
 fn counted(
     alloc: Global,
     ward: &Ward,
@@ -85,7 +85,7 @@ fn counted(
     }
 }
 
-/// A text beside the sheet and the declaration of a ward.
+/// Compares a text with the sheet and the declaration of a ward.
 fn checked_for(
     alloc: Global,
     ward: &Ward,
@@ -106,7 +106,7 @@ fn checked_for(
     }
 }
 
-/// A text beside the sheet and the declaration of the ward that a file describes, with its candidates.
+/// Compares a text with the sheet and the declaration of the ward in a file, given its candidates.
 fn checked_with(
     alloc: Global,
     told: &Reader,
@@ -130,7 +130,7 @@ fn checked_with(
     checked_for(alloc, &ward, bundles, &told.comments.lots, text)
 }
 
-/// A text beside the sheet and the declaration of the ward that a file describes.
+/// Compares a text with the sheet and the declaration of the ward in a file.
 fn checked_as(alloc: Global, told: &Reader, text: &[u8]) -> Result<Checked, Problem>
     ensures ok { let ward = ward_told (reading_of told.now) in IfOk result (λ checked. IsWardCheck ward.poll ward told.now.papers.bundles told.now.comments.lots.items text.now checked) }
     ensures err { let ward = ward_told (reading_of told.now) in IfErr result (λ problem. IsWardProblem ward.poll ward told.now.papers.bundles told.now.comments.lots.items problem) }
@@ -141,15 +141,15 @@ fn checked_as(alloc: Global, told: &Reader, text: &[u8]) -> Result<Checked, Prob
     }
 }
 
-/// Checks a text against the ballots of its ward. It is to be exactly the stage sheet of the finished count that these ballots,
-/// rejected papers and lots give, or the declaration of who is elected by that count.
+/// Checks a text against the ballots of its ward. It must be exactly the stage sheet of the finished count of these ballots, rejected
+/// papers and lots, or the declaration of the candidates elected by that count.
 ///
-/// The ballots are read as `ballots` prints them, or as other counting programs write them. Where our own comments are missing it
-/// is ward 1, there are no rejected papers, and no lots. A text that differs is compared with the sheet or the declaration,
-/// whichever it is like for longer; with the sheet where it is like both.
+/// The ballots are read as printed by `ballots`, or as written by other counting programs. Without our own comments the ward has
+/// number 1, no rejected papers and no lots. A text that differs is compared with the sheet or the declaration, whichever shares the
+/// longer prefix with it; with the sheet if they are equally long.
 ///
-/// A `Problem` names the first line of the ballots that isn't understood, or
-/// says why the count doesn't come to its end; nothing is said of the text then.
+/// A `Problem` is the first line of the ballots that isn't understood, the reason why the count can't be finished, or a failed
+/// allocation; it says nothing about the text.
 pub fn check(alloc: Global, ballots: &[u8], text: &[u8]) -> Result<Checked, Problem>
     ensures ok { IfOk result (λ checked. IsChecked ballots.now text.now checked) }
     ensures err { IfErr result (λ problem. IsProblem ballots.now problem) }

@@ -13,14 +13,14 @@ use crate::state::Comments;
 use crate::tokens::{Separator, pieces_of};
 use std::alloc::{AllocError, Global};
 
-/// Whether a word is this one.
+/// Returns whether a word equals this one.
 fn is_word(text: &str, word: &[u8]) -> bool
     ensures { result ≡ is_word text.now word.now }
 {
     word == text.as_bytes()
 }
 
-/// A number that fits one byte.
+/// Parses a number that fits in one byte.
 fn small_in(word: &[u8]) -> Option<u8>
     ensures { result ≡ small_in word.now }
 {
@@ -30,7 +30,7 @@ fn small_in(word: &[u8]) -> Option<u8>
     }
 }
 
-/// A number that fits four bytes.
+/// Parses a number that fits in four bytes.
 fn count_in(word: &[u8]) -> Option<u32>
     ensures { result ≡ count_in word.now }
 {
@@ -40,7 +40,7 @@ fn count_in(word: &[u8]) -> Option<u32>
     }
 }
 
-/// The number of a ward.
+/// Parses the number of a ward.
 fn ward_in(words: &[&[u8]]) -> Option<u8>
     ensures { result ≡ ward_in (map (λ w. w.now) words.now) }
 {
@@ -50,7 +50,7 @@ fn ward_in(words: &[&[u8]]) -> Option<u8>
     }
 }
 
-/// Whether there are no words.
+/// Returns whether there are no words.
 fn is_end(words: &[&[u8]]) -> bool
     ensures { result ≡ is_end (map (λ w. w.now) words.now) }
 {
@@ -60,7 +60,7 @@ fn is_end(words: &[&[u8]]) -> bool
     }
 }
 
-/// The rejected papers of a code, and the words behind them.
+/// Parses the number of rejected papers for a code; returns it with the remaining words.
 fn code_in<'a, 'b>(code: &str, words: &'b [&'a [u8]]) -> Option<(u32, &'b [&'a [u8]])>
     ensures { option_map (λ told. (told.0, map (λ w. w.now) told.1.now)) result ≡ code_in code.now (map (λ w. w.now) words.now) }
 {
@@ -73,7 +73,7 @@ fn code_in<'a, 'b>(code: &str, words: &'b [&'a [u8]]) -> Option<(u32, &'b [&'a [
     Some((count_in(papers)?, others))
 }
 
-/// The rejected papers of each code.
+/// Parses the number of rejected papers for each code.
 fn rejected_in(words: &[&[u8]]) -> Option<[u32; 5]>
     ensures { result ≡ rejected_in (map (λ w. w.now) words.now) }
 {
@@ -88,7 +88,7 @@ fn rejected_in(words: &[&[u8]]) -> Option<[u32; 5]>
     Some([first, second, third, fourth, fifth])
 }
 
-/// The candidate whom a lot named, behind its stage.
+/// Parses a stage and the candidate drawn by its lot.
 fn lot_in(words: &[&[u8]]) -> Option<(u8, u8)>
     ensures { result ≡ lot_in (map (λ w. w.now) words.now) }
 {
@@ -101,7 +101,7 @@ fn lot_in(words: &[&[u8]]) -> Option<(u8, u8)>
     Some((small_in(k)?, small_in(c)?))
 }
 
-/// Whether a lot is recorded for a stage.
+/// Returns whether a lot is recorded for a stage.
 fn is_drawn(stage: u8, lots: &[(u8, u8)]) -> bool
     ensures { result ≡ is_drawn stage lots.now }
 {
@@ -113,7 +113,7 @@ fn is_drawn(stage: u8, lots: &[(u8, u8)]) -> bool
     false
 }
 
-/// Keeps what a comment says, where it is understood, and no comment before said the same.
+/// Stores the content of a comment, if it is understood, and if no earlier comment had the same subject.
 fn keep_once<T: Copy>(
     kept: &mut Option<T>,
     told: Option<T>,
@@ -132,21 +132,21 @@ fn keep_once<T: Copy>(
 }
 
 impl Comments {
-    /// The number of the ward, where a comment gives it.
+    /// Stores the number of the ward, if a comment contains it.
     fn take_ward(&mut self, ward: Option<u8>) -> Result<(), BallotsFlaw>
         ensures { outcome result (remarks_of self.new) ≡ with_ward (remarks_of self.old) ward }
     {
         keep_once(&mut self.ward, ward, BallotsFlaw::Ward)
     }
 
-    /// The rejected papers, where a comment gives them.
+    /// Stores the rejected papers, if a comment contains them.
     fn take_rejected(&mut self, rejected: Option<[u32; 5]>) -> Result<(), BallotsFlaw>
         ensures { outcome result (remarks_of self.new) ≡ with_rejected (remarks_of self.old) rejected }
     {
         keep_once(&mut self.rejected, rejected, BallotsFlaw::Rejected)
     }
 
-    /// A lot, where a comment gives it.
+    /// Stores a lot, if a comment contains it.
     fn take_lot(&mut self, lot: Option<(u8, u8)>) -> Result<Result<(), BallotsFlaw>, AllocError>
         ensures { IfOk result (λ told. outcome told (remarks_of self.new) ≡ with_lot (remarks_of self.old) lot) }
     {
@@ -160,14 +160,14 @@ impl Comments {
         Ok(Ok(()))
     }
 
-    /// A comment that isn't ours.
+    /// Processes a comment that isn't ours.
     fn take_other(&self, line: &[u8]) -> Result<(), BallotsFlaw>
         ensures { outcome result (remarks_of self.now) ≡ with_other (remarks_of self.now) line.now }
     {
         skip_foreign(line)
     }
 
-    /// A line with a comment of a kind, and the words behind it.
+    /// Processes a comment line of a certain kind, given the remaining words.
     fn take_kind(
         &mut self,
         line: &[u8],
@@ -188,7 +188,7 @@ impl Comments {
         Ok(self.take_other(line))
     }
 
-    /// The words of a line with a comment.
+    /// Processes the words of a comment line.
     fn take_words(
         &mut self,
         line: &[u8],
@@ -205,7 +205,7 @@ impl Comments {
         self.take_kind(line, kind, others)
     }
 
-    /// A comment on a line of its own.
+    /// Processes a comment on a line of its own.
     pub(crate) fn take(
         &mut self,
         alloc: Global,

@@ -1,6 +1,6 @@
 //! The program's help.
 
-/// What the program prints of itself.
+/// The text that the program prints about itself.
 pub(crate) const HELP: &str =
     "Checks a stage sheet or a declaration against the ballots of its ward, without an office.
 

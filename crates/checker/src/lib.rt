@@ -1,14 +1,15 @@
-//! Checks a stage sheet or a declaration against the ballots of its ward: whether the text is exactly the one
-//! that these ballots, rejected papers and lots give. Nothing of an office is needed.
+//! Checks a stage sheet or a declaration against the ballots of its ward: whether the text is exactly the result of these ballots,
+//! rejected papers and lots. Nothing from an office is needed.
 //!
-//! [`check`] reads the ballots, as `ballots` prints them or as other counting programs write them (BLT), counts them to the end
-//! by the recorded lots, and compares. A [`Problem`] says what of the ballots isn't understood, or which lot is wanting. [`run`]
-//! does what the checker's words ask: it has both files read from a [`InputFiles`], and prints what came of it on two outputs.
+//! [`check`] reads the ballots, as printed by `ballots` or written by other counting programs (BLT), counts them to the end with the
+//! recorded lots, and compares. A [`Problem`] is the part of the ballots that isn't understood, or the lot that is missing. [`run`]
+//! executes the request in the checker's arguments: it reads both files through an [`InputFiles`], and prints the outcome on two
+//! outputs.
 //!
 //! ```text
 //! match check(alloc, ballots, text)? {
-//!     Checked::Sheet => ..,                         // these ballots give this very stage sheet,
-//!     Checked::Declaration => ..,                   // or this very declaration
+//!     Checked::Sheet => ..,                         // the text is exactly the stage sheet of these ballots,
+//!     Checked::Declaration => ..,                   // or exactly their declaration
 //!     Checked::Differs { line, should_be } => ..,   // the first line that differs, and what it should be
 //! }
 //! ```
@@ -20,7 +21,7 @@ mod problem;
 // a text in lines, a line in words, and words that are numbers
 mod numbers;
 mod tokens;
-// what a file has said so far, and what each of its lines adds
+// what a file contains so far, and what each of its lines adds
 mod comments;
 mod foreign_comments;
 mod names;
@@ -28,12 +29,12 @@ mod papers;
 mod ranks;
 mod reading;
 mod state;
-// the ward that it describes, and a text beside it
+// the ward in a file, and the comparison of a text with it
 mod checking;
 mod lots;
 mod reading_back;
 mod wards;
-// what the program is asked for, and what it prints
+// the program's request, and what it prints
 mod arguments;
 mod help;
 mod hints;

@@ -1,4 +1,4 @@
-//! Lots that are recorded where none is drawn.
+//! Recorded lots for stages at which none is drawn.
 
 ghost use Rattle.std.specs.Prelude.{◌≡◌, IfOk};
 ghost use Rattle.count.specs.Bundles.{papers_of};
@@ -9,7 +9,7 @@ use count::{BundleBook, Bundles, Due, dues_to};
 use paper::Columns;
 use std::alloc::{AllocError, Global};
 
-/// Whether a lot has to be drawn.
+/// Returns whether a lot must be drawn.
 fn is_lot(due: &Due) -> bool
     ensures { result ≡ is_lot due.now }
 {
@@ -19,7 +19,7 @@ fn is_lot(due: &Due) -> bool
     }
 }
 
-/// Whether a lot is drawn for a stage, where this is due before the first stages.
+/// Returns whether a lot is drawn for a stage, given what is due before the first stages.
 fn is_drawn_by(dues: &[Due], stage: u8) -> bool
     ensures { result ≡ is_drawn_by dues.now stage }
 {
@@ -29,7 +29,7 @@ fn is_drawn_by(dues: &[Due], stage: u8) -> bool
     }
 }
 
-/// The stage of the first of some lots that isn't drawn.
+/// Returns the stage of the first of some lots that isn't drawn.
 fn undrawn_by(dues: &[Due], lots: &[(u8, u8)]) -> Option<u8>
     ensures { result ≡ undrawn_by dues.now lots.now }
 {
@@ -41,7 +41,7 @@ fn undrawn_by(dues: &[Due], lots: &[(u8, u8)]) -> Option<u8>
     None
 }
 
-/// What is due before each of the first 256 stages of a count, which is finished then.
+/// Returns what is due before each of the first 256 stages of a count, which is finished by then.
 fn dues_of(
     alloc: Global,
     numbers: Columns,
@@ -56,7 +56,7 @@ fn dues_of(
     dues_to(alloc, &mut book, lots, 255)
 }
 
-/// The stage of the first recorded lot that isn't drawn. Where none is recorded nothing is counted.
+/// Returns the stage of the first recorded lot that isn't drawn. Counts nothing if no lot is recorded.
 pub(crate) fn undrawn(
     alloc: Global,
     numbers: Columns,

@@ -1,4 +1,4 @@
-//! What is printed on the outputs, and the status that the program ends with.
+//! The program's output, and its exit status.
 
 ghost use Rattle.std.specs.Prelude.{◌≡◌, ◌⊎◌, ◌-◌, ◌^◌, ◌<◌};
 ghost use Rattle.checker.specs.Outputs.{BrokeOff, Tells, Took, broken_line, output_of, outputs_of};
@@ -18,7 +18,7 @@ fn print_broken<E: Sink>(err: &mut E) -> u8
     FAILED
 }
 
-/// Prints a text on the output that its status asks for, and gives the status: 3 in its place where an output fails.
+/// Prints a text on the output for its status. Returns the status, or 3 if an output fails.
 fn print_text<O: Sink, E: Sink>(text: &str, status: u8, out: &mut O, err: &mut E) -> u8
     requires out { O.failed out.old < 2 ^ 64 - 1 }
     requires err { E.failed err.old < 2 ^ 64 - 1 }
@@ -36,7 +36,7 @@ fn print_text<O: Sink, E: Sink>(text: &str, status: u8, out: &mut O, err: &mut E
     }
 }
 
-/// Prints an outcome, and gives its status. Where memory is wanting, it prints that in its place.
+/// Prints an outcome, and returns its status. If an allocation fails, it prints that instead.
 pub(crate) fn print_report<O: Sink, E: Sink>(
     alloc: Global,
     report: &Report,

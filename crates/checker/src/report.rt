@@ -1,4 +1,4 @@
-//! What comes of the program's words, as a text and a status.
+//! The outcome of the program's arguments, as a text and a status.
 
 ghost use Rattle.std.specs.Prelude.{◌≡◌, IfOk, string_bytes};
 ghost use Rattle.checker.specs.Reports.{checked_status, checked_text, differing, hindered_status, hindered_text, lot_text, should_be_text, status_of, text_of, tied_text, too_long_text};
@@ -12,42 +12,42 @@ use itoa::Buffer;
 use paper::Columns;
 use std::alloc::{AllocError, Global};
 
-/// The text is the one that the ballots give, or help is asked for.
+/// The text is the one that results from the ballots, or help is requested.
 const WELL: u8 = 0;
 
 /// The text differs.
 const DIFFERS: u8 = 1;
 
-/// The words or the ballots aren't understood, or the count doesn't come to its end.
+/// The arguments or the ballots aren't understood, or the count can't be finished.
 const NOT_CHECKED: u8 = 2;
 
-/// A file can't be read, memory is wanting, or an output fails.
+/// A file can't be read, an allocation fails, or an output fails.
 pub(crate) const FAILED: u8 = 3;
 
-/// What comes of the program's words.
+/// The outcome of the program's arguments.
 #[derive(Drop)]
 pub enum Report {
-    /// Help is asked for.
+    /// Help is requested.
     Help,
-    /// Nothing is asked that is understood.
+    /// The arguments aren't understood.
     NotAsked,
-    /// A word isn't UTF-8.
+    /// An argument isn't UTF-8.
     NotUtf8,
     /// The file at this path can't be read, for this reason.
     NotRead {
         path: String,
         why: String,
     },
-    /// This came of the check, and this can't be seen of the text.
+    /// The check had this outcome, and the text has this invisible difference.
     Checked {
         checked: Checked,
         hint: Option<Hint>,
     },
-    /// This hindered it.
+    /// The check wasn't possible because of this problem.
     Hindered(Problem),
 }
 
-/// The line at which the text should have ended.
+/// Returns the message about the line at which the text should have ended.
 fn too_long_text(alloc: Global, line: u64, hint: Option<Hint>) -> Result<String, AllocError>
     ensures { IfOk result (λ text. string_bytes text ≡ too_long_text line hint) }
 {
@@ -55,7 +55,7 @@ fn too_long_text(alloc: Global, line: u64, hint: Option<Hint>) -> Result<String,
     format!(in alloc; "line {line} differs: the text should end before it\n{hint}")
 }
 
-/// The first line that differs, and what it should be.
+/// Returns the message about the first line that differs, and what it should be.
 fn should_be_text(
     alloc: Global,
     line: u64,
@@ -69,7 +69,7 @@ fn should_be_text(
     format!(in alloc; "line {line} differs, and should be:\n{should_be}{hint}")
 }
 
-/// Where a text differs, and what it should be there.
+/// Returns the message about the first difference of a text.
 fn differing(
     alloc: Global,
     line: u64,
@@ -84,7 +84,7 @@ fn differing(
     should_be_text(alloc, line, should_be, hint)
 }
 
-/// What came of a check, in words.
+/// Returns the outcome of a check, in words.
 fn checked_text(alloc: Global, checked: &Checked, hint: Option<Hint>) -> Result<String, AllocError>
     ensures { IfOk result (λ text. string_bytes text ≡ checked_text checked.now hint) }
 {
@@ -101,7 +101,7 @@ fn checked_text(alloc: Global, checked: &Checked, hint: Option<Hint>) -> Result<
     }
 }
 
-/// The numbers of the tied, each behind a space.
+/// Returns the numbers of the tied candidates, each after a space.
 fn tied_text(alloc: Global, among: &Columns) -> Result<String, AllocError>
     ensures { IfOk result (λ text. string_bytes text ≡ tied_text among.now) }
 {
@@ -113,7 +113,7 @@ fn tied_text(alloc: Global, among: &Columns) -> Result<String, AllocError>
     Ok(text)
 }
 
-/// A lot that is wanting, and the tied.
+/// Returns the message about a missing lot, with the tied candidates.
 fn lot_text(alloc: Global, problem: &Problem, among: &Columns) -> Result<String, AllocError>
     ensures { IfOk result (λ text. string_bytes text ≡ lot_text problem.now among.now) }
 {
@@ -121,7 +121,7 @@ fn lot_text(alloc: Global, problem: &Problem, among: &Columns) -> Result<String,
     format!(in alloc; "error: {problem}, where these are tied:{tied}\n")
 }
 
-/// What hindered a check, in words.
+/// Returns the problem that prevented a check, in words.
 fn hindered_text(alloc: Global, problem: &Problem) -> Result<String, AllocError>
     ensures { IfOk result (λ text. string_bytes text ≡ hindered_text problem.now) }
 {
@@ -131,7 +131,7 @@ fn hindered_text(alloc: Global, problem: &Problem) -> Result<String, AllocError>
     }
 }
 
-/// An outcome in words.
+/// Returns an outcome in words; `AllocError` if an allocation fails.
 pub(crate) fn text_of(alloc: Global, report: &Report) -> Result<String, AllocError>
     ensures { IfOk result (λ text. string_bytes text ≡ text_of report.now) }
 {
@@ -151,7 +151,7 @@ pub(crate) fn text_of(alloc: Global, report: &Report) -> Result<String, AllocErr
     }
 }
 
-/// The status of what came of a check.
+/// Returns the status for the outcome of a check.
 fn checked_status(checked: &Checked) -> u8
     ensures { result ≡ checked_status checked.now }
 {
@@ -161,7 +161,7 @@ fn checked_status(checked: &Checked) -> u8
     }
 }
 
-/// The status of what hindered it.
+/// Returns the status for a problem that prevented a check.
 fn hindered_status(problem: &Problem) -> u8
     ensures { result ≡ hindered_status problem.now }
 {
@@ -171,7 +171,7 @@ fn hindered_status(problem: &Problem) -> u8
     }
 }
 
-/// The status of an outcome.
+/// Returns the status of an outcome.
 pub(crate) fn status_of(report: &Report) -> u8
     ensures { result ≡ status_of report.now }
 {

@@ -1,11 +1,11 @@
-//! Texts from anyone, as a terminal is shown them.
+//! Texts from untrusted sources, made safe for a terminal.
 
 ghost use Rattle.std.specs.Prelude.{◌≡◌, IfOk, OnOk, ◌++◌, string_bytes};
 ghost use Rattle.checker.specs.Reports.{shown, shown_character, steers};
 
 use std::alloc::{AllocError, Global};
 
-/// Whether a character steers a terminal, or the direction in which text is written.
+/// Returns whether a character controls a terminal, or the writing direction.
 fn steers(character: char) -> bool
     ensures { result ≡ steers character }
 {
@@ -16,7 +16,7 @@ fn steers(character: char) -> bool
     )
 }
 
-/// A text, and behind it a character as a terminal is shown it.
+/// Appends a character to a text, made safe for a terminal.
 fn show(character: char, text: &mut String) -> Result<(), AllocError>
     ensures { OnOk result (string_bytes text.new ≡ string_bytes text.old ++ shown_character character) }
 {
@@ -27,7 +27,7 @@ fn show(character: char, text: &mut String) -> Result<(), AllocError>
     }
 }
 
-/// A text as it is printed on a terminal: names may come from anyone, so a question mark stands for what could steer it.
+/// Returns a text made safe for a terminal: names may be from untrusted sources, so a question mark replaces each control character.
 pub(crate) fn shown(alloc: Global, text: &str) -> Result<String, AllocError>
     ensures { IfOk result (λ shown_text. string_bytes shown_text ≡ shown text.now) }
 {

@@ -1,4 +1,4 @@
-//! What a file of ballots has said so far.
+//! The content of a file of ballots so far.
 
 ghost use Rattle.std.specs.Prelude.{◌≤◌, length};
 ghost use Rattle.paper.specs.Columns.{max_candidates};
@@ -7,10 +7,10 @@ ghost use Rattle.votes.specs.Units.{max_seats};
 use count::Bundles;
 use paper::Columns;
 
-/// The numbers of candidates and seats, who is withdrawn, and the papers.
+/// The numbers of candidates and seats, the withdrawn candidates, and the papers.
 #[derive(Drop)]
 pub(crate) struct PaperTotals {
-    /// The highest number of a candidate.
+    /// The highest candidate number.
     pub(crate) highest: u8,
     pub(crate) seats: u8,
     pub(crate) withdrawn: Columns,
@@ -28,33 +28,33 @@ pub(crate) struct CandidateNames {
     ghost few: { length names.items ≤ max_candidates },
 }
 
-/// What our own comments say.
+/// The content of our own comments.
 #[derive(Drop)]
 pub(crate) struct Comments {
     /// The number of the ward.
     pub(crate) ward: Option<u8>,
-    /// The rejected papers, by code 1 to 5.
+    /// The numbers of rejected papers, by code 1 to 5.
     pub(crate) rejected: Option<[u32; 5]>,
-    /// Stages, counted from 1, each with the candidate whom its lot named.
+    /// Stages, counted from 1, each with the candidate drawn by its lot.
     pub(crate) lots: Vec<(u8, u8)>,
 }
 
-/// Where the next line stands.
+/// The position of the next line.
 #[derive(Clone, Copy)]
 pub(crate) enum NextLine {
     /// At the numbers of candidates and seats.
     Size,
-    /// Where withdrawn candidates may stand.
+    /// Where withdrawn candidates may be listed.
     Withdrawn,
     /// Among the papers.
     PaperTotals,
     /// Among the names.
     CandidateNames,
-    /// Behind the name of the ward.
+    /// After the name of the ward.
     End,
 }
 
-/// What a file has said so far, and where its next line stands.
+/// The content of a file so far, and the position of its next line.
 #[derive(Drop)]
 pub(crate) struct Reader {
     pub(crate) place: NextLine,

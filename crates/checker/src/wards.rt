@@ -1,4 +1,4 @@
-//! The ward that a file describes.
+//! The ward described by a file.
 
 ghost use Rattle.std.specs.Prelude.{◌≡◌, ◌≤◌, length, map, string_bytes, IfOk};
 ghost use Rattle.paper.specs.Columns.{IsColumnSet, max_candidates};
@@ -11,7 +11,7 @@ use paper::Columns;
 use sheet::{Poll, Ward};
 use std::alloc::{AllocError, Global};
 
-/// The candidates of some names, whose numbers go on from 1; numbers at which nobody stands are passed over.
+/// Returns the candidates with some names, numbered consecutively from 1; withdrawn numbers are skipped.
 pub(crate) fn candidates_of(
     alloc: Global,
     withdrawn: &Columns,
@@ -32,7 +32,7 @@ pub(crate) fn candidates_of(
     Ok(candidates)
 }
 
-/// The numbers of a ward's candidates.
+/// Returns the numbers of a ward's candidates.
 pub(crate) fn numbers_of(ward: &Ward) -> Columns
     requires { CanBePrinted ward.now }
     ensures { result ≡ numbers_of (shown ward.now) }
@@ -44,7 +44,7 @@ pub(crate) fn numbers_of(ward: &Ward) -> Columns
     columns
 }
 
-/// The poll of a ward with so many candidates and seats.
+/// Returns the poll of a ward, given its numbers of candidates and seats.
 pub(crate) fn poll_by(
     rejected: Option<[u32; 5]>,
     bundles: &Bundles,

@@ -1,4 +1,4 @@
--- A count that was kept is one on the papers of its bundles.
+-- A stored count is a count of the papers of its bundles.
 use Rattle.std.proofs.Common.{◌≡◌, ℕ, ◌+◌, ◌*◌, ◌≤◌, List, [], ◌∷◌, length, map, reverse, Some, refl, sym, ap, ◌∙◌, arith, subst}
 use Rattle.std.specs.List.{AllByRecursion}
 use Rattle.std.specs.List.Sorted.{IsPermutation}
@@ -56,7 +56,7 @@ for-on contest candidates seats bundles fair candidates_are seats_are are =
     ∙ ap (λ s. contest_for contest.candidates s (papers_of bundles)) seats_are
     ∙ ap (λ q. let it : Contest = record { candidates = contest.candidates; seats = contest.seats; quota = q; papers = papers_of bundles } in it) quota_same
 
--- what is seen of the fields of a count that was kept
+-- the stored data as fields
 abbrev pub kept_of : Terms → List Bundle → List Placed → List Stage → CountKept
 kept_of terms bundles places stages = record { candidates = terms.candidates; seats = terms.seats; bundles = bundles; places = places; stages = stages }
 
@@ -68,7 +68,7 @@ kept-terms contest history terms bundles places stages range kept =
     let same = for-on contest terms.candidates terms.seats bundles kept.fair kept.candidates_are kept.seats_are kept.bundles_are in
     range.quota_is (subst IsContest (sym same) (fair-on contest bundles kept.fair kept.bundles_are)) ∙ same
 
--- what is told by the terms and stages of a count that was kept, whatever the papers, is told of its contest
+-- what the terms and stages of a stored count determine, for any papers, is the same for its contest
 pub kept-tells : {X : Type 0} (tell : Contest → History → X) (x : X) (terms : Terms) (bundles : List Bundle) (places : List Placed) (stages lent : List Stage)
     (seen : CountKept) (contest : Contest) (history : History) →
     kept_of terms bundles places stages ≡ seen → lent ≡ stages → IsInRange terms bundles places stages → ((papers : List (List ℕ)) → x ≡ tell (contest_of terms papers) (reverse lent))
@@ -93,7 +93,7 @@ right-on contest history bundles are right =
     subst (λ (bs : List Bundle). IsPermutation (papers_of bs) contest.papers) (sym are) (IsPermutation-sym contest.papers (papers_of (bundled contest.papers)) (bundled-permutation contest.papers)) in
     record { lots = right.lots; right = right_reordered (reordered contest (papers_of bundles)) right.lots contest.papers history order right.right }
 
--- a count that was kept is a book on the papers of its bundles
+-- a stored count is a book on the papers of its bundles
 pub kept-bundled : (contest : Contest) (history : History) (kept : CountKept) → AreBundles kept.bundles → IsKeptOf contest history kept →
     IsBundled (reordered contest (papers_of kept.bundles)) history kept.bundles kept.places
 kept-bundled contest history kept bundles is =
@@ -128,12 +128,12 @@ kept-lost contest history kept bundles is =
     let same = ap (λ (l : List Stage). newest_lost (reverse l)) is.stages_are ∙ ap newest_lost (reverse-reverse history) in
     omega (arith, within, same)
 
--- places with no one are sound
+-- places without a holder are sound
 pub sound-nowhere : (bundles : List Bundle) → AllByRecursion IsSound (map (λ (b : Bundle). nowhere) bundles)
 sound-nowhere [] = tt
 sound-nowhere (b ∷ bs) = ((omega arith, omega arith), sound-nowhere bs)
 
--- terms that were made for candidates and seats are in range
+-- terms made for candidates and seats are in range
 pub own-terms : (candidates : List ℕ) (seats : ℕ) (terms : Terms) (bundles : List Bundle) → terms.candidates ≡ candidates → terms.seats ≡ seats →
     (IsContest (contest_for candidates seats (papers_of bundles)) → contest_on terms bundles ≡ contest_for candidates seats (papers_of bundles)) →
     IsContest (contest_for terms.candidates terms.seats (papers_of bundles)) → contest_on terms bundles ≡ contest_for terms.candidates terms.seats (papers_of bundles)
@@ -142,7 +142,7 @@ own-terms candidates seats terms bundles candidates_are seats_are told fair =
     ap (λ cs. contest_for cs terms.seats (papers_of bundles)) candidates_are ∙ ap (λ s. contest_for candidates s (papers_of bundles)) seats_are in
     told (subst IsContest same fair) ∙ sym same
 
--- a count before its first stage is one that was kept
+-- a count before its first stage is a stored count
 pub kept-first : (contest : Contest) (kept : CountKept) → IsContest contest → kept.candidates ≡ contest.candidates → kept.seats ≡ contest.seats → kept.bundles ≡ bundled contest.papers →
     kept.places ≡ map (λ (b : Bundle). nowhere) kept.bundles → kept.stages ≡ [] → IsKeptOf contest [] kept
 kept-first contest kept fair candidates_are seats_are bundles_are places_are stages_are =
@@ -156,7 +156,7 @@ kept-first contest kept fair candidates_are seats_are bundles_are places_are sta
       stages_are = stages_are;
     }
 
--- what an action that comes next brings a count that was kept to is what comes next in its contest
+-- the outcome of the next action on a stored count is what comes next in its contest
 pub kept-next : (contest : Contest) (history : History) (lots : List (ℕ × ℕ)) (terms : Terms) (bundles : List Bundle) (places new_places : List Placed)
     (stages new_stages : List Stage) (action : Action) →
     IsInRange terms bundles places stages → IsKeptOf contest history (kept_of terms bundles places stages) →

@@ -1,4 +1,4 @@
--- A stage that is recorded.
+-- Recording a stage.
 use Rattle.std.proofs.Common.{◌≡◌, ℕ, ◌+◌, not, nat_eq, List, [], ◌∷◌, ◌++◌, length, set, map, reverse, ap, ◌∙◌}
 use Rattle.std.specs.List.{list_any, filter}
 use Rattle.std.proofs.Math.Seq.{set-append_seam}
@@ -18,7 +18,7 @@ last_set : (old pushed : List Stage) (bare full : Stage) → pushed ≡ old ++ b
 last_set old pushed bare full is =
     reverse-newest (set pushed (length old) full) old full (ap (λ (l : List Stage). set l (length old) full) is ∙ set-append_seam old bare [] full)
 
--- a bare stage is put behind the others, and then the newly elected are filled in
+-- a bare stage is appended, and then its newly elected are filled in
 pub added : (terms : Terms) (old pushed : List Stage) (bare : Stage) (newly : List ℕ) → pushed ≡ old ++ bare ∷ [] →
     newly ≡ filter (λ c. not (list_any (nat_eq c) (elected_after (contest_of terms []) (reverse old)))) (elected_after (contest_of terms []) (reverse pushed)) →
     IsAdded terms (reverse old) bare (reverse (set pushed (length old) (with_newly bare newly)))
@@ -33,7 +33,7 @@ added terms old pushed bare newly is elected =
           ∙ ap (λ (after : History). filter (λ c. not (is_elected K (reverse old) c)) (elected_after K after)) (reverse-newest pushed old bare is);
     }
 
--- what an action made is recorded
+-- the result of an action is recorded
 pub recorded : (terms : Terms) (old new : History) (action : Action) (moved : List Holding) (bare : Stage) → IsAdded terms old bare new →
     bare.action ≡ action → bare.votes ≡ map (votes_with terms.quota old action moved) numbers →
     bare.non_transferable ≡ newest_non_transferable old + worth_to 0 moved → bare.lost ≡ lost_with terms.quota old action moved → Records terms old action moved new

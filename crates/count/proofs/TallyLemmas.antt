@@ -1,4 +1,4 @@
--- What a book records is what the law adds up over all papers.
+-- What a book records is what the law sums over all papers.
 use Rattle.std.proofs.Common.{◌≡◌, ℕ, suc, zero, ◌++◌, ◌+◌, ◌*◌, ◌/◌, ◌≤◌, ◌||◌, ◌⊎◌, inl, inr, Bool, true, false, cond, eqb, List, [], ◌∷◌, length, map, Option, refl, sym, ap, ◌∙◌, arith, subst}
 use Rattle.std.specs.List.{sum_by, range_with_len}
 use Rattle.std.proofs.lemmas.Bool.{eqb-true}
@@ -29,7 +29,7 @@ use Rattle.count.proofs.Law.QuotaLemmas.{values-conserved, values-conserved-next
 use Rattle.count.proofs.ChoiceLemmas.{eqb_swap, or_false}
 use Rattle.count.proofs.Law.CandidateSums.{one-within}
 
--- whoever holds a paper, an action that passes on the papers of h leaves h none of those that were there
+-- for any holder of a paper, an action that passes on the papers of h leaves h none of the earlier ones
 kept_value : (action : Action) (k h v : ℕ) (b t : Bool) → passes_on action h ≡ b → eqb k h ≡ t → let zero_ : ℕ = 0 in cond (passes_on action k) zero_ (cond t v 0) ≡ cond b zero_ (cond t v 0)
 kept_value action k h v b true e same = ap (λ c. cond c 0 v) (ap (passes_on action) (eqb-true k h same) ∙ e)
 kept_value action k h v b false e other = nothing (passes_on action k) b
@@ -52,11 +52,11 @@ nothing_with : (h : ℕ) (b : Bool) → let zero_ : ℕ = 0 in cond b zero_ zero
 nothing_with h true = refl
 nothing_with h false = refl
 
--- before the first stage nobody holds anything
+-- before the first stage no candidate holds anything
 held-none : (contest : Contest) (h : ℕ) → held contest [] h ≡ 0
 held-none contest h = sum_by-none _ contest.papers (λ p. nothing_with h (eqb 0 h))
 
--- what the holdings that an action leaves are worth to h
+-- the worth to h of the holdings that an action leaves
 kept-worth : (contest : Contest) (before : History) (action : Action) (h : ℕ) (holdings : List Holding) → AreHeld contest before holdings →
     total (kept_by (λ k rest v. cond (eqb k h) v 0) action) holdings ≡ cond (passes_on action h) 0 (held contest before h)
 kept-worth contest [] action h holdings none =
@@ -66,7 +66,7 @@ kept-worth contest (s ∷ before) action h holdings under =
     ∙ sum_by-same _ _ contest.papers (λ p. let at = place contest (s ∷ before) p in kept_value action at.holder h at.value (passes_on action h) (eqb at.holder h) refl refl)
     ∙ none_or_all (passes_on action h) (λ p. value_with h (place contest (s ∷ before) p)) contest.papers
 
--- After an action h holds what the action brought him, and what he held unless it was passed on.
+-- After an action h holds what the action transferred to h, and what h held before unless it was passed on.
 held-after : (contest : Contest) (before : History) (s : Stage) (h : ℕ) (holdings new : List Holding) → AreHeld contest before holdings → IsMovedBy contest before s.action holdings new →
     held contest (s ∷ before) h ≡ worth_to h new + cond (passes_on s.action h) 0 (held contest before h)
 held-after contest before s h holdings new under is_moved =
@@ -91,7 +91,7 @@ votes-are : (contest : Contest) (handed : History → Stage → Option ℕ) (bef
 votes-are contest handed before s c holdings new right column under is_moved =
     votes_choice contest handed before s c new _ refl right column (held-after contest before s c holdings new under is_moved)
 
--- nobody is numbered 0
+-- no candidate has the number 0
 passes_none : (contest : Contest) (stages : History) (action : Action) → IsContest contest → IsSurplus contest stages action ⊎ IsExclusion contest stages action → passes_on action 0 ≡ false
 passes_none contest stages action fair (inl on) = ap (λ a. passes_on a 0) on.is ∙ not_zero on.c (eqb on.c 0) refl (column-in on.c contest.candidates fair.candidate_set on.is_candidate).0
   where
@@ -130,7 +130,7 @@ value_choice : (b : Bool) (h w : ℕ) (at : Place) → let m : Place = record { 
 value_choice true h w at = omega arith
 value_choice false h w at = omega arith
 
--- what a surplus gives is worth what it moved
+-- what a surplus transfers is worth what it moved
 surplus-gives : (contest : Contest) (before : History) (s : Stage) (c : ℕ) (holdings new : List Holding) → s.action ≡ Surplus c → HoldPapers contest before holdings →
     IsMovedBy contest before s.action holdings new →
     worth new ≡ value_passed_on contest s before c
@@ -148,7 +148,7 @@ surplus-gives contest before s c holdings new is hold is_moved =
     let all : all_values contest (s ∷ before) ≡ worth new + total (kept_by (λ k rest v. v) s.action) holdings = is_moved (λ k rest v. v) s refl in
     omega (arith, kept, parts, all)
 
--- what is lost after an action
+-- the loss after an action
 lost_at_action : (contest : Contest) (handed : History → Stage → Option ℕ) (before : History) (s : Stage) (holdings new : List Holding) (action : Action) → s.action ≡ action →
     IsRightBy contest handed before → IsDue contest before action →
     AreHeld contest before holdings → IsMovedBy contest before s.action holdings new → lost_with contest.quota before action new ≡ lost_after contest before + lost_by contest s before action
@@ -168,11 +168,11 @@ map-range f g (suc n) few h =
     ∙ ap (λ l. l ++ f (n + 1) ∷ []) (map-range f g n (omega (arith, few)) h) ∙ ap (λ x. map g (range_with_len 1 n) ++ x ∷ []) one
     ∙ sym (map-range_with_len_more g 1 n (n + 1) (omega arith)) ∙ sym (ap (λ k. map g (range_with_len 1 k)) e)
 
--- functions that agree on the numbers of candidates make the same list of them
+-- functions that agree on candidate numbers make the same list of them
 pub map-numbers : (f g : ℕ → ℕ) → ((c : ℕ) → IsColumn c → f c ≡ g c) → map f numbers ≡ map g numbers
 map-numbers f g h = map-range f g 30 (omega arith) h
 
--- what a stage records after an action is what the definitions tell
+-- what a stage records after an action is what the definitions state
 pub records-adds : (terms : Terms) (papers : List (List ℕ)) (before after : History) (action : Action) (holdings new : List Holding) → IsBook (contest_of terms papers) before holdings →
     IsDue (contest_of terms papers) before action → IsMovedBy (contest_of terms papers) before action holdings new → Records terms before action new after
     → Adds (contest_of terms papers) before action after
@@ -210,7 +210,7 @@ votes_small_choice : (b : Bool) (q v n : ℕ) → q ≤ n → v ≤ n → cond b
 votes_small_choice true q v n h k = h
 votes_small_choice false q v n h k = k
 
--- no figure of a right history is above what all papers give
+-- no figure of a right history is above one vote for each of the maximum number of papers
 pub newest_small : (contest : Contest) (handed : History → Stage → Option ℕ) (before : History) (new : List Holding) → IsContest contest → IsRightBy contest handed before → worth new ≤ max_units →
     AreSmall before new
 newest_small contest handed [] new fair right small = record { votes_small = λ c some few. omega arith; non_transferable_small = omega arith; lost_small = omega arith; moved_small = small }
@@ -244,7 +244,7 @@ pub surplus-column : (contest : Contest) (stages : History) (holdings : List Hol
     action ≡ Surplus c → IsColumn c
 surplus-column contest stages holdings action book due c is = (surplus-lawful contest stages c book.fair book.right (subst (IsDue contest stages) is due)).column
 
--- after the action the papers lie in what it moved and what it left
+-- after the action the papers are in what it moved and in what it left
 pub held-next : (contest : Contest) (before after : History) (action : Action) (holdings new joined : List Holding) → IsMovedBy contest before action holdings new → AreRankings contest.papers →
     Adds contest before action after → ((f : ℕ → List ℕ → ℕ → ℕ) → total f joined ≡ total f new + total (kept_by f action) holdings) → AreHeld contest after joined
 held-next contest before after action holdings new joined is_moved rankings adds all =

@@ -1,4 +1,4 @@
--- What the papers of bundles are worth is what the law adds up over all papers.
+-- The worth of the papers of bundles is what the law sums over all papers.
 use Rattle.std.proofs.Common.{◌≡◌, ℕ, suc, zero, ◌+◌, ◌*◌, ◌≤◌, ◌||◌, Bool, true, false, cond, eqb, List, [], ◌∷◌, length, map, replicate, slice_index, Option, refl, sym, ap, ◌∙◌, arith}
 use Rattle.std.proofs.Common.{length-append}
 use Rattle.std.specs.List.{AllByRecursion, sum_by}
@@ -32,7 +32,7 @@ use Rattle.count.proofs.Law.ValueLemmas.{all_values, held, surplus-conserves}
 by_itself : History → Stage → Option ℕ
 by_itself before s = candidate_of s.action
 
--- what is added up over the papers of bundles is one paper's, as often as its bundle has papers
+-- a sum over the papers of bundles is that over the bundles, each times its number of papers
 pub sum-papers : (f : List ℕ → ℕ) (b : Bundle) (bs : List Bundle) → sum_by f (papers_of (b ∷ bs)) ≡ b.1 * f b.0 + sum_by f (papers_of bs)
 sum-papers f b bs = sum_by-append f (replicate b.1 b.0) (papers_of bs) ∙ ap (λ n. n + sum_by f (papers_of bs)) (sum_by-replicate f b.1 b.0)
 
@@ -57,7 +57,7 @@ pub worth-held : (h : ℕ) (contest : Contest) (stages : History) (bundles : Lis
     worth_placed (value_to h) places bundles ≡ held contest stages h
 worth-held h contest stages bundles places papers are = worth-places (value_to h) contest stages bundles places papers are
 
--- where all places are sound, papers are worth no more than a vote each, together and to each holder
+-- if all places are sound, papers are worth at most one vote each, in total and to each holder
 worth-sound : (f : Placed → ℕ) (places : List Placed) (bundles : List Bundle) → ((at : Placed) → IsSound at → f at ≤ one_vote) → AllByRecursion IsSound places →
     worth_placed f places bundles ≤ one_vote * length (papers_of bundles)
 worth-sound f [] bundles small sound = omega arith
@@ -85,7 +85,7 @@ holder-few places bundles sound few h = omega (arith, worth-sound (value_to h) p
 pub lost-few : (contest : Contest) (stages : History) → IsContest contest → IsRightByItself contest stages → newest_lost stages ≤ max_units
 lost-few contest stages fair right = (newest_small contest (λ h t. candidate_of t.action) stages [] fair right (omega arith)).lost_small
 
--- the sums of the holders give the votes of all numbers,
+-- the sums of the holders are the votes of all numbers,
 pub votes-figured : (contest : Contest) (before : History) (action : Action) (bundles : List Bundle) (moved : List Placed) (sums : List ℕ) → contest.papers ≡ papers_of bundles →
     moved ≡ places_after contest (begun action [] ∷ before) bundles →
     ((h : ℕ) → h ≤ max_candidates → slice_index sums h ≡ worth_placed (value_to h) moved bundles) →
@@ -101,7 +101,7 @@ pub none-figured : (contest : Contest) (before : History) (action : Action) (bun
     slice_index sums 0 ≡ non_transferable_after contest (begun action [] ∷ before)
 none-figured contest before action bundles moved sums papers are each = each 0 (omega arith) ∙ worth-held 0 contest (begun action [] ∷ before) bundles moved papers are
 
--- what all papers were worth and are worth gives what is lost
+-- the old and the new worth of all papers determine the loss
 lost_at : (contest : Contest) (before : History) (action : Action) → IsContest contest → IsRightByItself contest before → IsDue contest before action →
     lost_from contest.quota before action (all_values contest before) (all_values contest (begun action [] ∷ before)) ≡ lost_after contest (begun action [] ∷ before)
 lost_at contest before First fair right due = omega (arith, newest_lost-is contest (λ h t. candidate_of t.action) before right)
@@ -125,16 +125,16 @@ lost-figured contest before action bundles places moved due are =
     ∙ ap (lost_from contest.quota before action (all_values contest before)) (worth-all contest (begun action [] ∷ before) bundles moved due.book.papers_are are)
     ∙ lost_at contest before action due.book.fair due.book.right due.due
 
--- where no bundle is left, nothing is worth anything
+-- if no bundle remains, the worth is zero
 pub worth-none : (f : Placed → ℕ) (places : List Placed) → worth_placed f places [] ≡ 0
 worth-none f [] = refl
 worth-none f (at ∷ places) = refl
 
--- once no bundle is left, nothing is
+-- when no bundle remains, the rest is zero
 pub worth-end : (f : Placed → ℕ) (rest : List Placed) (left : List Bundle) → left ≡ [] → worth_placed f rest left ≡ 0
 worth-end f rest left none = ap (worth_placed f rest) none ∙ worth-none f rest
 
--- at first every sum is nothing
+-- at first every sum is zero
 pub no-sums : (n h : ℕ) → slice_index (replicate n 0) h ≡ 0
 no-sums zero h = refl
 no-sums (suc n) zero = refl

@@ -1,4 +1,4 @@
-//! Adding the stage of an action that is due.
+//! Adding the stage of the action due.
 
 ghost use Rattle.std.specs.Prelude.{◌≡◌, ℕ, reverse, OnOk, OnErr};
 ghost use Rattle.count.specs.Advance.{Adds, IsDue};
@@ -13,8 +13,8 @@ use crate::terms::Terms;
 use paper::Prefs;
 use std::alloc::{AllocError, Global};
 
-/// Moves the papers as an action that is due says, and adds its stage. All growth comes before the
-/// first move, so that want of memory leaves holdings and stages as they were.
+/// Moves the papers as required by the action that is due, and adds its stage. `AllocError` if an allocation fails. All allocations
+/// precede the first move, so holdings and stages are then unchanged.
 pub fn act<'a>(
     alloc: Global,
     terms: &Terms,

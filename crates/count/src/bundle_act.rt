@@ -17,8 +17,8 @@ use crate::terms::Terms;
 use crate::weights::figured;
 use std::alloc::{AllocError, Global};
 
-/// The places of bundles and the stages, as an action leaves them; the old ones stay as they are. An action that isn't due leaves
-/// places and a stage too, which are those of no count.
+/// Returns the places of the bundles and the stages after an action; the old ones are unchanged. For an action that isn't due, the
+/// result belongs to no count. `AllocError` if an allocation fails.
 pub fn acted_on_bundles(
     alloc: Global,
     terms: &Terms,

@@ -1,4 +1,4 @@
-//! A count that goes on from where it was kept.
+//! A count that resumes from what was stored of it.
 
 ghost use Rattle.std.specs.Prelude.{◌≡◌, ◌+◌, ◌*◌, ◌<◌, ◌≤◌, ◌↔◌, [], reverse, length, IfOk, IfSome, IsSome, IsTrue};
 ghost use Rattle.std.specs.List.{AllByRecursion};
@@ -25,18 +25,18 @@ use std::alloc::{AllocError, Global};
 use std::marker::Model;
 use votes::ONE_VOTE;
 
-/// Where a count comes to by a stage more.
+/// The outcome of one more stage.
 #[derive(Drop)]
 pub struct NextStage {
-    /// Where the papers of each bundle lie after it, in the order of the bundles.
+    /// The place of each bundle after it, in the order of the bundles.
     pub places: Vec<Placed>,
-    /// All stages, the new one behind those before it.
+    /// All stages, the new one last.
     pub stages: Vec<Stage>,
 }
 
-/// A count as it was kept: its bundles, where they lie, and the stages so far, from which it goes on; no stage is counted anew.
-/// What was kept was read from somewhere, and where that fails it may be anything. So nothing is asked of it but its ranges,
-/// which are looked at. What the count then answers is right where it was kept of a count.
+/// A stored count, from which counting resumes: its bundles, their places, and the stages so far. No stage is counted again. What
+/// was read from storage may be anything if the storage is faulty, so only its ranges are required, and these are checked. The
+/// results are right if the stored data is that of a count.
 #[derive(Drop)]
 pub struct KeptCount {
     terms: Terms,
@@ -57,7 +57,7 @@ impl Model for KeptCount {
 }
 
 impl KeptCount {
-    /// A count before its first stage: its bundles lie with no one, at no value. An error is want of memory.
+    /// Returns a count before its first stage: its bundles have no holder and no value. `AllocError` if an allocation fails.
     pub fn begin(
         alloc: Global,
         candidates: Columns,
@@ -76,8 +76,8 @@ impl KeptCount {
         })
     }
 
-    /// A count that was kept, or none where it is out of the range of any count. Then it has more stages than a count can have, a
-    /// holder above `MAX_CANDIDATES`, a value above one vote, or more lost at the newest stage than all papers give. Takes no memory.
+    /// Returns a stored count; `None` if it is out of the range of any count. It then has more stages than a count can have, a holder
+    /// above `MAX_CANDIDATES`, a value above one vote, or a loss at the newest stage above one vote per paper. Allocates nothing.
     pub fn resume(
         candidates: Columns,
         seats: u8,
@@ -101,50 +101,50 @@ impl KeptCount {
         })
     }
 
-    /// The candidates.
+    /// Returns the candidates.
     pub fn candidates(&self) -> Columns
         ensures { result ≡ self.now.candidates }
     {
         self.terms.candidates
     }
 
-    /// The bundles.
+    /// Returns the bundles.
     pub fn bundles(&self) -> &Bundles
         ensures { result.now ≡ self.now.bundles }
     {
         &self.bundles
     }
 
-    /// Where the papers of each bundle lie, in the order of the bundles.
+    /// Returns the place of each bundle, in the order of the bundles.
     pub fn places(&self) -> &[Placed]
         ensures { result.now ≡ self.now.places }
     {
         &self.places
     }
 
-    /// The stages so far.
+    /// Returns the stages so far.
     pub fn stages(&self) -> &[Stage]
         ensures { result.now ≡ self.now.stages }
     {
         &self.stages
     }
 
-    /// What is due by the recorded lots: the action that comes next, or else the lot that is waited for, or nothing.
+    /// Returns what is due by the recorded lots: the next action, otherwise the lot that the count waits for, or nothing.
     pub fn due_by(&self, lots: &[(u8, u8)]) -> Due
         ensures { (contest : Contest) (history : History) → IsKeptOf contest history self.now → result ≡ due_by_lots contest lots.now history }
     {
         due_with(&self.terms, &self.stages, lots)
     }
 
-    /// The candidates who are elected.
+    /// Returns the elected candidates.
     pub fn elected(&self) -> Columns
         ensures { (contest : Contest) (history : History) → IsKeptOf contest history self.now → result ≡ elected_after contest history }
     {
         elected_with(&self.terms, &self.stages)
     }
 
-    /// What the count comes to by the stage that is due by the recorded lots. That stage is the only one that comes after those
-    /// so far. None just where no action is due. An error is want of memory.
+    /// Returns the outcome of the stage that is due by the recorded lots. That stage is the only one that can follow. `None` exactly
+    /// if no action is due. `AllocError` if an allocation fails.
     pub fn next_stage(
         &self,
         alloc: Global,
@@ -171,14 +171,14 @@ impl KeptCount {
     }
 }
 
-/// Whether a holder is a number that a candidate may have, or 0, and a value one vote at most.
+/// Returns whether the holder is a number that a candidate can have, or 0, and the value is at most one vote.
 fn is_sound(at: &Placed) -> bool
     ensures { IsTrue result ↔ IsSound at.now }
 {
     usize::from(at.holder) <= MAX_CANDIDATES && at.value.units() <= ONE_VOTE
 }
 
-/// Whether all places are sound.
+/// Returns whether all places are sound.
 fn are_sound(places: &[Placed]) -> bool
     ensures { IsTrue result ↔ AllByRecursion IsSound places.now }
 {
@@ -190,8 +190,8 @@ fn are_sound(places: &[Placed]) -> bool
     true
 }
 
-/// Whether what was kept is in the range of a count with these candidates and bundles. Its places are sound then, its stages are
-/// no more than there can be, and no more is lost than all papers give.
+/// Returns whether stored data is in the range of a count with these candidates and bundles: its places are sound, there are no
+/// more stages than possible, and no more is lost than one vote per paper.
 fn is_in_range(candidates: &Columns, bundles: &Bundles, places: &[Placed], stages: &[Stage]) -> bool
     ensures sound { IsTrue result → AllByRecursion IsSound places.now }
     ensures few { IsTrue result → length stages.now < 255 }

@@ -1,4 +1,4 @@
-//! Adding a stage to those before it.
+//! Adding a stage to the earlier ones.
 
 ghost use Rattle.std.specs.Prelude.{◌<◌, reverse, vec_len, vec_capacity};
 ghost use Rattle.count.specs.Inside.Keeping.{IsAdded};
@@ -7,7 +7,7 @@ use crate::elected::{elected, without};
 use crate::stages::Stage;
 use crate::terms::Terms;
 
-/// Puts a stage behind those before it, where there is room, and fills in who is newly elected.
+/// Appends a stage to the earlier ones, with its newly elected candidates filled in; there must be room.
 pub fn add_stage(terms: &Terms, stages: &mut Vec<Stage>, bare: Stage)
     requires { vec_len stages.old < vec_capacity stages.old }
     ensures { IsAdded terms.now (reverse stages.old.items) bare (reverse stages.new.items) }

@@ -15,10 +15,10 @@ use paper::{MAX_CANDIDATES, Prefs, Standing, available_from};
 use std::alloc::{AllocError, Global};
 use votes::{ONE_VOTE, Votes, transfer_value};
 
-/// The holders of papers: each number that a candidate may have, and 0 for no one.
+/// The number of holders: each number that a candidate can have, and 0 for no one.
 pub const HOLDERS: usize = MAX_CANDIDATES + 1;
 
-/// The first of some preferences, or 0.
+/// Returns the first of some preferences, or 0.
 pub fn first_preference(rest: &[u8]) -> u8
     ensures { result ≡ first_of rest.now }
 {
@@ -28,7 +28,7 @@ pub fn first_preference(rest: &[u8]) -> u8
     }
 }
 
-/// Empty holdings of no one and of each number.
+/// Returns empty holdings for no one and for each number.
 fn empty_holdings<'a>(alloc: Global) -> Result<Vec<Holding<'a>>, AllocError>
     ensures len { IfOk result (λ holdings. vec_len holdings ≡ holder_count) }
     ensures numbered { IfOk result (λ holdings. AreNumbered 0 holdings.items) }
@@ -60,7 +60,7 @@ fn start_parcel<'a>(
     Ok(())
 }
 
-/// Adds a paper to the last parcel if that has its value, else to a new one.
+/// Adds a paper to the last parcel if that has its value, otherwise to a new one.
 fn add_paper<'a>(
     alloc: Global,
     parcels: &mut Vec<Parcel<'a>>,
@@ -82,7 +82,7 @@ fn add_paper<'a>(
     Ok(())
 }
 
-/// Gives a paper to the holder of its first preference, or to no one.
+/// Credits a paper to the holder of its first preference, or to no one.
 fn give<'a>(
     alloc: Global,
     holdings: &mut Vec<Holding<'a>>,
@@ -126,7 +126,7 @@ fn pass_papers<'a>(
     Ok(())
 }
 
-/// The value that a paper takes on when it is passed on.
+/// Returns the value of a paper after it is passed on.
 pub fn value_by(rule: &TransferRule, value: Votes) -> Votes
     requires rule { IsTransferRule rule.now }
     requires small { value ≤ one_vote }
@@ -162,7 +162,7 @@ fn pass_parcels<'a>(
     Ok(())
 }
 
-/// The holdings that the papers of a candidate make when they are passed on.
+/// Returns the holdings of a candidate's papers after they are passed on.
 pub fn pass_on<'a>(
     alloc: Global,
     holdings: &[Holding<'a>],
@@ -183,7 +183,7 @@ pub fn pass_on<'a>(
     Ok(moved)
 }
 
-/// The holdings of the first preferences, each paper as one vote.
+/// Returns the holdings by first preference, each paper as one vote.
 #[tactic(auto, using(crate::proofs::FirstLemmas::first_facts))]
 pub fn first_holdings<'a>(
     alloc: Global,

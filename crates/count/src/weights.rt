@@ -1,4 +1,4 @@
-//! What the papers of bundles are worth, and what a stage records of them.
+//! The worth of the papers of bundles, and the stage recorded from it.
 
 ghost use Rattle.std.specs.Prelude.{◌≡◌, ℕ, ◌+◌, ◌*◌, ◌≤◌, [], ◌∷◌, map, reverse, length, slice_index};
 ghost use Rattle.std.specs.List.{AllByRecursion};
@@ -20,7 +20,7 @@ use crate::terms::Terms;
 use paper::{Columns, MAX_CANDIDATES};
 use votes::Votes;
 
-/// What all papers are worth, in units.
+/// Returns the worth of all papers, in units.
 fn worth(bundles: &Bundles, places: &[Placed]) -> u64
     requires { worth_placed value_of places.now bundles.now ≤ max_units }
     ensures { result ≡ worth_placed value_of places.now bundles.now }
@@ -36,7 +36,7 @@ fn worth(bundles: &Bundles, places: &[Placed]) -> u64
     sum
 }
 
-/// Adds what some papers of one place are worth to what their holder's are worth.
+/// Adds the worth of some papers at one place to their holder's sum.
 fn add_worth(sums: &mut [u64; HOLDERS], at: &Placed, papers: u32)
     requires holder { at.now.holder ≤ max_candidates }
     requires fits { slice_index sums.old at.now.holder + papers * at.now.value ≤ max_units }
@@ -46,7 +46,7 @@ fn add_worth(sums: &mut [u64; HOLDERS], at: &Placed, papers: u32)
     sums[usize::from(at.holder)] += u64::from(papers) * at.value.units();
 }
 
-/// What the papers of each holder are worth, in units: those that nobody holds, and those of each number.
+/// Returns the worth of each holder's papers, in units: of those held by no one, and of those of each number.
 fn sums(bundles: &Bundles, places: &[Placed]) -> [u64; HOLDERS]
     requires sound { AllByRecursion IsSound places.now }
     requires small { (h : ℕ) → worth_placed (value_to h) places.now bundles.now ≤ max_units }
@@ -64,7 +64,7 @@ fn sums(bundles: &Bundles, places: &[Placed]) -> [u64; HOLDERS]
     sums
 }
 
-/// The votes of a candidate by what each holder's papers are worth: just the quota once the surplus has gone.
+/// Returns the votes of a candidate from the worth of each holder's papers: exactly the quota once the surplus is transferred.
 fn votes_from(
     quota: Votes,
     stages: &[Stage],
@@ -81,7 +81,7 @@ fn votes_from(
     Votes::from_units(sums[usize::from(c)])
 }
 
-/// The votes of all numbers by what each holder's papers are worth.
+/// Returns the votes of all numbers from the worth of each holder's papers.
 fn all_votes_from(
     quota: Votes,
     stages: &[Stage],
@@ -97,7 +97,7 @@ fn all_votes_from(
     votes
 }
 
-/// What is lost by fractions after an action that brought bundles to new places: a surplus leaves the quota.
+/// Returns the loss by fractions after an action that brought bundles to new places; a surplus leaves the quota with its candidate.
 fn lost_from(
     quota: Votes,
     bundles: &Bundles,
@@ -121,8 +121,7 @@ fn lost_from(
     }
 }
 
-/// The stage of an action that brought bundles to new places, with its figures, and nobody newly elected
-/// yet.
+/// Returns the stage of an action that brought bundles to new places, with its figures, and without its newly elected candidates.
 pub fn figured(
     terms: &Terms,
     bundles: &Bundles,

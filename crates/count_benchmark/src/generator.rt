@@ -1,8 +1,8 @@
-//! A fixed generator of papers.
+//! A deterministic generator of papers.
 
 ghost use Rattle.std.specs.Prelude.{◌≤◌, ◌<◌};
 
-/// A generator by xorshift, which starts the same each time.
+/// An xorshift generator with a fixed seed.
 #[derive(Drop)]
 pub struct Generator {
     state: u32,
@@ -13,7 +13,7 @@ impl Generator {
         Generator { state: 2463534242 }
     }
 
-    /// A number below a bound.
+    /// Returns a number below a bound.
     pub fn below(&mut self, bound: u32) -> u32
         requires { 0 < bound }
         ensures { result < bound }
@@ -24,14 +24,14 @@ impl Generator {
         self.state % bound
     }
 
-    /// The numbers 1 to 10 in an order, and how many of them a paper lists.
+    /// Returns the numbers 1 to 10 in some order, and how many of them a paper lists.
     pub fn next_paper(&mut self) -> ([u8; 10], usize)
         ensures { result.1 ≤ 10 }
     {
         let mut order = [1u8, 2, 3, 4, 5, 6, 7, 8, 9, 10];
         for place in 0..10usize {
             let left = 10 - place as u32;
-            // the lower of two draws, so that lower numbers come earlier
+            // the lower of two draws, so that lower numbers tend to come earlier
             let drawn = self.below(left).min(self.below(left)) as usize;
             let chosen = order[place + drawn];
             order[place + drawn] = order[place];

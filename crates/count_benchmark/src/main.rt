@@ -1,13 +1,12 @@
-//! Counts a made-up ward of 10 candidates and 4 seats.
+//! Counts a made-up ward with 10 candidates and 4 seats.
 //!
 //! ```text
 //! count_benchmark PAPERS [parcels|bundles [LISTS [STAGES]]]
 //! ```
 //!
-//! So many papers are made up, each for itself, or drawn from so many lists where LISTS isn't 0. They are
-//! counted in parcels, as where nothing else is said, or in bundles, to so many stages or to the end. Equal
-//! words give equal papers: they come from a fixed generator, in which lower numbers are named earlier more
-//! often.
+//! Makes up a number of papers, independently, or drawn from a number of lists if LISTS isn't 0. They are counted in parcels, the
+//! default, or in bundles, up to a number of stages or to the end. Equal arguments make equal papers: the generator is deterministic,
+//! and lower numbers tend to be preferred.
 #![tactic(auto)]
 
 ghost use Rattle.std.specs.Prelude.{◌≡◌, []};
@@ -30,10 +29,10 @@ const CANDIDATES: u8 = 10;
 
 const SEATS: u8 = 4;
 
-/// As many stages as a count of so many candidates can have.
+/// The maximum number of stages of a count with this number of candidates.
 const ALL_STAGES: u32 = 11;
 
-/// The candidates 1 to 10.
+/// Returns the candidates 1 to 10.
 fn candidates() -> Columns {
     let mut columns = Columns::empty();
     for c in 1..=CANDIDATES {
@@ -42,7 +41,7 @@ fn candidates() -> Columns {
     columns
 }
 
-/// So many papers of a source, each for itself.
+/// Returns a number of papers from a source, one by one.
 fn listed(alloc: Global, source: &mut PaperSource, count: u32) -> Result<Vec<Prefs>, AllocError> {
     let mut papers = Vec::new(alloc);
     for _ in 0..count {
@@ -53,7 +52,7 @@ fn listed(alloc: Global, source: &mut PaperSource, count: u32) -> Result<Vec<Pre
     Ok(papers)
 }
 
-/// So many papers of a source, equal ones kept once.
+/// Returns a number of papers from a source, with equal ones stored once.
 fn bundled(alloc: Global, source: &mut PaperSource, count: u32) -> Result<Bundles, AllocError> {
     let mut bundles = Bundles::new(alloc);
     for _ in 0..count {
@@ -66,7 +65,7 @@ fn bundled(alloc: Global, source: &mut PaperSource, count: u32) -> Result<Bundle
     Ok(bundles)
 }
 
-/// Prints who was elected at which stage, and how many stages there were.
+/// Prints the candidates elected at each stage, and the number of stages.
 fn print_stages(rt: &impl Print, stages: &[Stage]) -> Result<()> {
     for (i, stage) in stages.iter().enumerate() {
         for c in stage.elected.as_slice() {
@@ -77,7 +76,7 @@ fn print_stages(rt: &impl Print, stages: &[Stage]) -> Result<()> {
     Ok(())
 }
 
-/// Counts so many stages in a new book, and prints them.
+/// Counts a number of stages in a new book, and prints them.
 fn count_in<B: CountBook>(rt: &impl Print, book: &mut B, stages: u32) -> Result<()>
     requires { B.history book.old ≡ [] }
 {
@@ -88,7 +87,7 @@ fn count_in<B: CountBook>(rt: &impl Print, book: &mut B, stages: u32) -> Result<
     print_stages(rt, book.stages())
 }
 
-/// The number that a word is; another where there is no word.
+/// Parses the number in an argument; returns a default if there is no argument.
 fn number_or(word: Option<&String>, other: u32) -> Result<u32> {
     match word {
         Some(word) => Ok(word.as_str().parse::<u32>()?),

@@ -1,24 +1,24 @@
-//! Where the papers of the ward come from.
+//! The source of the ward's papers.
 
 use crate::generator::Generator;
 use paper::Prefs;
 use std::alloc::{AllocError, Global};
 
-/// A source of papers: made up each for itself, or drawn from some lists.
+/// A source of papers: made up independently, or drawn from some lists.
 #[derive(Drop)]
 pub struct PaperSource {
     generator: Generator,
     lists: Vec<Prefs>,
 }
 
-/// A paper that a generator makes up.
+/// Returns a paper made up by a generator.
 fn made_up(generator: &mut Generator) -> Option<Prefs> {
     let (order, len) = generator.next_paper();
     Prefs::from_slice(&order[..len])
 }
 
 impl PaperSource {
-    /// A source that draws from so many lists; with none, each paper is made up.
+    /// Returns a source that draws from a number of lists; if that is 0, every paper is made up.
     pub fn new(alloc: Global, lists: u32) -> Result<PaperSource, AllocError> {
         let mut generator = Generator::new();
         let mut made = Vec::new(alloc);
@@ -33,7 +33,7 @@ impl PaperSource {
         })
     }
 
-    /// The next paper.
+    /// Returns the next paper.
     pub fn next_paper(&mut self) -> Option<Prefs> {
         match u32::try_from(self.lists.len()) {
             Ok(0) | Err(_) => made_up(&mut self.generator),

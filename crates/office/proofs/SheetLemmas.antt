@@ -1,4 +1,4 @@
--- Why the texts of a textual election can be printed, and why the election of each ward of a state is textual.
+-- Proof that the texts of a textual election can be printed, and that the election of each ward of a state is textual.
 use Rattle.std.proofs.Common.{◌≡◌, ℕ, ◌≤◌, ◌&&◌, nat_le, ◌==◌, Bool, true, false, List, [], ◌∷◌, length, map, Option, Some, None, if◌then◌else◌, string_bytes, String, refl, sym, subst, ap, ◌∙◌}
 use Rattle.std.specs.List.{list_all}
 use Rattle.std.specs.declared.alloc.Global.{Global}
@@ -29,7 +29,7 @@ numbers_of_shown : (cs : List CandidateEntry) → map (λ (line : ℕ × List �
 numbers_of_shown [] = refl
 numbers_of_shown (c ∷ cs) = ap (λ (ns : List ℕ). c.number ∷ ns) (numbers_of_shown cs)
 
--- a ward that shows a textual election, with few papers, can be printed
+-- a ward that shows a textual election, with few enough papers, can be printed
 pub textual_can_be_printed : (ward : Ward) (poll : Option Poll) (e : ElectionEntry) → shown ward ≡ shown_with poll e → IsTextual e → HasFewPapers poll → CanBePrinted ward
 textual_can_be_printed ward poll e same textual few =
     let seats : e.ward.seats ≡ ward.seats = sym (ap (λ (x : SheetEntry). x.seats) same) in
@@ -42,7 +42,7 @@ textual_can_be_printed ward poll e same textual few =
       few_papers = subst HasFewPapers (ap (λ (x : SheetEntry). x.poll) (sym same)) few;
     }
 
--- the papers of a textual election are few
+-- the papers of a textual election are few enough
 pub few_shown : (e : ElectionEntry) → length e.ballots.papers ≤ max_papers → HasFewPapers (poll_shown e)
 few_shown e few = go (has_count e)
   where

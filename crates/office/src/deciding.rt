@@ -1,4 +1,4 @@
-//! The machine's decision on what the store holds.
+//! The machine's decision, on what the store keeps.
 
 ghost use Rattle.std.specs.Prelude.{◌≡◌, IfOk, IfErr, OnOk, IsTrue};
 ghost use Rattle.sqlite.specs.State.{HasCleanDisk};
@@ -16,7 +16,7 @@ use sqlite::Alter;
 use std::alloc::Global;
 use store::{Fault, Store};
 
-/// The decision on a view; want of memory is the fault `Memory`.
+/// Returns the decision on a view; the fault is `Memory` if an allocation fails.
 fn decided(alloc: Global, view: &View<'_>, command: &Command) -> Result<Decision, Fault>
     ensures decides { IfOk result (λ decision. (s : OfficeState) → IsViewOf s command.now view.now → outcome_of s decision ≡ step s view.now.actor view.now.id.now command.now) }
     ensures stays { (s : OfficeState) → IsState s → IsState (state_after s (step s view.now.actor view.now.id.now command.now)) }
@@ -30,7 +30,7 @@ fn decided(alloc: Global, view: &View<'_>, command: &Command) -> Result<Decision
     }
 }
 
-/// The machine's decision on a request, at the state that the store keeps. It changes nothing.
+/// Returns the machine's decision on a request, at the state that the store keeps. Changes nothing.
 pub(crate) fn decision_of<S: Alter>(
     alloc: Global,
     store: &mut Store<S>,

@@ -29,8 +29,8 @@ use std::alloc::Global;
 use std::marker::Model;
 use store::{Fault, Store};
 
-/// An office over a store. It is closed after a fault inside a transaction, and after any fault but want
-/// of memory; then each call but `into_connection` answers `Closed`, until it is opened again.
+/// An office in a store. A fault inside a transaction closes it, and so does any fault but out of memory; then each
+/// call but `into_connection` returns `Closed`, until the office is reopened.
 pub struct Office<S: Alter> {
     pub(crate) store: Store<S>,
     pub(crate) closed: bool,
@@ -50,8 +50,8 @@ impl<S: Alter> Model for Office<S> {
 impl<S: Alter> Office<S> {
     /// Makes an empty office in the connection's database.
     ///
-    /// `WrongDatabase` where a table with the name of one of ours is there already; nothing is changed
-    /// then. After another fault there are all tables or none. The connection is handed back with it.
+    /// `WrongDatabase` if a table with the name of one of ours already exists; then nothing is changed. After any other
+    /// fault there are either all tables or none. With a fault the connection is returned.
     pub fn create(alloc: Global, conn: Connection<S>) -> Result<Self, (Fault, Connection<S>)>
         ensures made { IfOk result (λ o. HasCleanDisk (state S.Store o.held) → IsBlank (state S.Store conn) → IsOpenAt empty_office o.closed (state S.Store o.held)) }
         ensures stops { IfErr result (λ e. HasCleanDisk (state S.Store e.1) → IsBlank (state S.Store conn)
@@ -75,11 +75,12 @@ impl<S: Alter> Office<S> {
         }
     }
 
-    /// Opens the office that the connection's database holds, and changes nothing.
+    /// Opens the office in the connection's database, and changes nothing.
     ///
-    /// `WrongDatabase` where there is no office table or no row in it. `NewerSchema` where a later program made the office, `OlderSchema`
-    /// where an earlier one did. `Damaged` where the rows are the tables of no state. `Store` where the store failed, where rowids aren't
-    /// the rows' own, or where the connection is inside a transaction. The connection is handed back with a fault, its database as it was.
+    /// `WrongDatabase` if there is no office table or no row in it. `NewerSchema` if a later program made the office,
+    /// and `OlderSchema` if an earlier one did. `Damaged` if the rows are not the tables of any state. `Store` if the
+    /// store failed, if rowids aren't distinct integers, or if the connection is inside a transaction. With a fault the
+    /// connection is returned, its database unchanged.
     pub fn open_from(alloc: Global, conn: Connection<S>) -> Result<Self, (Fault, Connection<S>)>
         ensures opened { IfOk result (λ o. HasCleanDisk (state S.Store o.held) → (db : Database) → IsOurs db.schema → RestsAt db (state S.Store conn)
             → (s : OfficeState) × HoldsState db s × IsOpenAt s o.closed (state S.Store o.held)) }
@@ -108,14 +109,14 @@ impl<S: Alter> Office<S> {
         }
     }
 
-    /// Whether it is closed.
+    /// Returns whether the office is closed.
     pub fn is_closed(&self) -> bool
         ensures { result ≡ self.now.closed }
     {
         self.closed
     }
 
-    /// Gives the connection back as it is, from a closed office too.
+    /// Returns the connection, unchanged, even of a closed office.
     pub fn into_connection(self) -> Connection<S>
         ensures { result ≡ self.held }
     {
@@ -127,18 +128,18 @@ impl<S: Alter> Office<S> {
         store.into_connection()
     }
 
-    /// Answers one request. `Done` comes only once the change is kept.
+    /// Answers one request. `Done` is returned only once the change is stored.
     ///
-    /// `Memory` before the transaction leaves tables and office as they were, and the office open. Any
-    /// other fault closes the office: the tables before the request are found then, or, where it was
-    /// accepted, those after it. A closed office answers `Closed`. Where the office stays open after a
-    /// fault, no row was written, not even in a transaction that was undone.
+    /// `Memory` before the transaction leaves tables and office unchanged, and the office open. Any other fault closes
+    /// the office; then the tables are those before the request or, if it was accepted, possibly those after it. A
+    /// closed office returns `Closed`. If the office stays open after a fault, no row was written, not even in a
+    /// transaction that was undone.
     ///
-    /// A request that met a fault may be sent again after the office was opened again. Where the old tables were found it is
-    /// `Done`, and `Kept` where the new ones were, with the same reply and state after.
+    /// A request that met a fault may be repeated after the office is reopened. It is `Done` if the old tables were
+    /// found, and `Kept` if the new ones were, with the same reply and the same state afterwards.
     ///
-    /// A clerk is answered by what he sees of the state alone: the wards and their phases, the candidates, the batches, his own
-    /// keyings and receipts. Whatever his request leaves, another clerk sees what he saw before.
+    /// The answer to a clerk depends only on what the clerk sees of the state: the wards and their phases, the
+    /// candidates, the batches, and the clerk's own keyings and receipts. The request changes nothing in what another clerk sees.
     pub fn handle(&mut self, actor: u32, id: &str, command: &Command) -> Result<Answer, Fault>
         ensures handled { WhenOpenAt (state S.Store) self.old self.new
             (λ s. Handled s (step s actor id.now command.now) result self.new.closed (state S.Store self.new.held)) }
@@ -160,7 +161,7 @@ impl<S: Alter> Office<S> {
         self.answered(actor, id, command)
     }
 
-    /// The answer to one request, from the decision on what the store holds and the commit of its change.
+    /// Returns the answer to one request, from the decision on what the store keeps and the commit of its change.
     fn answered(&mut self, actor: u32, id: &str, command: &Command) -> Result<Answer, Fault>
         ensures clean { HasCleanDisk (state S.Store self.new.held) → HasCleanDisk (state S.Store self.old.held) }
         ensures wears { Wears (state S.Store self.old.held) (state S.Store self.new.held) }
@@ -196,11 +197,11 @@ impl<S: Alter> Office<S> {
 
     /// Answers a list of requests in order, up to the first fault.
     ///
-    /// Room for all answers is made first. Where that is refused, nothing is handled,
-    /// and the fault is `Memory`. A closed office answers `Closed`, whatever the list.
+    /// Space for all answers is allocated first. If that fails, nothing is handled, and the fault is `Memory`. A closed
+    /// office returns `Closed`, whatever the list.
     ///
-    /// In a list of clerks' requests each clerk's answers are those that his requests alone get from what
-    /// he sees, whatever others keyed before or between.
+    /// In a list of clerks' requests each clerk gets the answers that the clerk's requests alone would get from what
+    /// the clerk sees, whatever others keyed before or between.
     pub fn run(&mut self, requests: &[Request]) -> Run
         ensures answers { WhenOpenAt (state S.Store) self.old self.new (λ s. AnswersFirst s requests.now result.answers.items) }
         ensures all { WhenOpenAt (state S.Store) self.old self.new
@@ -236,7 +237,7 @@ impl<S: Alter> Office<S> {
     }
 }
 
-/// Puts an answer behind the others, where there is room for it.
+/// Appends an answer to the others, which have capacity for it.
 fn put_answer(answers: &mut Vec<Answer>, answer: Answer)
     requires { vec_len answers.old < vec_capacity answers.old }
     ensures items { answers.new.items ≡ answers.old.items ++ answer ∷ [] }

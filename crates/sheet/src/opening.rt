@@ -1,4 +1,4 @@
-//! The lines above the stages.
+//! The lines before the stages.
 
 ghost use Rattle.std.specs.Prelude.{◌-◌, ◌^◌, ◌<◌, ◌≤◌};
 ghost use Rattle.votes.specs.Units.{max_papers, max_seats};
@@ -25,7 +25,7 @@ pub fn write_ward_line<W: Sink>(sink: &mut W, ward: &Ward) -> Result<(), Broken>
     write_line(sink, &pieces)
 }
 
-/// Writes the seats of an uncontested ward.
+/// Writes the number of seats of an uncontested ward.
 pub fn write_uncontested_line<W: Sink>(sink: &mut W, seats: u8) -> Result<(), Broken>
     requires { W.failed sink.old < 2 ^ 64 - 1 }
     ensures { Writes W.taken W.failed sink.old sink.new (uncontested_line seats) result }
@@ -38,7 +38,7 @@ pub fn write_uncontested_line<W: Sink>(sink: &mut W, seats: u8) -> Result<(), Br
     write_line(sink, &pieces)
 }
 
-/// Writes the seats, the valid papers and the quota of a contested ward.
+/// Writes the numbers of seats and valid papers, and the quota, of a contested ward.
 pub fn write_seats_line<W: Sink>(sink: &mut W, seats: u8, valid: u32) -> Result<(), Broken>
     requires some_seats { 1 ≤ seats }
     requires few_seats { seats ≤ max_seats }
@@ -57,7 +57,7 @@ pub fn write_seats_line<W: Sink>(sink: &mut W, seats: u8, valid: u32) -> Result<
     write_line(sink, &pieces)
 }
 
-/// Writes the rejected papers of each code, 1 to 5.
+/// Writes the number of rejected papers for each code, 1 to 5.
 pub fn write_rejected_line<W: Sink>(sink: &mut W, rejected: &[u32; 5]) -> Result<(), Broken>
     requires { W.failed sink.old < 2 ^ 64 - 1 }
     ensures { Writes W.taken W.failed sink.old sink.new (rejected_line rejected.now) result }

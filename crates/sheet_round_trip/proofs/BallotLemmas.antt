@@ -27,14 +27,14 @@ use Rattle.register.proofs.ContestLemmas.{columns_are_set, few_among, few_batche
 use Rattle.office.specs.Sheets.{IsTextual, bundles_shown, candidate_shown, election_shown, lots_shown, shown_with}
 use Rattle.sheet_round_trip.proofs.RangeLemmas.{few_rejected, kept_pass, lots_once, lots_small, name_is, names_are}
 
--- the numbers of candidates, as they are shown
+-- the numbers of candidates, as shown
 pub numbers_shown : (cs : List CandidateEntry) → map (λ (candidate : ℕ × List ℕ). candidate.0) (map candidate_shown cs) ≡ map (λ (c : CandidateEntry). c.number) cs
 numbers_shown [] = refl
 numbers_shown (c ∷ cs) = ap (λ (ns : List ℕ). c.number ∷ ns) (numbers_shown cs)
 
 -- ---- bundles
 
--- papers that have preferences, each once, give bundles
+-- papers that each rank at least one candidate, without repetition, make bundles
 bundles_from : (bs : List Bundle) (papers : List (List ℕ)) → AreBundles bs → AllByRecursion (λ (paper : List ℕ). 1 ≤ length paper) papers → AreRankings papers
     → AreBundles (fold (λ cs paper. with_papers cs paper 1) bs papers)
 bundles_from bs [] are some ranked = are
@@ -55,14 +55,14 @@ lists_of : (P : List ℕ → Type 0) (bs : List Bundle) → AllByRecursion (λ (
 lists_of P [] all = tt
 lists_of P (b ∷ bs) all = (all.0, lists_of P bs all.1)
 
--- the lists of bundles are for candidates where their papers are
+-- the lists of bundles are for candidates if their papers are
 bundles_for : (candidates : List ℕ) (papers : List (List ℕ)) → AreForCandidates candidates papers → AreForCandidates candidates (map (λ (b : Bundle). b.0) (bundled papers))
 bundles_for candidates papers fair =
     lists_of (λ p. AllByRecursion (λ c. In c candidates) p) (bundled papers) (lists-from (λ p. AllByRecursion (λ c. In c candidates) p) [] papers tt fair)
 
--- ---- at a state
+-- ---- in a state
 
--- the papers that a ward's batches are taken with are few
+-- the papers that a ward's batches are taken with are within the limit
 few_judged : (s : OfficeState) (columns : List ℕ) (ward : ℕ) → list_all is_batch s.batches ≡ true → list_all (λ b. are_rounds_to s b b.round) s.batches ≡ true → IsStrictlySortedBy batch_cmp s.batches
     → length (judgements columns (piles_of s ward)) ≤ max_papers
 few_judged s columns ward fine rounds up =
@@ -71,7 +71,7 @@ few_judged s columns ward fine rounds up =
     let good = kept_all is_batch of s.batches fine in
     omega (arith, few_among s columns own good (kept_all (λ b. are_rounds_to s b b.round) of s.batches rounds), few_batches own good (IsStrictlySortedBy-filter batch_cmp of s.batches up))
 
--- what of it is read back is in range
+-- what is read back from it is in range
 record InRange (s : OfficeState) : Type 0 where
   wards : list_all is_ward s.wards ≡ true
   candidates : list_all is_candidate s.candidates ≡ true
@@ -146,7 +146,7 @@ module _ (s : OfficeState) (w : WardEntry) (is : IsState s) (there : ward_at s w
   abbrev shown_by : Bool → SheetEntry
   shown_by b = shown_with (cond b (Some (record { valid = length papers; rejected = (election_of s w).ballots.rejected })) None) (election_of s w)
 
-  -- its ballots can be read back: those of a contested ward, and those of an uncontested one
+  -- its ballots can be read back, whether the ward is contested or uncontested
   pub can_be_read_back : CanBeReadBack (election_shown (election_of s w)) (bundles_shown (election_of s w)) (lots_shown (election_of s w))
   can_be_read_back = go (has_count (election_of s w)) refl
     where

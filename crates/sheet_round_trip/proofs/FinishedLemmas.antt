@@ -1,4 +1,4 @@
--- A finished count comes out the same where it is held on the bundles of its papers, and is its only count.
+-- A finished count has the same result if it is held on the bundles of its papers, and is their only count.
 use Rattle.std.proofs.Common.{◌≡◌, ℕ, ◌+◌, ◌-◌, ◌≤◌, nat_le, true, not, get_or, List, [], ◌∷◌, length, map, reverse, Option, Some, None, refl, sym, ap, subst, ◌∙◌, arith}
 use Rattle.std.specs.List.{find, list_all, range_with_len}
 use Rattle.std.specs.Option.{option_map}
@@ -30,7 +30,7 @@ use Rattle.register.specs.Elections.{ElectionEntry, contest_of, due_of, elected_
 use Rattle.register.proofs.BundledLemmas.{due-alike, fair-alike, other_order, stages-alike}
 use Rattle.office.specs.Sheets.{candidate_shown, shown_with}
 
--- where nothing is due by the lots, nothing is due
+-- if nothing is due by the lots, nothing is due
 nothing_due : (contest : Contest) (lots : List (ℕ × ℕ)) (stages : History) → is_finished (due_by contest lots stages) ≡ true → due_after contest stages ≡ Finished
 nothing_due contest lots stages is = go (due_after contest stages) (next_action contest lots stages) is
   where
@@ -45,7 +45,7 @@ ends_finished : (lot : Option ℕ) → end_of lot Finished ≡ Some end.Finished
 ends_finished None = refl
 ends_finished (Some c) = refl
 
--- a lot among some is due
+-- if a candidate is tied, a lot is due
 tied_is_lot : (due : Due) (c : ℕ) → is_tied due c ≡ true → is_lot due ≡ true
 tied_is_lot (Act action) c is = absurd (cc)
 tied_is_lot (Lot stage kind tied) c is = refl
@@ -78,14 +78,14 @@ module _ (e : ElectionEntry) (poll : Option Poll) (own : map (λ (candidate : �
   whole : IsWholeCount on_bundles e.lots (stages_of e)
   whole = whole_count on_bundles e.lots (stages_of e) end.Finished right ended
 
-  -- it ends with the stages that are done
+  -- it ends with the stages done
   pub counted : EndsAt on_bundles e.lots (reverse (stages_of e)) end.Finished
   counted = record {
     whole = subst (IsWholeCount on_bundles e.lots) (sym (reverse-reverse (stages_of e))) whole;
     ended = subst (λ (h : History). end_after on_bundles e.lots h ≡ Some end.Finished) (sym (reverse-reverse (stages_of e))) ended;
   }
 
-  -- whoever counts to an end has these stages,
+  -- any count that has ended has these stages,
   only_stages : (stages : List Stage) (why : CountEnd) → EndsAt on_bundles e.lots stages why → stages_of e ≡ reverse stages
   only_stages stages why is =
       let count : IsCount on_bundles e.lots (stages_of e) = whole.ended in
@@ -94,7 +94,7 @@ module _ (e : ElectionEntry) (poll : Option Poll) (own : map (λ (candidate : �
   pub stages_alone : (stages : List Stage) (why : CountEnd) → EndsAt on_bundles e.lots stages why → stages ≡ reverse (stages_of e)
   stages_alone stages why is = sym (reverse-reverse stages) ∙ ap (λ (h : History). reverse h) (sym (only_stages stages why is))
 
-  -- and this end
+  -- and ended for this reason
   pub end_alone : (stages : List Stage) (why : CountEnd) → EndsAt on_bundles e.lots stages why → Some why ≡ Some end.Finished
   end_alone stages why is = sym is.ended ∙ ap (λ (h : History). end_after on_bundles e.lots h) (sym (only_stages stages why is)) ∙ ended
 

@@ -1,4 +1,4 @@
--- Each text that an office tells of a ward, beside the ballots that it tells.
+-- Each text that an office prints for a ward, checked against the ballots that it prints.
 use Rattle.std.proofs.Common.{◌≡◌, ℕ, true, List, map, Some, refl, sym, subst}
 use Rattle.register.specs.Marks.{columns_of}
 use Rattle.register.specs.Offices.{OfficeState, WardEntry, candidates_of, ward_at}

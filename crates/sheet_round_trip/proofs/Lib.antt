@@ -1,4 +1,4 @@
--- What the law of an office's own texts stands on.
+-- The basis of the law of an office's own texts.
 pub mod RangeLemmas
 pub mod BallotLemmas
 pub mod FinishedLemmas

@@ -1,4 +1,4 @@
--- Names, lots and rejected papers of a state are ones that are read back.
+-- Names, lots and rejected papers of a state can be read back.
 use Rattle.std.proofs.Common.{◌≡◌, ℕ, ◌<◌, ◌≤◌, ◌==◌, ◌&&◌, nat_le, Bool, true, false, not, cond, List, [], ◌∷◌, length, map, filter, refl, sym, ◌∙◌, arith}
 use Rattle.std.specs.List.{AllByRecursion, list_all, list_any}
 use Rattle.std.specs.List.Sorted.{IsStrictlySortedBy}
@@ -28,7 +28,7 @@ one_line (b ∷ bs) fine =
     let high = leb-true 32 b (and_parts (nat_le 32 b) (not (b == 127)) parts.0).0 in
     rw (ne_eqb b 10 (λ same. omega (arith, high, same))) (one_line bs parts.1)
 
--- a name that a state may have stands on one line
+-- a name that a state can have fits on one line
 pub name_is : (name : List ℕ) → is_name name ≡ true → IsName name
 unfolding is_name
 name_is name fine =
@@ -48,7 +48,7 @@ names_are (c ∷ cs) fine =
 
 -- ---- lots
 
--- lots of a state fit a byte each
+-- the lots of a state each fit in one byte
 pub lots_small : (ls : List LotEntry) → list_all is_lot ls ≡ true → AreSmall (map lot_pair ls)
 unfolding is_lot
 lots_small [] fine = tt
@@ -60,7 +60,7 @@ lots_small (l ∷ ls) fine =
     let candidate = leb-true l.candidate 30 (and_parts (nat_le 1 l.candidate) (nat_le l.candidate 30) both.1).1 in
     ((omega (arith, stage), omega (arith, candidate)), lots_small ls parts.1)
 
--- of one ward no two lots that follow one another are for one stage
+-- two consecutive lots of a ward aren't for the same stage
 other_stage : (l x : LotEntry) → lot_cmp l x ≡ Less → l.ward ≡ x.ward → (x.stage == l.stage) ≡ false
 other_stage l x less same = ne_eqb x.stage l.stage (λ tied. go (nat_cmp l.ward x.ward) refl less tied)
   where
@@ -69,7 +69,7 @@ other_stage l x less same = ne_eqb x.stage l.stage (λ tied. go (nat_cmp l.ward 
     go Equal is is_less tied = let rank : l.stage < x.stage = ranked l.stage x.stage Less (sym is_less) in omega (arith, rank, tied)
     go Greater is is_less tied = cc
 
--- lots of a ward in their order are each for another stage
+-- the lots of a ward, in order, are for distinct stages
 pub lots_once : (ward : ℕ) (ls : List LotEntry) → IsStrictlySortedBy lot_cmp ls → list_all (λ l. l.ward == ward) ls ≡ true → AreOnce (map lot_pair ls)
 unfolding IsStrictlySortedBy
 lots_once ward [] up of = tt
@@ -84,7 +84,7 @@ lots_once ward (l ∷ ls) up of = (undrawn ls up.0 parts.1, lots_once ward ls up
         let here = and_parts (x.ward == ward) (list_all (λ y. y.ward == ward) xs) own in
         rw (other_stage l x below.0 (eqb-true l.ward ward parts.0 ∙ sym (eqb-true x.ward ward here.0))) (undrawn xs below.1 here.1)
 
--- what is kept by a test passes it
+-- the elements that a test keeps pass it
 pub kept_pass : {X : Type 0} (p : X → Bool) (xs : List X) → list_all p (filter p xs) ≡ true
 kept_pass p [] = refl
 kept_pass {X} p (x ∷ xs) = go (p x) refl (kept_pass p xs)
@@ -103,7 +103,7 @@ few_kept {X} p (x ∷ xs) = go (p x) (few_kept p xs)
     go true later = omega (arith, later)
     go false later = omega (arith, later)
 
--- the rejected papers of each code are few where all papers are
+-- the rejected papers of each code are within the limit if all papers are
 pub few_rejected : (js : List Judgement) (ns : List ℕ) → length js ≤ max_papers → AllByRecursion (λ n. n ≤ 4294967295) (map (rejected_with js) ns)
 few_rejected js [] few = tt
 few_rejected js (n ∷ ns) few = (omega (arith, few, few_kept (is_rejected n) js), few_rejected js ns few)

@@ -33,7 +33,7 @@ counted_right s w is there =
     let rights : Bool = list_all (λ x. is_counted_right (election_of s x)) s.wards in
     found_passes (ward_compared w.number) (λ x. is_counted_right (election_of s x)) w s.wards (and_parts _ rights is.counted).1 there
 
--- nothing is due by the lots where nothing is due
+-- nothing is due by the lots if nothing is due
 none_by_lots : (contest : Contest) (lots : List (ℕ × ℕ)) (stages : History) → is_finished (due_after contest stages) ≡ true → is_finished (due_by contest lots stages) ≡ true
 none_by_lots contest lots stages is = go (due_after contest stages) (lot_for lots (length stages + 1)) is
   where
@@ -48,13 +48,13 @@ module _ (e : ElectionEntry) (sealed : is_counted e.ward.phase ≡ true) (right 
   abbrev is_ended : Bool
   is_ended = not (is_declared e.ward.phase) || is_finished (due_after (contest_of e) (stages_of e))
 
-  -- where it is contested each lot was drawn, and once it is declared nothing is due
+  -- if it is contested, every lot was drawn, and once it is declared nothing is due
   drawn_and_ended : has_count e ≡ true → (list_all (is_drawn_for e) e.lots ≡ true) × (is_ended ≡ true)
   drawn_and_ended contested =
       let so_far : is_right_so_far e ≡ true = sym (cond-true (is_in_count e) _ _ (rw sealed contested)) ∙ right in
       and_parts (list_all (is_drawn_for e) e.lots) is_ended (and_parts (length (stages_of e) == e.ward.done) _ so_far).1
 
-  -- where it isn't, no stage is done
+  -- if it isn't, no stage is done
   no_stages : has_count e ≡ false → stages_of e ≡ []
   unfolding stages_to
   no_stages uncontested =
@@ -79,7 +79,7 @@ module _ (e : ElectionEntry) (sealed : is_counted e.ward.phase ≡ true) (right 
       abbrev IsCompared : Bool → List ℕ → Checked → Type 0
       IsCompared b text told = IsComparison text (sheet (shown_by b) (reverse (stages_of e))) (declaration (shown_by b) (elected_of e)) told
 
-      -- what is told of a text that is the sheet or the declaration
+      -- the result of checking a text that is the sheet or the declaration
       by_contest : (text : List ℕ) (answer : Checked) → IsYes answer → (b : Bool) → has_count e ≡ b → IsCompared b text answer
           → HasYes (shown_by b) (cond b (bundled e.ballots.papers) []) (cond b e.lots []) text answer
       by_contest text answer is_yes true contested is =

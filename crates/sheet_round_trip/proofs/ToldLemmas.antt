@@ -1,4 +1,4 @@
--- What is told where a text of a ward is asked for.
+-- The response to a request for a text of a ward.
 use Rattle.std.proofs.Common.{◌≡◌, ℕ, Bool, true, false, cond, List, Some, Ok, Err, refl, sym, ap, ◌∙◌}
 use Rattle.register.specs.declared.refusal.Reason.TheVariants.{NumberOutOfRange, WrongPhase}
 use Rattle.register.specs.Ranges.{is_ward_number}
@@ -7,7 +7,7 @@ use Rattle.register.specs.Elections.{election_of}
 use Rattle.office.specs.Sheets.{is_told_in, text_found, text_shown, text_told}
 use Rattle.office.specs.declared.sheets.Text.{Text}
 
--- it is told in the ward's phase, and it is the text of the ward's election
+-- the text is available in the ward's phase, and it is the text of the ward's election
 pub record IsToldOf (text : Text) (s : OfficeState) (w : WardEntry) (told : List ℕ) : Type 0 where
   pub in_phase : is_told_in text w.phase ≡ true
   pub is : told ≡ text_shown text (election_of s w)

@@ -1,4 +1,4 @@
--- What the check tells of the sheet and of the declaration of a finished election, beside the ward that its ballots tell.
+-- The result of checking the sheet and the declaration of a finished election against the ward that its ballots describe.
 use Rattle.std.proofs.Common.{◌≡◌, ◌≢◌, ℕ, true, get_or, List, [], ◌++◌, map, reverse, Option, Some, None, refl, sym, ap, subst, ◌∙◌, append_assoc, arith}
 use Rattle.std.specs.Prelude.{⊤}
 use Rattle.std.specs.List.{list_all}
@@ -29,7 +29,7 @@ use Rattle.sheet_round_trip.proofs.FinishedLemmas.{all_drawn, counted, end_alone
 
 -- ---- the sheet and the declaration
 
--- a sheet goes on with its seats
+-- a sheet continues with its seats
 below_begins : (ward : SheetEntry) (poll : Option Poll) (stages : List Stage) → get_or (below_ward ward poll stages) 0 0 ≡ 83
 unfolding line
 below_begins ward None stages = refl
@@ -49,13 +49,13 @@ apart ward stages elected same =
     let letter : get_or (below_ward ward ward.poll stages) 0 0 ≡ get_or rest 0 0 = ap (λ (l : List ℕ). get_or l 0 0) below in
     omega (arith, letter, below_begins ward ward.poll stages, declaration_begins ward elected)
 
--- a yes: that a text is the sheet, or that it is the declaration
+-- a confirmation: a text is the sheet, or it is the declaration
 abbrev pub IsYes : Checked → Type 0
 IsYes checked.Sheet = ⊤
 IsYes checked.Declaration = ⊤
 IsYes (checked.Differs at should_be) = ⊥
 
--- where a yes may be told of a text, nothing else may
+-- if a text can be confirmed, no other result is possible
 alone_among : (text own other : List ℕ) → own ≢ other → (answer : Checked) → IsYes answer → IsComparison text own other answer → (told : Checked) → IsComparison text own other told → told ≡ answer
 alone_among text own other differ checked.Sheet _ is checked.Sheet too = refl
 alone_among text own other differ checked.Sheet _ is checked.Declaration too = absurd (differ (sym is ∙ too))
@@ -67,7 +67,7 @@ alone_among text own other differ (checked.Differs at should_be) none is told to
 
 -- ---- a ward
 
--- a text of a ward gets a yes, nothing else, and nothing hinders it but want of memory
+-- a text of a ward is confirmed, nothing else, and only a failed allocation prevents that
 pub record HasYes (ward : SheetEntry) (bundles : List Bundle) (lots : List (ℕ × ℕ)) (text : List ℕ) (answer : Checked) : Type 0 where
   pub told : IsWardCheck ward.poll ward bundles lots text answer
   pub alone : (other : Checked) → IsWardCheck ward.poll ward bundles lots text other → other ≡ answer
@@ -114,7 +114,7 @@ module _
     abbrev contest : Contest
     contest = contest_in ward (bundled e.ballots.papers)
 
-    -- a comparison with the sheet and the declaration, as the check has them after some stages
+    -- a comparison with the sheet and the declaration, as in the check after some stages
     abbrev IsCompared : List Stage → List ℕ → Checked → Type 0
     IsCompared stages text told = IsComparison text (sheet ward stages) (declaration ward (elected_after contest (reverse stages))) told
 

@@ -1,2 +1,2 @@
--- What an office's own texts are, where they are checked without it.
+-- An office's own texts, checked independently of it.
 pub mod OwnTexts

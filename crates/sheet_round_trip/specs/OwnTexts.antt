@@ -1,4 +1,4 @@
--- An office's own texts, checked without it: what the office prints of a ward, read and counted from the ward's ballots alone.
+-- An office's own texts, checked independently of it: what the office prints for a ward, read and counted from the ward's ballots alone.
 use Rattle.std.specs.Prelude.{◌≡◌, ℕ, true, List, Some, Ok}
 use Rattle.register.specs.Offices.{OfficeState, WardEntry, ward_at}
 use Rattle.register.specs.Items.{IsState}
@@ -19,11 +19,11 @@ pub record IsWardOf (s : OfficeState) (w : WardEntry) : Type 0 where
   pub state : IsState s
   pub there : ward_at s w.number ≡ Some w
 
--- a text that the office prints of a ward
+-- a text that the office prints for a ward
 abbrev pub IsTold : OfficeState → WardEntry → Text → List ℕ → Type 0
 IsTold s w text told = text_told text s w.number ≡ Ok told
 
--- nothing is left to do in the count of an election, or it is uncontested
+-- the count of an election is finished, or the election is uncontested
 abbrev pub IsFinished : ElectionEntry → Type 0
 IsFinished e = is_finished (due_of e) ≡ true
 
@@ -35,23 +35,24 @@ pub record IsReadAs (file : List ℕ) (e : ElectionEntry) : Type 0 where
   pub bundles_are : reading.papers.bundles ≡ bundles_shown e
   pub lots_are : reading.remarks.lots ≡ lots_shown e
 
--- a file of ballots confirms a text: the check says that it is the sheet, or that it is the declaration, and nothing else. Nothing but want of memory hinders the check.
+-- A file of ballots confirms a text: the check finds that it is the sheet, or that it is the declaration, and nothing else. Only a failed allocation
+-- can prevent the check.
 pub record IsConfirmed (file text : List ℕ) (answer : Checked) : Type 0 where
   pub told : IsChecked file text answer
   pub alone : (other : Checked) → IsChecked file text other → other ≡ answer
   pub unhindered : (why : Problem) → IsProblem file why → why ≡ Memory
 
--- the ballots that an office prints of a ward are read as the ward's election
+-- the ballots that an office prints for a ward are read as the ward's election
 abbrev pub OwnBallotsAreRead : Type 0
 OwnBallotsAreRead = (s : OfficeState) (w : WardEntry) (file : List ℕ) → IsWardOf s w → IsTold s w Ballots file → IsReadAs file (election_of s w)
 
--- beside them the stage sheet that it prints of a finished count is confirmed to be the sheet
+-- with them, the stage sheet that it prints for a finished count is confirmed as the sheet
 abbrev pub OwnSheetsAreConfirmed : Type 0
 OwnSheetsAreConfirmed =
     (s : OfficeState) (w : WardEntry) (file sheet : List ℕ) → IsWardOf s w → IsFinished (election_of s w) → IsTold s w Ballots file →
     IsTold s w Sheet sheet → IsConfirmed file sheet checked.Sheet
 
--- and the declaration, which it prints of a declared ward alone, to be the declaration
+-- and the declaration, which it prints only for a declared ward, is confirmed as the declaration
 abbrev pub OwnDeclarationsAreConfirmed : Type 0
 OwnDeclarationsAreConfirmed =
     (s : OfficeState) (w : WardEntry) (file declaration : List ℕ) → IsWardOf s w → IsTold s w Ballots file →

@@ -1,4 +1,4 @@
-//! What a check says of the texts that an office prints.
+//! The results of checking the texts that an office prints.
 
 ghost use Rattle.sheet_round_trip.specs.OwnTexts.{DeclaredAreFinished, OwnBallotsAreRead, OwnDeclarationsAreConfirmed, OwnSheetsAreConfirmed};
 
@@ -6,10 +6,10 @@ use checker::ballots_read_back;
 use office::texts_are_there;
 use register::marks::columns_of;
 
-/// The law of an office's own texts. At each state the ballots that the office prints of a ward are read as that ward's election:
-/// its number, name, seats and candidates, its valid and rejected papers, and its lots. Beside them `checker`'s `check` says of
-/// the stage sheet of a finished count that it is the sheet, and of the declaration that it is the declaration. It says nothing
-/// else of them, and only want of memory keeps it from saying so. The count of a declared ward is finished.
+/// The law of an office's own texts. In each state the ballots that the office prints for a ward are read as that ward's election:
+/// its number, name, seats and candidates, its valid and rejected papers, and its lots. With them, `checker`'s `check` confirms the
+/// stage sheet of a finished count as the sheet, and the declaration as the declaration. It returns nothing else for them, unless an
+/// allocation fails. The count of a declared ward is finished.
 pub fn own_texts_are_confirmed()
     ensures read { OwnBallotsAreRead }
     ensures sheets { OwnSheetsAreConfirmed }

@@ -1,8 +1,8 @@
-//! The law of an office's own texts. Whoever checks at home, by the ballots of a ward alone, gets a yes to the stage sheet and to
-//! the declaration that the office printed.
+//! The law of an office's own texts: anyone who checks the stage sheet and the declaration that the office printed, with nothing but
+//! the ballots of the ward, finds them confirmed.
 //!
-//! `office` and `checker` don't know one another; here their definitions meet. There is nothing to call but the
-//! law, [`own_texts_are_confirmed`], and no program stands on it.
+//! `office` and `checker` are independent of each other; their definitions meet here. There is nothing to call but the law,
+//! [`own_texts_are_confirmed`], and no program depends on this crate.
 #![tactic(auto)]
 
 mod laws;

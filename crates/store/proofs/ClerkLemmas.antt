@@ -16,7 +16,7 @@ listed s batch round c = go c.third
     go None = refl
     go (Some clerk) = refl
 
--- the keyings of three clerks, of whom the third may be missing, are those of the batch
+-- the keyings by three clerks, the third of whom may be missing, are those of the batch
 pub keyings_read : (s : OfficeState) (b : BatchEntry) (third : Option ThirdEntry) (c : Clerks) (one two three : List KeyedEntry)
     → one ≡ keying_of s b.number b.round c.first → two ≡ keying_of s b.number b.round c.second → three ≡ keying_for s b.number b.round c.third
     → clerk_list c ≡ clerks b third → third ≡ third_at s b.number → of_three one two three ≡ keyings_now s b

@@ -30,7 +30,7 @@ unfolding IsStrictlySortedBy
 none_rises by = tt
 
 module _ (wards : List WardValue) (candidates : List CandidateValue) (papers : Papers) (lots : List DrawnLot) (receipts : List ReceiptValue) where
-  -- the maps of the values, where nothing is read of third clerks
+  -- the maps of the values, without third clerks
   abbrev maps : OfficeState
   maps = record {
     wards = map ward_entry wards;
@@ -80,7 +80,7 @@ module _ (wards : List WardValue) (candidates : List CandidateValue) (papers : P
       each Third has = none_rises (row_cmp Third)
       each Office has = absurd (true≢false (sym has))
 
--- the first tables, and those of what is tabulated
+-- the first tables, and those of the tabulation
 pub lists_counted : (db : Database) (s : OfficeState) (t : TabulationEntries) (bundles : List PlacedBundle) (figures : List StageFigure) → ListsFirst 8 db s t
     → ListsEntries Bundle db (map (λ (b : PlacedBundle). row_of_placed (placed_entry b)) bundles)
     → ListsEntries Vote db (map (λ (f : StageFigure). row_of_figure (figure_entry f)) figures) → ListsFirst 10 db s (record { bundles = map placed_entry bundles; figures = map figure_entry figures })

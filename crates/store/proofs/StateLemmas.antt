@@ -1,4 +1,4 @@
--- Rows tell their entries, so equal tables are those of equal states.
+-- Rows determine their entries, so states with equal tables are equal.
 use Rattle.std.proofs.Common.{◌≡◌, ℕ, zero, suc, pos, List, [], Bool, true, false, refl, sym, ap, ◌∙◌, true≢false}
 use Rattle.std.specs.List.Sorted.{IsStrictlySortedBy}
 use Rattle.sqlite.specs.declared.types.Value.{Value}
@@ -24,7 +24,7 @@ use Rattle.tables.proofs.OrderLemmas.{one_number, two_numbers, three_numbers, fo
 use Rattle.tables.proofs.SameLemmas.{one_contents}
 use Rattle.store.proofs.RowLemmas.{entries_rise, entries_same}
 
--- ---- a row tells its entry
+-- ---- a row determines its entry
 
 abbrev number_in : Value → ℕ
 number_in (Int (pos n)) = n
@@ -157,7 +157,7 @@ has_map Bundle = false
 has_map Vote = false
 has_map _ = true
 
--- the rows of maps that rise rise
+-- if maps are in ascending order, so are their rows
 maps_up : (s : OfficeState) (t : TabulationEntries) → MapsRise s → (u : Table) → has_map u ≡ true → IsStrictlySortedBy (row_cmp u) (tables_with s t u)
 unfolding tables_with
 maps_up s t rise Ward has = rows_rise row_of_ward (row_cmp Ward) ward_cmp wards_alike s.wards rise.wards
@@ -172,7 +172,7 @@ maps_up s t rise Office has = absurd (true≢false (sym has))
 maps_up s t rise Bundle has = absurd (true≢false (sym has))
 maps_up s t rise Vote has = absurd (true≢false (sym has))
 
--- the rows of a state rise, and those of what is tabulated of its counts
+-- the rows of a state are in ascending order, and so are those of the tabulation of its counts
 pub tables_rise : (s : OfficeState) → IsState s → (u : Table) → has_entries u ≡ true → IsStrictlySortedBy (row_cmp u) (tables_of s u)
 unfolding tables_of tables_with
 tables_rise s is Bundle has = rows_rise row_of_placed (row_cmp Bundle) placed_cmp bundles_alike (tabulation_of s).bundles (tabulation_rises s is).bundles
@@ -187,7 +187,7 @@ tables_rise s is Verdict has = maps_up s (tabulation_of s) is.rise Verdict refl
 tables_rise s is Lot has = maps_up s (tabulation_of s) is.rise Lot refl
 tables_rise s is Receipt has = maps_up s (tabulation_of s) is.rise Receipt refl
 
--- maps whose rows rise, rise
+-- maps whose rows are in ascending order are in ascending order
 pub maps_rise : (s : OfficeState) (t : TabulationEntries) → ((u : Table) → has_entries u ≡ true → IsStrictlySortedBy (row_cmp u) (tables_with s t u)) → MapsRise s
 unfolding tables_with
 maps_rise s t each = record {
@@ -203,7 +203,7 @@ maps_rise s t each = record {
 
 -- ---- states
 
--- maps that rise and have the same rows are equal, whatever is tabulated beside them
+-- maps in ascending order with the same rows are equal, whatever the tabulation
 pub equal_maps : (s x : OfficeState) (t u : TabulationEntries) → MapsRise s → MapsRise x → SameContents (tables_with s t) (tables_with x u) → s ≡ x
 unfolding tables_with
 equal_maps s x t u rise also same =
@@ -230,12 +230,12 @@ pub equal_states : (s t : OfficeState) → IsState s → IsState t → SameConte
 unfolding tables_of
 equal_states s t is also same = equal_maps s t (tabulation_of s) (tabulation_of t) is.rise also.rise same
 
--- a database stands for one state
+-- a database represents one state
 pub one_state : (db : Database) (s t : OfficeState) → HoldsState db s → HoldsState db t → s ≡ t
 unfolding IsOffice
 one_state db s t first second = equal_states s t first.is second.is (one_contents (tables_of s) (tables_of t) db.trees first.office.holds second.office.holds)
 
--- what is tabulated beside a state is tabulated of its counts, where its rows rise and are those of the state
+-- a tabulation whose rows are in ascending order, and those of a state, is the tabulation of its counts
 pub tabulated_same : (s x : OfficeState) (t : TabulationEntries) → IsState x → ((u : Table) → has_entries u ≡ true → IsStrictlySortedBy (row_cmp u) (tables_with s t u))
     → SameContents (tables_of x) (tables_with s t) → t ≡ tabulation_of x
 unfolding tables_of tables_with

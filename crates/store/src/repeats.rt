@@ -1,4 +1,4 @@
-//! Whether what is kept of a request that is sent again differs from what the request says.
+//! Compares a repeated request with what is stored of it.
 
 ghost use Rattle.std.specs.Prelude.{◌≡◌, not, ◌&&◌, map, IfOk, IfErr, string_bytes};
 ghost use Rattle.std.specs.List.{list_any};
@@ -28,7 +28,7 @@ use tables::Fault;
 const OFFICE: u32 = 0;
 
 impl<S: Alter> Store<S> {
-    /// Returns whether the ward of this number has other seats or another name.
+    /// Returns whether the ward with this number has other seats or another name.
     fn ward_differs(&mut self, ward: u32, seats: u32, name: &str) -> Result<bool, Fault>
         ensures { Loads S.Store self.old self.new result (λ s found. found ≡ not (is_there (is_ward_of seats name.now) (ward_at s ward))) }
     {
@@ -36,7 +36,7 @@ impl<S: Alter> Store<S> {
         Ok(!is_ward_of(&found, seats, name))
     }
 
-    /// Returns whether a candidate of this number has withdrawn from a ward.
+    /// Returns whether a candidate with this number has withdrawn from a ward.
     fn candidate_withdrew(&mut self, ward: u32, candidate: u32) -> Result<bool, Fault>
         ensures { Loads S.Store self.old self.new result (λ s found. found ≡ has_withdrawn s ward candidate) }
     {
@@ -47,8 +47,8 @@ impl<S: Alter> Store<S> {
         }
     }
 
-    /// Returns whether a candidate of a ward has another name, and none of that number has withdrawn. The receipts are read only
-    /// where the name differs.
+    /// Returns whether a candidate of a ward has another name, and none with that number has withdrawn. The receipts
+    /// are read only if the name differs.
     fn candidate_differs(&mut self, ward: u32, candidate: u32, name: &str) -> Result<bool, Fault>
         ensures { Loads S.Store self.old self.new result (λ s found. found ≡ (is_there (has_other_name name.now) (candidate_at s ward candidate) && not (has_withdrawn s ward candidate))) }
     {
@@ -59,7 +59,7 @@ impl<S: Alter> Store<S> {
         Ok(!self.candidate_withdrew(ward, candidate)?)
     }
 
-    /// Returns whether a batch is of another ward or size, or has other clerks: the first or the second.
+    /// Returns whether a batch is of another ward or size, or has another first or second clerk.
     fn batch_differs(
         &mut self,
         batch: u32,
@@ -89,7 +89,7 @@ impl<S: Alter> Store<S> {
         Ok(!has_texts(&papers, &command.papers))
     }
 
-    /// Returns whether the verdict on a paper is another.
+    /// Returns whether the verdict on a paper differs.
     fn verdict_differs(&mut self, command: &VerdictCommand) -> Result<bool, Fault>
         ensures { Loads S.Store self.old self.new result (λ s found. found ≡ is_verdict_otherwise s command.now) }
     {
@@ -105,8 +105,9 @@ impl<S: Alter> Store<S> {
         Ok(!is_drawn(&lots, stage, candidate))
     }
 
-    /// Returns whether what is kept of a request that is sent again differs from what it says. Nothing is read for a request whose
-    /// subject says all of it. It changes nothing, and adds nothing to what a stop may leave. `Memory` or `Store` if a row can't be read.
+    /// Returns whether what is stored of a repeated request differs from the request. Nothing is read for a request
+    /// whose subject contains all of it. Changes nothing, and adds nothing to what a stop may leave. `Memory` or
+    /// `Store` if a row can't be read.
     pub fn load_differs_from_stored(&mut self, request: &Request) -> Result<bool, Fault>
         ensures shows { HasCleanDisk (state S.Store self.new) → (s : OfficeState) → IsAt s (state S.Store self.old) → IfOk result (λ found. found ≡ is_kept_otherwise s request.now) }
         ensures cause { HasCleanDisk (state S.Store self.new) → (s : OfficeState) → IsAt s (state S.Store self.old) → IfErr result (FailsBy (state S.Store self.old) (state S.Store self.new)) }

@@ -1,4 +1,4 @@
-//! How a ward stands, what comes next in it, its papers, and the columns of a batch's papers, read from the tables.
+//! The status of a ward, its next step, its papers, and the columns of a batch's papers, read from the tables.
 
 ghost use Rattle.std.specs.Prelude.{◌≡◌, ◌+◌, ◌-◌, ◌^◌, true, min, if◌then◌else◌, [], ◌∷◌, map, option_map, IfOk};
 ghost use Rattle.sqlite.specs.State.{HasCleanDisk};
@@ -27,8 +27,7 @@ use register::{Ballots, Batch, CountedWard, JudgedPaper, NextStep, Phase, Status
 use sqlite::Alter;
 use tables::Fault;
 
-/// What some batches come to: how many are taken, how many differ, and how many doubtful papers of the
-/// taken ones have no verdict.
+/// A tally of batches: how many are taken, how many differ, and how many doubtful papers of the taken ones have no verdict.
 #[derive(Clone, Copy)]
 struct Tally {
     taken: usize,
@@ -36,15 +35,14 @@ struct Tally {
     doubtful_open: usize,
 }
 
-/// One where it is so, and else none.
+/// Returns 1 if the condition holds, otherwise 0.
 fn count_of(it_is: bool) -> usize
     ensures { result ≡ (if it_is then 1 else 0) }
 {
     if it_is { 1 } else { 0 }
 }
 
-/// What some batches and others come to together. A sum past the highest number that can be counted is
-/// that number; an office has none, with at most 9999 batches of 500 papers.
+/// Returns the sum of two tallies, saturating at the largest number. No office reaches it, with at most 9999 batches of 500 papers.
 fn both(some: Tally, others: Tally) -> Tally
     ensures taken { result.taken ≡ min (some.taken + others.taken) (2 ^ 64 - 1) }
     ensures differing { result.differing ≡ min (some.differing + others.differing) (2 ^ 64 - 1) }
@@ -57,7 +55,7 @@ fn both(some: Tally, others: Tally) -> Tally
     }
 }
 
-/// What a batch comes to by its keyings and the verdicts on its papers.
+/// Returns the tally of a batch by its keyings and the verdicts on its papers.
 fn standing(keyings: &Keyings, verdicts: &[JudgedPaper]) -> Tally
     ensures { result ≡ tally_by keyings.now verdicts.now }
 {
@@ -69,7 +67,7 @@ fn standing(keyings: &Keyings, verdicts: &[JudgedPaper]) -> Tally
     }
 }
 
-/// What is due in the count of a ward that has been sealed. That of an uncontested ward is finished.
+/// Returns what is due in the count of a ward that has been sealed. The count of an uncontested ward is finished.
 fn due_in(counted: &CountedWard) -> Due
     ensures { (e : ElectionEntry) → IsCountedWard e counted.now → is_counted e.ward.phase ≡ true → result ≡ due_of e }
 {
@@ -80,7 +78,7 @@ fn due_in(counted: &CountedWard) -> Due
 }
 
 impl<S: Alter> Store<S> {
-    /// What a batch comes to.
+    /// Returns the tally of a batch.
     fn tally_of(&mut self, batch: &Batch) -> Result<Tally, Fault>
         ensures { Loads S.Store self.old self.new result (λ s. IsTally s (batch_entry batch.now ∷ [])) }
     {
@@ -88,7 +86,7 @@ impl<S: Alter> Store<S> {
         Ok(standing(&papers.keyings, &papers.verdicts))
     }
 
-    /// What batches come to together, read one after the other.
+    /// Returns the tally of these batches, read one after another.
     fn tally_all(&mut self, batches: &[Batch]) -> Result<Tally, Fault>
         requires { IsOpen S.Store self.old }
         ensures { Loads S.Store self.old self.new result (λ s. IsTally s (map batch_entry batches.now)) }
@@ -105,7 +103,7 @@ impl<S: Alter> Store<S> {
         Ok(tally)
     }
 
-    /// How a ward stands.
+    /// Returns the status of a ward.
     pub(crate) fn ward_status(&mut self, ward: &Ward) -> Result<Status, Fault>
         ensures { Loads S.Store self.old self.new result (λ s found. status_entry found ≡ status_of s (ward_entry ward.now)) }
     {
@@ -124,9 +122,9 @@ impl<S: Alter> Store<S> {
         })
     }
 
-    /// How the ward of this number stands, if there is one. Its batches are read one after the other, each
-    /// with its keyings of the current round and the verdicts on its papers. It changes nothing, and adds
-    /// nothing to what a stop may leave. `Memory` or `Store` where a row can't be read.
+    /// Returns the status of the ward with this number, if there is one. Its batches are read one after another, each
+    /// with its keyings of the current round and the verdicts on its papers. Changes nothing, and adds nothing to what
+    /// a stop may leave. `Memory` or `Store` if a row can't be read.
     pub fn load_status(&mut self, ward: u32) -> Result<Option<Status>, Fault>
         ensures { Loads S.Store self.old self.new result (λ s found. option_map status_entry found ≡ status_at s ward) }
     {
@@ -140,7 +138,7 @@ impl<S: Alter> Store<S> {
         }
     }
 
-    /// What comes next in a ward, which was found with its count. Where its papers are keyed, they are read for it.
+    /// Returns the next step in a ward that was found with its count. If its papers are being keyed, they are read for it.
     fn step_in(&mut self, found: CountedWard) -> Result<NextStep, Fault>
         requires { IsOpen S.Store self.old }
         ensures { Loads S.Store self.old self.new result (λ s step. (w : WardEntry) → IsCountedWard (election_of s w) found → step_entry step ≡ next_of s w) }
@@ -163,9 +161,9 @@ impl<S: Alter> Store<S> {
         }
     }
 
-    /// What comes next in the ward of this number, if there is one. Once it is sealed and has a stage, no paper is read
-    /// for it. It changes nothing, and adds nothing to what a stop may leave. `Memory` or `Store` where a row can't be
-    /// read.
+    /// Returns the next step in the ward with this number, if there is one. Once the ward is sealed and has a stage, no
+    /// paper is read for it. Changes nothing, and adds nothing to what a stop may leave. `Memory` or `Store` if a row
+    /// can't be read.
     pub fn load_next(&mut self, ward: u32) -> Result<Option<NextStep>, Fault>
         ensures { Loads S.Store self.old self.new result (λ s found. option_map step_entry found ≡ next_at s ward) }
     {
@@ -179,9 +177,9 @@ impl<S: Alter> Store<S> {
         }
     }
 
-    /// What the papers of a ward come to: the preferences of each valid paper of the batches that are taken, by batch and paper;
-    /// and how many papers are rejected for each of the five reasons. It changes nothing, and adds nothing to what a stop may
-    /// leave. `Memory` or `Store` where a row can't be read.
+    /// Returns the ballots of a ward: the preferences of each valid paper of the batches that are taken, by batch and
+    /// paper; and how many papers are rejected for each of the five reasons. Changes nothing, and adds nothing to what
+    /// a stop may leave. `Memory` or `Store` if a row can't be read.
     pub fn load_papers(&mut self, ward: u32) -> Result<Ballots<Vec<Prefs>>, Fault>
         ensures { Loads S.Store self.old self.new result (λ s found. StandFor are_listed found (ballots_in (columns_of (candidates_of s ward)) (piles_of s ward))) }
     {
@@ -189,9 +187,9 @@ impl<S: Alter> Store<S> {
         self.find_ballots(none, ward)
     }
 
-    /// The same with equal papers kept once: each list of preferences, with the number of valid papers that have it. They stand
-    /// for the papers of `load_papers`, up to their order. It changes nothing, and adds nothing to what a stop may leave.
-    /// `Memory` or `Store` where a row can't be read.
+    /// Returns the same ballots with equal papers bundled: each list of preferences, with the number of valid papers
+    /// that have it. They are the papers of `load_papers`, up to their order. Changes nothing, and adds nothing to what
+    /// a stop may leave. `Memory` or `Store` if a row can't be read.
     pub fn load_bundles(&mut self, ward: u32) -> Result<Ballots<Bundles>, Fault>
         ensures loads { Loads S.Store self.old self.new result (λ s found. StandFor are_bundled found (ballots_in (columns_of (candidates_of s ward)) (piles_of s ward))) }
         ensures same { HasCleanDisk (state S.Store self.new) → (s : OfficeState) → IsAt s (state S.Store self.old)
@@ -202,8 +200,8 @@ impl<S: Alter> Store<S> {
         self.find_ballots(none, ward)
     }
 
-    /// The columns of the papers of the batch with this number, if there is one. It changes nothing, and
-    /// adds nothing to what a stop may leave. `Memory` or `Store` where a row can't be read.
+    /// Returns the columns of the papers of the batch with this number, if there is one. Changes nothing, and adds
+    /// nothing to what a stop may leave. `Memory` or `Store` if a row can't be read.
     pub fn load_columns(&mut self, batch: u32) -> Result<Option<Columns>, Fault>
         ensures { Loads S.Store self.old self.new result (λ s found. found ≡ columns_at s batch) }
     {

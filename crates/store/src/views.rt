@@ -30,7 +30,7 @@ use sqlite::Alter;
 use tables::Fault;
 
 impl<S: Alter> Store<S> {
-    /// The part of the state that an actor's command needs, and the count that a stage is to be added to.
+    /// Returns the part of the state that an actor's command needs, and the count that a stage is to be added to.
     fn find_part(&mut self, actor: u32, command: &Command) -> Result<Part, Fault>
         ensures { Loads S.Store self.old self.new result (λ s part. (part_entries part ≡ part_of s actor command.now) × IsCountFor s command.now part.count) }
     {
@@ -67,7 +67,7 @@ impl<S: Alter> Store<S> {
         }
     }
 
-    /// What the machine sees of the tables for one request. Where it has a receipt, that is read and nothing else.
+    /// Returns what the machine sees of the tables for one request. If the request has a receipt, only that is read.
     fn view_of<'a>(&mut self, actor: u32, id: &'a str, command: &Command) -> Result<View<'a>, Fault>
         ensures told { Loads S.Store self.old self.new result (λ s. IsViewOf s command.now) }
         ensures asked { IfOk result (λ view. (view.actor ≡ actor) × (view.id.now ≡ id.now)) }
@@ -90,8 +90,8 @@ impl<S: Alter> Store<S> {
         })
     }
 
-    /// What the machine sees of the state for one request. It changes nothing, and adds nothing to what
-    /// a stop may leave. `Memory` or `Store` where a row can't be read.
+    /// Returns what the machine sees of the state for one request. Changes nothing, and adds nothing to what a stop may
+    /// leave. `Memory` or `Store` if a row can't be read.
     pub fn load_view<'a>(
         &mut self,
         actor: u32,

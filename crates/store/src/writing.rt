@@ -36,8 +36,8 @@ use tables::{Fault, Setting, Table};
 /// The schema version of this program's offices.
 pub(crate) const VERSION: u32 = 2;
 
-/// Writes what a command does to the state: adds the row of what is new, sets what is otherwise in a row that is
-/// there, or removes the row of a candidate.
+/// Writes the effect of a command on the state: inserts the row of a new entry, sets the columns that change in an
+/// existing row, or deletes the row of a candidate.
 fn write_effect<S: Alter>(
     alloc: Global,
     tx: &mut Transaction<'_, S>,
@@ -69,7 +69,7 @@ fn write_effect<S: Alter>(
     }
 }
 
-/// Writes a change: its effect, what it adds to the tabulation, and the receipt beside them.
+/// Writes a change: its effect, what it adds to the tabulation, and the receipt.
 pub(crate) fn write_change<S: Alter>(
     alloc: Global,
     tx: &mut Transaction<'_, S>,
@@ -83,7 +83,7 @@ pub(crate) fn write_change<S: Alter>(
     add_entry::<Receipts, S>(alloc, tx, &change.receipt)
 }
 
-/// Makes all tables of an empty office, and adds the office row, of this program's version.
+/// Creates all tables of an empty office, and inserts the office row with this program's version.
 pub(crate) fn write_new_office<S: Alter>(tx: &mut Transaction<'_, S>) -> Result<(), Fault>
     ensures { Alters S.Store tx.old.conn tx.new.conn result (λ (x : ⊤). SeesNothing) (λ x. Sees (tables_of empty_office)) }
 {

@@ -1,4 +1,4 @@
--- How the papers of a book stand to the places that the law gives them, and what is added to its stages.
+-- How the papers of a book match the places that the law assigns them, and what is added to its stages.
 use Rattle.std.specs.Prelude.{◌≡◌, ℕ, ◌+◌, ◌==◌, not, List, [], ◌∷◌, map}
 use Rattle.std.specs.List.{filter, sum_by}
 use Rattle.count.specs.Law.Contest.{Contest, History, IsContest, numbers}
@@ -21,12 +21,12 @@ rest_at paper at = from_first (λ d. d == at.holder) paper
 abbrev pub at_place : (ℕ → List ℕ → ℕ → ℕ) → List ℕ → Place → ℕ
 at_place f paper at = f at.holder (rest_at paper at) at.value
 
--- whatever is added up over the papers of a contest at their places comes to the same over the holdings
+-- the holdings match the law: any sum over the papers of a contest at their places equals the sum over the holdings
 abbrev pub HoldPapers : Contest → History → List Holding → Type 0
 HoldPapers contest stages holdings =
     (f : ℕ → List ℕ → ℕ → ℕ) → sum_by (λ paper. at_place f paper (place contest stages paper)) contest.papers ≡ total f holdings
 
--- the same once an action has come: the papers lie in what it moved and in what it left
+-- the same after an action: the papers are those that it moved and those that it left
 abbrev pub IsMovedBy : Contest → History → Action → List Holding → List Holding → Type 0
 IsMovedBy contest before action holdings moved =
     (f : ℕ → List ℕ → ℕ → ℕ) (s : Stage) → s.action ≡ action →
@@ -36,13 +36,13 @@ IsMovedBy contest before action holdings moved =
 abbrev pub with_newly : Stage → List ℕ → Stage
 with_newly s newly = record { action = s.action; votes = s.votes; elected = newly; non_transferable = s.non_transferable; lost = s.lost }
 
--- a history with one stage more, in which the newly elected are filled in
+-- a history with one more stage, with its newly elected filled in
 pub record IsAdded (terms : Terms) (old : History) (bare : Stage) (new : History) : Type 0 where
   pub newly : List ℕ
   pub one_more : new ≡ with_newly bare newly ∷ old
   pub newly_is : newly ≡ filter (λ c. not (is_elected (contest_of terms []) old c)) (elected_after (contest_of terms []) (with_newly bare newly ∷ old))
 
--- a history with one stage more, made of the papers that an action moved
+-- a history with one more stage, computed from the papers that an action moved
 pub record Records (terms : Terms) (old : History) (action : Action) (moved : List Holding) (new : History) : Type 0 where
   pub stage : Stage
   pub one_more : new ≡ stage ∷ old
@@ -52,12 +52,12 @@ pub record Records (terms : Terms) (old : History) (action : Action) (moved : Li
   pub non_transferable_is : stage.non_transferable ≡ newest_non_transferable old + worth_to 0 moved
   pub lost_is : stage.lost ≡ lost_with terms.quota old action moved
 
--- how the holdings of a book stand to its contest: before the first stage there are none
+-- how the holdings of a book match its contest: before the first stage there are none
 abbrev pub AreHeld : Contest → History → List Holding → Type 0
 AreHeld contest [] holdings = holdings ≡ []
 AreHeld contest (s ∷ before) holdings = HoldPapers contest (s ∷ before) holdings × AreRankings contest.papers
 
--- what always holds of a book and its holdings
+-- the invariant of a book and its holdings
 pub record IsBook (contest : Contest) (history : History) (holdings : List Holding) : Type 0 where
   pub fair : IsContest contest
   pub right : IsRightByItself contest history

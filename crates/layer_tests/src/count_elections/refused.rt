@@ -1,4 +1,4 @@
-//! Growths that are refused, by `rt try --test --fail-alloc 1..` and tools/try refused-in-tests: each call that fails is made once more.
+//! Allocations that fail, one by one, by `rt try --test --fail-alloc N`: each failed call is repeated.
 
 ghost use Rattle.std.specs.Prelude.{◌≡◌, []};
 

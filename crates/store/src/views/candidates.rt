@@ -15,7 +15,7 @@ use tables::cells::number;
 use tables::finding::{entries_beginning, find_entry};
 
 impl<S: Alter> Store<S> {
-    /// The candidate with this number in this ward, if there is one.
+    /// Returns the candidate with this number in this ward, if there is one.
     pub(crate) fn find_candidate(
         &mut self,
         ward: u32,
@@ -26,14 +26,14 @@ impl<S: Alter> Store<S> {
         find_entry::<Candidates, S>(&mut self.conn, &[number(ward), number(candidate)])
     }
 
-    /// The candidates of a ward, in the order of their numbers.
+    /// Returns the candidates of a ward, in the order of their numbers.
     pub(crate) fn list_candidates(&mut self, ward: u32) -> Result<Vec<Candidate>, Fault>
         ensures { Loads S.Store self.old self.new result (λ s found. map candidate_entry found.items ≡ candidates_of s ward) }
     {
         entries_beginning::<Candidates, S>(self.alloc, &mut self.conn, &[number(ward)])
     }
 
-    /// The ward of this number with its candidates, if it is there. Its count isn't read.
+    /// Returns the ward with this number and its candidates, if there is one. Its count isn't read.
     pub(crate) fn find_contest(&mut self, ward: u32) -> Result<Option<CountedWard>, Fault>
         ensures { Loads S.Store self.old self.new result (λ s. IsContestAt s ward) }
     {
@@ -49,7 +49,7 @@ impl<S: Alter> Store<S> {
         }))
     }
 
-    /// The part of a command that needs a ward and its candidates.
+    /// Returns the part of a command that needs a ward and its candidates.
     pub(crate) fn contest_part(&mut self, ward: u32) -> Result<Part, Fault>
         ensures { Loads S.Store self.old self.new result (λ s part. part_entries part ≡ record empty_part { ward = ward_at s ward; candidates = candidates_of s ward }) }
     {
@@ -58,7 +58,7 @@ impl<S: Alter> Store<S> {
         Ok(Part { candidates, ..part })
     }
 
-    /// The part of a command that needs a ward and one of its candidates.
+    /// Returns the part of a command that needs a ward and one of its candidates.
     pub(crate) fn candidate_part(&mut self, ward: u32, candidate: u32) -> Result<Part, Fault>
         ensures { Loads S.Store self.old self.new result (λ s part. part_entries part ≡ record empty_part { ward = ward_at s ward; candidate = candidate_at s ward candidate }) }
     {

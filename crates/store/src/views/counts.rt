@@ -20,8 +20,8 @@ use sqlite::Alter;
 use std::alloc::Global;
 use tables::Fault;
 
-/// The part of a command that needs the poll of an election, if it is there. It fails only where the ward has no seats, or more
-/// than it can have; no ward of an office is such a one.
+/// Returns the part of a command that needs the poll of an election, if there is one. It fails only if the ward has no
+/// seats, or more than a ward can have; no ward of an office does.
 fn polled(alloc: Global, found: Option<Election>) -> Result<Part, Fault>
     ensures part { IfOk result (λ part. (entry : Option ElectionEntry) → IsFoundFor found entry → part_entries part ≡ polled_part entry) }
     ensures cause { IfErr result (λ f. f ≡ Fault.Store) }
@@ -41,8 +41,7 @@ fn polled(alloc: Global, found: Option<Election>) -> Result<Part, Fault>
     })
 }
 
-/// Where the count of a ward stands. That of an uncontested ward is finished, and all its candidates are
-/// elected.
+/// Returns the progress of a ward's count. That of an uncontested ward is finished, and all its candidates are elected.
 fn progress_of(found: &CountedWard) -> Progress
     ensures { (e : ElectionEntry) → IsWardCount e found.now → (result.due ≡ due_of e) × (result.elected ≡ elected_of e) }
 {
@@ -55,8 +54,7 @@ fn progress_of(found: &CountedWard) -> Progress
     }
 }
 
-/// The part of a command that needs what is due in the count of a ward, if it is there, who is elected, and
-/// the count.
+/// Returns the part of a command that needs what is due in the count of a ward, if there is one, those elected, and the count.
 fn counted(alloc: Global, found: Option<CountedWard>) -> Part
     ensures part { (entry : Option ElectionEntry) → IsCountedFor entry found → part_entries result ≡ counted_part entry }
     ensures count { (entry : Option ElectionEntry) → IsCountedFor entry found → IsShown entry result.count }
@@ -76,7 +74,7 @@ fn counted(alloc: Global, found: Option<CountedWard>) -> Part
 }
 
 impl<S: Alter> Store<S> {
-    /// The part of the command that seals a ward: the ward, and the poll of its papers.
+    /// Returns the part of the command that seals a ward: the ward, and the poll of its papers.
     pub(crate) fn seal_part(&mut self, ward: u32) -> Result<Part, Fault>
         ensures { Loads S.Store self.old self.new result (λ s part. part_entries part ≡ record empty_part { ward = ward_at s ward; poll = poll_for s (ward_at s ward) }) }
     {
@@ -85,8 +83,8 @@ impl<S: Alter> Store<S> {
         Ok(part)
     }
 
-    /// The count of a contested ward with no stage done, begun on its papers, by what was found of it; and how many of the papers
-    /// are rejected. None where it has more seats than a ward can have; no ward of an office has.
+    /// Returns the count of a contested ward with no stage done, begun from its papers, and how many of the papers are
+    /// rejected. None if the ward has more seats than a ward can have; no ward of an office does.
     pub(crate) fn begun_sheet(&mut self, contest: CountedWard) -> Result<Option<WardSheet>, Fault>
         ensures { Loads S.Store self.old self.new result
             (λ s found. IsThere s contest → has_count (election_in s contest) ≡ true → contest.ward.done ≡ 0 → IsBegun (election_in s contest) found) }
@@ -99,8 +97,8 @@ impl<S: Alter> Store<S> {
         }
     }
 
-    /// The count of a contested ward that has a stage, as it was kept, by what is
-    /// tabulated alone. None where what is tabulated is of no count, as in no office.
+    /// Returns the count of a contested ward that has a stage, as it was stored, from the tabulation alone. None if the
+    /// tabulation is not that of any count; in an office it always is.
     pub(crate) fn resumed_count(
         &mut self,
         contest: CountedWard,
@@ -118,7 +116,7 @@ impl<S: Alter> Store<S> {
         }
     }
 
-    /// The count of a contested ward, by what was found of it: begun on its papers where no stage is done, and else by what is tabulated alone.
+    /// Returns the count of a contested ward: begun from its papers if no stage is done, otherwise from the tabulation alone.
     pub(crate) fn contested_count(
         &mut self,
         contest: CountedWard,
@@ -136,7 +134,7 @@ impl<S: Alter> Store<S> {
         }
     }
 
-    /// The ward of this number, if it is there, and its count where it is contested.
+    /// Returns the ward with this number, if there is one, and its count if it is contested.
     fn find_count(&mut self, ward: u32) -> Result<Option<CountedWard>, Fault>
         ensures { Loads S.Store self.old self.new result (λ s found. IsCountedFor (option_map (election_of s) (ward_at s ward)) found) }
     {
@@ -154,7 +152,7 @@ impl<S: Alter> Store<S> {
         Ok(count)
     }
 
-    /// The part of a command that needs where the count of a ward stands: the ward, what is due, who is elected,
+    /// Returns the part of a command that needs the progress of a ward's count: the ward, what is due, those elected,
     /// and the count itself.
     pub(crate) fn count_part(&mut self, ward: u32) -> Result<Part, Fault>
         ensures { Loads S.Store self.old self.new result
@@ -165,7 +163,7 @@ impl<S: Alter> Store<S> {
         Ok(counted(self.allocator(), found))
     }
 
-    /// The part of the command about a lot: where the count of the ward stands, and the candidate.
+    /// Returns the part of the command about a lot: the progress of the ward's count, and the candidate.
     pub(crate) fn lot_part(&mut self, ward: u32, candidate: u32) -> Result<Part, Fault>
         ensures { Loads S.Store self.old self.new result
             (λ s part. part_entries part ≡ record empty_part {

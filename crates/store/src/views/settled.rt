@@ -1,4 +1,4 @@
-//! The papers of a ward whose batches are all settled, taken in row by row where two clerks keyed a batch.
+//! The papers of a ward whose batches are all settled, read row by row if two clerks keyed a batch.
 
 ghost use Rattle.std.specs.Prelude.{◌≡◌, [], map, Some, IfOk, IfErr};
 ghost use Rattle.tables.specs.declared.fault.Fault.{Fault};
@@ -19,7 +19,7 @@ use tables::Fault;
 use tables::cells::number;
 use tables::walking::{Visitor, walk_beginning};
 
-/// Where the walk through the papers of a batch begins, for its proof alone.
+/// What the walk through the papers of a batch begins with, for its proof alone.
 pub(crate) trait Start {
     ghost use Rattle.std.specs.Prelude.{ℕ, List};
     ghost use Rattle.register.specs.declared.polls.Judgement.{Judgement};
@@ -45,7 +45,7 @@ impl Start for Brand {
     ghost verdicts = { [] };
 }
 
-/// What counts the papers of a batch that is settled, one after the other.
+/// Counts the papers of a settled batch, one after another.
 #[derive(Drop)]
 struct SettledPapers<P, B> {
     ballots: Ballots<P>,
@@ -71,8 +71,8 @@ impl<P: KeepsPapers, B: Start> Visitor<KeyedPapers> for SettledPapers<P, B> {
     }
 }
 
-/// Adds the papers of a keying of a batch that is settled, one after the other. An error is `Memory`, and the
-/// papers before are spoilt then.
+/// Adds the papers of a keying of a settled batch, one after another. An error is `Memory`, after which the papers
+/// before are unusable.
 fn add_each<P: KeepsPapers>(
     ballots: &mut Ballots<P>,
     columns: Columns,
@@ -91,8 +91,8 @@ fn add_each<P: KeepsPapers>(
 }
 
 impl<S: Alter> Store<S> {
-    /// Adds the papers of a batch as the one of its two clerks with the lower
-    /// number keyed them in its current round, row by row, where the walk begins.
+    /// Adds the papers of a batch as the clerk with the lower number of its two keyed them in its current round, row by
+    /// row, to those that the walk begins with.
     fn walk_papers<P: KeepsPapers + Drop, B: Start>(
         &mut self,
         ballots: Ballots<P>,
@@ -125,7 +125,8 @@ impl<S: Alter> Store<S> {
         Ok(counted.ballots)
     }
 
-    /// Adds the papers of a batch that a third clerk keys too, with these verdicts: those of the first of its keyings that another one equals.
+    /// Adds the papers of a batch that a third clerk keys too, with these verdicts: those of the first keying that
+    /// another one equals.
     fn add_agreed<P: KeepsPapers + Drop>(
         &mut self,
         ballots: Ballots<P>,
@@ -144,7 +145,7 @@ impl<S: Alter> Store<S> {
         Ok(counted)
     }
 
-    /// Adds the papers of a batch that is settled, whose verdicts these are.
+    /// Adds the papers of a settled batch with these verdicts.
     fn add_batch<P: KeepsPapers + Drop>(
         &mut self,
         ballots: Ballots<P>,
@@ -168,7 +169,7 @@ impl<S: Alter> Store<S> {
         }
     }
 
-    /// What the papers of batches come to where each is settled, kept in what holds none yet.
+    /// Returns the ballots of batches that are all settled, in a collection that is still empty.
     pub(crate) fn settled_ballots<P: KeepsPapers + Drop>(
         &mut self,
         kept: P,

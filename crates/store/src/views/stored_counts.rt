@@ -1,4 +1,4 @@
-//! The count of a ward as it was kept, read from what is tabulated of it alone.
+//! The stored count of a ward, read from its tabulation alone.
 
 ghost use Rattle.std.specs.Prelude.{◌≡◌, true, map, option_map};
 ghost use Rattle.register.specs.Offices.{ward_at};
@@ -21,21 +21,22 @@ use tables::cells::number;
 use tables::finding::entries_beginning;
 
 impl<S: Alter> Store<S> {
-    /// The bundles of a ward, in the order of their lists.
+    /// Returns the bundles of a ward, in the order of their lists.
     fn list_bundles(&mut self, ward: u32) -> Result<Vec<PlacedBundle>, Fault>
         ensures { Loads S.Store self.old self.new result (λ s found. map placed_entry found.items ≡ bundles_at s ward) }
     {
         entries_beginning::<PlacedBundles, S>(self.alloc, &mut self.conn, &[number(ward)])
     }
 
-    /// The figures of the stages of a ward, in the order of stages and candidates.
+    /// Returns the figures of the stages of a ward, in the order of stages and candidates.
     fn list_figures(&mut self, ward: u32) -> Result<Vec<StageFigure>, Fault>
         ensures { Loads S.Store self.old self.new result (λ s found. map figure_entry found.items ≡ figures_at s ward) }
     {
         entries_beginning::<StageFigures, S>(self.alloc, &mut self.conn, &[number(ward)])
     }
 
-    /// What is kept of the count of a ward that has a stage, by what was found of it. None where what is tabulated is of no count, as in no office.
+    /// Returns what is stored of the count of a ward that has a stage. None if the tabulation is not that of any count;
+    /// in an office it always is.
     fn read_book(&mut self, contest: &CountedWard) -> Result<Option<KeptCount>, Fault>
         ensures { Loads S.Store self.old self.new result
             (λ s found. IsThere s contest.now → has_stages (election_in s contest.now) ≡ true → IsKept (election_in s contest.now) found) }
@@ -55,7 +56,7 @@ impl<S: Alter> Store<S> {
         }
     }
 
-    /// The count of a ward that has a stage, by what was found of it, what is tabulated, and its lots.
+    /// Returns the count of a ward that has a stage, from its tabulation and its lots.
     pub(crate) fn kept_count(&mut self, contest: &CountedWard) -> Result<Option<Count>, Fault>
         ensures { Loads S.Store self.old self.new result
             (λ s found. IsThere s contest.now → has_stages (election_in s contest.now) ≡ true → IsCount (election_in s contest.now) found) }
@@ -68,9 +69,9 @@ impl<S: Alter> Store<S> {
         }
     }
 
-    /// The count of the ward of this number as it was kept, by what is tabulated of it and by its lots; no paper is read. There
-    /// is one where the ward is there and contested, once a stage is done; else there is none. It changes nothing, and adds
-    /// nothing to what a stop may leave. `Memory` or `Store` where a row can't be read.
+    /// Returns the stored count of the ward with this number, from its tabulation and its lots; no paper is read. There
+    /// is one if the ward exists, is contested and has a stage done; otherwise none is returned. Changes nothing, and
+    /// adds nothing to what a stop may leave. `Memory` or `Store` if a row can't be read.
     pub fn load_book(&mut self, ward: u32) -> Result<Option<Count>, Fault>
         ensures { Loads S.Store self.old self.new result (λ s found. IsBookFor (option_map (election_of s) (ward_at s ward)) found) }
     {

@@ -14,21 +14,21 @@ use tables::cells::number;
 use tables::finding::{entries_beginning, find_entry};
 
 impl<S: Alter> Store<S> {
-    /// The ward with this number, if it is there.
+    /// Returns the ward with this number, if there is one.
     pub(crate) fn find_ward(&mut self, ward: u32) -> Result<Option<Ward>, Fault>
         ensures { Loads S.Store self.old self.new result (λ s found. option_map ward_entry found ≡ ward_at s ward) }
     {
         find_entry::<Wards, S>(&mut self.conn, &[number(ward)])
     }
 
-    /// All wards, in the order of their numbers.
+    /// Returns all wards, in the order of their numbers.
     pub(crate) fn all_wards(&mut self) -> Result<Vec<Ward>, Fault>
         ensures { Loads S.Store self.old self.new result (λ s found. map ward_entry found.items ≡ s.wards) }
     {
         entries_beginning::<Wards, S>(self.alloc, &mut self.conn, &[])
     }
 
-    /// The part of a command that needs a ward.
+    /// Returns the part of a command that needs a ward.
     pub(crate) fn ward_part(&mut self, ward: u32) -> Result<Part, Fault>
         ensures { Loads S.Store self.old self.new result (λ s part. part_entries part ≡ record empty_part { ward = ward_at s ward }) }
     {

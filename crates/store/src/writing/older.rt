@@ -19,7 +19,7 @@ use tables::making::create_table;
 use tables::replacement::set_value;
 use tables::{Fault, Setting, Table};
 
-/// Makes the last three tables, each with no row.
+/// Creates the last three tables, all empty.
 fn create_last_three<S: Alter>(tx: &mut Transaction<'_, S>) -> Result<(), Fault>
     ensures { Alters S.Store tx.old.conn tx.new.conn result (λ (c : Contents) s. (c Table.Bundle ≡ []) × (c Table.Vote ≡ []) × (c Table.Third ≡ []) × SeesMade 8 c s) (SeesMade 11) }
 {
@@ -28,7 +28,7 @@ fn create_last_three<S: Alter>(tx: &mut Transaction<'_, S>) -> Result<(), Fault>
     create_table(tx, Table::Third)
 }
 
-/// Makes the tables that an office of this form lacks, each with no row.
+/// Creates the tables that an office of this form lacks, all empty.
 fn create_missing<S: Alter>(tx: &mut Transaction<'_, S>, form: OlderForm) -> Result<(), Fault>
     ensures { Alters S.Store tx.old.conn tx.new.conn result (SeesOlder form) (λ s. Sees (older_tables form s)) }
 {
@@ -38,7 +38,7 @@ fn create_missing<S: Alter>(tx: &mut Transaction<'_, S>, form: OlderForm) -> Res
     }
 }
 
-/// Makes of an older office one of this program's: the tables that it lacks, the version in the office row,
+/// Migrates an older office to this program's version: writes the tables that it lacks, the version in the office row,
 /// and the rows that it lacks.
 pub(crate) fn write_migration<S: Alter>(
     alloc: Global,

@@ -1,4 +1,4 @@
--- Why `counted` keeps its promise.
+-- Proof that `counted` meets its contract.
 use Rattle.std.proofs.Common.{◌≡◌, ◌∙◌, sym, ap, subst, rules}
 use Rattle.count.specs.Bundles.{papers_of}
 use Rattle.count.specs.Law.Contest.{IsContest, contest_for}

@@ -1,4 +1,4 @@
--- What holds each time round the loop of `behind_signs`: the bytes so far are signs.
+-- The invariant of the loop in `behind_signs`: the bytes so far are signs.
 use Rattle.std.proofs.Common.{◌≡◌, drop}
 use Rattle.checker.specs.ForeignComments.{behind_signs}
 use Rattle.checker.proofs.foreign_comments.behind_signs.Given as goal

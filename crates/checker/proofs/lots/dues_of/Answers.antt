@@ -1,4 +1,4 @@
--- Why `dues_of` keeps its promise.
+-- Proof that `dues_of` meets its contract.
 use Rattle.std.proofs.Common.{◌≡◌, ap, map, subst}
 use Rattle.std.specs.Prelude.{IfOk}
 use Rattle.std.specs.List.{range_with_len}

@@ -1,4 +1,4 @@
--- Why `print_report` keeps its promise.
+-- Proof that `print_report` meets its contract.
 use Rattle.std.proofs.Common.{inr}
 use Rattle.checker.proofs.printing.print_report.Goals as goal
 

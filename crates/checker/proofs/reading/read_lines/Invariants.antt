@@ -1,4 +1,4 @@
--- What holds each time round the loop of `read_lines`: the lines that are left, behind those so far, tell what all of them tell.
+-- The invariant of the loop in `read_lines`: the remaining lines, after those so far, determine the content of all of them.
 use Rattle.std.proofs.Common.{◌≡◌, map, drop}
 use Rattle.checker.specs.Reading.{nothing_told, read_from}
 use Rattle.checker.specs.Views.{reading_of}

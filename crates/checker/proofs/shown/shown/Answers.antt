@@ -1,4 +1,4 @@
--- Why `shown` keeps its promise.
+-- Proof that `shown` meets its contract.
 use Rattle.std.proofs.Common.{flat_map, sym, ap, ◌∙◌, map-id}
 use Rattle.std.proofs.lemmas.Iterator.{YieldsList-from_chars}
 use Rattle.std.proofs.lemmas.Iterator.Consumers.{YieldsList-end}

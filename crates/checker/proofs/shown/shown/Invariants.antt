@@ -1,4 +1,4 @@
--- What holds each time round the loop of `shown`: the text has the characters so far.
+-- The invariant of the loop in `shown`: the text contains the characters so far.
 use Rattle.std.proofs.Common.{◌≡◌, flat_map}
 use Rattle.std.specs.Prelude.{string_bytes}
 use Rattle.checker.specs.Reports.{shown_character}

@@ -1,4 +1,4 @@
--- Of the proof of `act`: what is shown by hand.
+-- Parts of the proof of `act` that are done by hand.
 use Rattle.std.proofs.Common.{◌∙◌, ◌+◌, List, reverse, ap, sym, subst}
 use Rattle.count.specs.Law.Contest.{Contest, History}
 use Rattle.count.specs.Advance.{Adds}
@@ -11,7 +11,7 @@ use Rattle.count.proofs.TallyLemmas.{moved-small, surplus-column, records-adds, 
 use Rattle.count.proofs.act.act.Goals as goal
 use Rattle.count.proofs.act.act.Goals.{In_ok-moved, After-record_stage}
 
--- the clause of the call that moved the papers, over the vectors that were lent to it
+-- the clause of the call that moved the papers, for the borrowed vectors
 is_moved : (c : In_ok-moved) → IsMovedBy (contest_of c.args.terms.now c.args.papers.now) (reverse c.args.stages.now.items) c.args.action.now c.args.holdings.now.items c.in_ok-moved.moved.items
 is_moved c =
     let contest : Contest = contest_of c.args.terms.now c.args.papers.now in
@@ -31,7 +31,7 @@ record_stage-requires-clause-small c =
     subst (λ (l : List Stage). AreSmall (reverse l) c.deref-3.result.now) (sym c.in_ok-try_reserve-2.ensures.items)
     (subst (λ (l : List Holding). AreSmall (reverse c.args.stages.now.items) l) (sym c.deref-3.ensures.value) small)
 
--- what was recorded, over the vectors that were lent
+-- what was recorded, for the borrowed vectors
 recorded : (c : After-record_stage) → Records c.args.terms.now (reverse c.args.stages.now.items) c.args.action.now c.in_ok-moved.moved.items (reverse c.record_stage.new.stages.items)
 recorded c =
     subst (λ (l : List Holding). Records c.args.terms.now (reverse c.args.stages.now.items) c.args.action.now l (reverse c.record_stage.new.stages.items)) c.deref-3.ensures.value

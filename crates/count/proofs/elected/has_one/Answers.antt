@@ -1,4 +1,4 @@
--- Of the proof of `has_one`: what is shown by hand.
+-- Parts of the proof of `has_one` that are done by hand.
 use Rattle.std.proofs.Common.{◌∙◌, ◌||◌, Bool, sym, ap, ap₂, subst, slice_index}
 use Rattle.std.specs.List.{list_any}
 use Rattle.std.proofs.lemmas.List.{take_all}

@@ -1,4 +1,4 @@
--- Of the proof of `those`: what is shown by hand.
+-- Parts of the proof of `those` that are done by hand.
 use Rattle.std.proofs.Common.{◌∙◌, sym, subst, slice_index}
 use Rattle.paper.specs.Columns.{IsColumnSet}
 use Rattle.count.proofs.ColumnLemmas.{chosen-yes, chosen-no}

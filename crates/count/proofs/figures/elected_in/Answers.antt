@@ -1,4 +1,4 @@
--- Of the proof of `elected_in`: what is shown by hand.
+-- Parts of the proof of `elected_in` that are done by hand.
 use Rattle.std.proofs.Common.{◌∙◌, ap, sym, subst}
 use Rattle.paper.specs.Columns.{IsColumnSet}
 use Rattle.count.specs.declared.figures.Figure.{Figure}

@@ -1,4 +1,4 @@
--- Of the proof of `are_sound`: what holds at each round of its loop.
+-- The invariant of the loop in `are_sound`.
 use Rattle.std.proofs.Common.{take}
 use Rattle.std.specs.List.{AllByRecursion}
 use Rattle.count.specs.Inside.Placing.{IsSound}

@@ -1,4 +1,4 @@
--- Of the proof of `moved_by`: what is shown by hand.
+-- Parts of the proof of `moved_by` that are done by hand.
 use Rattle.std.proofs.Common.{◌≡◌, ◌∙◌, ℕ, ◌-◌, ap, sym, subst, reverse, arith}
 use Rattle.count.specs.Law.Contest.{Contest, History, newest_votes}
 use Rattle.count.specs.Inside.Holdings.{total_passed}

@@ -1,4 +1,4 @@
--- Of the proof of `moved_places`: what is shown by hand.
+-- Parts of the proof of `moved_places` that are done by hand.
 use Rattle.std.proofs.Common.{◌∙◌, [], ◌∷◌, ap, sym, subst, reverse}
 use Rattle.count.specs.Law.Contest.{Contest, History}
 use Rattle.count.specs.Law.Count.{begun}

@@ -1,4 +1,4 @@
--- Of the proof of `add_stage`: what is shown by hand.
+-- Parts of the proof of `add_stage` that are done by hand.
 use Rattle.std.proofs.Common.{rules, ◌≡◌, ◌∙◌, ℕ, not, nat_eq, List, [], ◌∷◌, ◌++◌, length, get_or, reverse, ap, sym, subst}
 use Rattle.std.specs.List.{list_any, filter}
 use Rattle.std.proofs.Math.ListN.{set}

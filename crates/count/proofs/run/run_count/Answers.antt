@@ -1,4 +1,4 @@
--- Of the proof of `run_count`: what is shown by hand.
+-- Parts of the proof of `run_count` that are done by hand.
 use Rattle.std.proofs.Common.{◌≡◌, ◌+◌, length, ap, sym, ◌∙◌, subst, Some}
 use Rattle.count.specs.Advance.{AdvancesBy, end_after}
 use Rattle.count.specs.Law.Contest.{IsContest, Contest, History}

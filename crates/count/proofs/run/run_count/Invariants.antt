@@ -1,4 +1,4 @@
--- Of the proof of `run_count`: what holds at each round of its loop, and what gets less.
+-- The invariant and the variant of the loop in `run_count`.
 use Rattle.std.proofs.Common.{◌≡◌, ◌+◌, ◌-◌, ◌*◌, length}
 use Rattle.count.specs.Law.Right.{IsRight, IsBeginning}
 use Rattle.count.proofs.run.run_count.Given as goal

@@ -1,4 +1,4 @@
--- Of the proof of `add_paper`: what is shown by hand.
+-- Parts of the proof of `add_paper` that are done by hand.
 use Rattle.std.proofs.Common.{rules, ◌≡◌, ◌∙◌, ℕ, ◌+◌, ◌-◌, ◌<◌, length, ap, refl}
 use Rattle.count.specs.Inside.Holdings.{total_of}
 use Rattle.count.proofs.ParcelTotals.{total_of-set}

@@ -1,4 +1,4 @@
--- Of the proof of `empty_holdings`: what is shown by hand.
+-- Parts of the proof of `empty_holdings` that are done by hand.
 use Rattle.std.proofs.Common.{rules, ◌≡◌, ◌+◌, length}
 use Rattle.count.proofs.ParcelTotals.{total-empty, numbered-push}
 use Rattle.count.proofs.sorting.empty_holdings.Goals as goal

@@ -1,4 +1,4 @@
--- Of the proof of `empty_holdings`: what holds at each round of its loop.
+-- The invariant of the loop in `empty_holdings`.
 use Rattle.std.proofs.Common.{◌≡◌, ℕ, List, vec_len}
 use Rattle.count.specs.Inside.Holdings.{total, AreNumbered}
 use Rattle.count.proofs.sorting.empty_holdings.Given as goal

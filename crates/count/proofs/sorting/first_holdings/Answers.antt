@@ -1,4 +1,4 @@
--- Of the proof of `first_holdings`: what is shown by hand.
+-- Parts of the proof of `first_holdings` that are done by hand.
 use Rattle.std.proofs.Common.{◌≡◌, ◌∙◌, ℕ, ◌<◌, List, length, get_or, ap, arith}
 use Rattle.std.proofs.lemmas.List.Sums.{sum_by_more}
 use Rattle.votes.specs.Units.{one_vote}

@@ -1,4 +1,4 @@
--- Of the proof of `first_holdings`: what holds at each round of its loop.
+-- The invariant of the loop in `first_holdings`.
 use Rattle.std.proofs.Common.{◌≡◌, ℕ, List, take, vec_len}
 use Rattle.std.specs.List.{sum_by}
 use Rattle.votes.specs.Units.{one_vote}

@@ -1,4 +1,4 @@
--- Of the proof of `give`: what is shown by hand.
+-- Parts of the proof of `give` that are done by hand.
 use Rattle.std.proofs.Common.{rules, ◌≡◌, ◌∙◌, ℕ, ◌+◌, ◌<◌, length, ap, refl, arith}
 use Rattle.count.specs.Law.Places.{first_of}
 use Rattle.count.specs.Inside.Holdings.{total}

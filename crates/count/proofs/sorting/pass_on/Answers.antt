@@ -1,4 +1,4 @@
--- Of the proof of `pass_on`: what is shown by hand.
+-- Parts of the proof of `pass_on` that are done by hand.
 use Rattle.std.proofs.Common.{◌<◌, length, ap, arith}
 use Rattle.paper.specs.Standing.{is_continuing}
 use Rattle.count.specs.Inside.Holdings.{total_of, at_passed}

@@ -1,4 +1,4 @@
--- Of the proof of `pass_on`: what holds at each round of its loop.
+-- The invariant of the loop in `pass_on`.
 use Rattle.std.proofs.Common.{◌≡◌, ℕ, List, take, vec_len}
 use Rattle.paper.specs.Standing.{is_continuing}
 use Rattle.count.specs.Inside.Holdings.{holder_count, total, total_passed, AreNumbered}

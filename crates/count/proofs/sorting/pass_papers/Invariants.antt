@@ -1,4 +1,4 @@
--- Of the proof of `pass_papers`: what holds at each round of its loop.
+-- The invariant of the loop in `pass_papers`.
 use Rattle.std.proofs.Common.{◌≡◌, ℕ, ◌+◌, List, take, vec_len}
 use Rattle.std.specs.List.{sum_by}
 use Rattle.count.specs.Law.Places.{first_of}

@@ -1,4 +1,4 @@
--- Of the proof of `pass_parcels`: what is shown by hand.
+-- Parts of the proof of `pass_parcels` that are done by hand.
 use Rattle.std.proofs.Common.{◌≡◌, ℕ, ◌<◌, List, length, ap, arith, Bor}
 use Rattle.std.specs.List.{sum_by}
 use Rattle.count.specs.Law.Places.{first_of}

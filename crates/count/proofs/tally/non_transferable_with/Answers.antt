@@ -1,4 +1,4 @@
--- Of the proof of `non_transferable_with`: what is shown by hand.
+-- Parts of the proof of `non_transferable_with` that are done by hand.
 use Rattle.std.proofs.Common.{◌≡◌, reverse, ap, arith}
 use Rattle.count.specs.Inside.Holdings.{newest_non_transferable}
 use Rattle.count.proofs.ColumnLemmas.{reverse-newest}

@@ -1,4 +1,4 @@
--- Of the proof of `record_stage`: what is shown by hand.
+-- Parts of the proof of `record_stage` that are done by hand.
 use Rattle.std.proofs.Common.{◌∙◌, refl, ℕ, ◌+◌, List, map, reverse, ap}
 use Rattle.count.specs.Law.Contest.{numbers}
 use Rattle.count.specs.Inside.Holdings.{votes_with, worth_to, newest_non_transferable, lost_with}

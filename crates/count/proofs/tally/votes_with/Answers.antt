@@ -1,4 +1,4 @@
--- Of the proof of `votes_with`: what is shown by hand.
+-- Parts of the proof of `votes_with` that are done by hand.
 use Rattle.std.proofs.Common.{arith}
 use Rattle.count.proofs.WorthLemmas.{worth_to-within}
 use Rattle.count.proofs.tally.votes_with.Goals as goal

@@ -1,4 +1,4 @@
--- Of the proof of `worth`: what holds at each round of its loop.
+-- The invariant of the loop in `worth`.
 use Rattle.std.proofs.Common.{◌≡◌, take}
 use Rattle.count.specs.Inside.Holdings.{worth}
 use Rattle.count.proofs.tally.worth.Given as goal

@@ -1,4 +1,4 @@
--- Of the proof of `worth_of_parcels`: what is shown by hand.
+-- Parts of the proof of `worth_of_parcels` that are done by hand.
 use Rattle.std.proofs.Common.{rules, ◌≡◌, ◌<◌, length, arith, sym}
 use Rattle.count.proofs.WorthLemmas.{parcels-more, parcels-within}
 use Rattle.count.proofs.tally.worth_of_parcels.Goals as goal

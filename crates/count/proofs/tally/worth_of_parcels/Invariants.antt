@@ -1,4 +1,4 @@
--- Of the proof of `worth_of_parcels`: what holds at each round of its loop.
+-- The invariant of the loop in `worth_of_parcels`.
 use Rattle.std.proofs.Common.{◌≡◌, take}
 use Rattle.count.specs.Inside.Holdings.{total_of}
 use Rattle.count.proofs.tally.worth_of_parcels.Given as goal

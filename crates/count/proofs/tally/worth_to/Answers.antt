@@ -1,4 +1,4 @@
--- Of the proof of `worth_to`: what is shown by hand.
+-- Parts of the proof of `worth_to` that are done by hand.
 use Rattle.std.proofs.Common.{◌≡◌, ◌<◌, length, ap, arith, ◌∙◌}
 use Rattle.count.specs.Inside.Holdings.{total_of}
 use Rattle.count.proofs.WorthLemmas.{worth_to-more, worth_to-other, worth_to-within-more}

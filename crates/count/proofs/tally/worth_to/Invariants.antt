@@ -1,4 +1,4 @@
--- Of the proof of `worth_to`: what holds at each round of its loop.
+-- The invariant of the loop in `worth_to`.
 use Rattle.std.proofs.Common.{◌≡◌, take}
 use Rattle.count.specs.Inside.Holdings.{worth_to}
 use Rattle.count.proofs.tally.worth_to.Given as goal

@@ -1,4 +1,4 @@
--- Of the proof of `all_votes_from`: what is shown by hand.
+-- Parts of the proof of `all_votes_from` that are done by hand.
 use Rattle.std.proofs.Common.{reverse, rules, arith}
 use Rattle.std.proofs.Math.ListN.{length-set}
 use Rattle.count.specs.Inside.Placing.{votes_from}

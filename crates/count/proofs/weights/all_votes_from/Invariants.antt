@@ -1,4 +1,4 @@
--- Of the proof of `all_votes_from`: what holds at each round of its loop.
+-- The invariant of the loop in `all_votes_from`.
 use Rattle.std.proofs.Common.{◌≡◌, map, take, length, reverse}
 use Rattle.std.specs.List.{range_with_len}
 use Rattle.paper.specs.Columns.{max_candidates}

@@ -1,4 +1,4 @@
--- Of the proof of `figured`: what is shown by hand.
+-- Parts of the proof of `figured` that are done by hand.
 use Rattle.std.proofs.Common.{◌∙◌, reverse, arith, refl}
 use Rattle.count.specs.Law.Contest.{Contest, History}
 use Rattle.count.specs.Inside.Placing.{contest_on}

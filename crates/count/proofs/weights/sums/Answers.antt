@@ -1,4 +1,4 @@
--- Of the proof of `sums`: what is shown by hand.
+-- Parts of the proof of `sums` that are done by hand.
 use Rattle.std.proofs.Common.{rules, ◌≡◌, List, [], ap, refl, arith}
 use Rattle.count.specs.Bundles.{Bundle}
 use Rattle.count.specs.Inside.Placing.{value_to, worth_placed}

@@ -1,4 +1,4 @@
--- Of the proof of `sums`: what holds at each round of its loop.
+-- The invariant of the loop in `sums`.
 use Rattle.std.proofs.Common.{◌≡◌, ℕ, ◌+◌, ◌≤◌, length, slice_index}
 use Rattle.std.specs.List.{AllByRecursion}
 use Rattle.paper.specs.Columns.{max_candidates}

@@ -1,4 +1,4 @@
--- Of the proof of `worth`: what is shown by hand.
+-- Parts of the proof of `worth` that are done by hand.
 use Rattle.std.proofs.Common.{rules, ◌≡◌, List, [], arith}
 use Rattle.count.specs.Bundles.{Bundle}
 use Rattle.count.specs.Inside.Placing.{value_of}

@@ -1,4 +1,4 @@
--- Of the proof of `worth`: what holds at each round of its loop.
+-- The invariant of the loop in `worth`.
 use Rattle.std.proofs.Common.{◌≡◌, ◌+◌}
 use Rattle.count.specs.Inside.Placing.{value_of, worth_placed}
 use Rattle.count.proofs.weights.worth.Given as goal

@@ -1,4 +1,4 @@
--- Of the proof of `give`: what is shown by hand.
+-- Parts of the proof of `give` that are done by hand.
 use Rattle.std.proofs.Common.{◌<◌, ◌≢◌, length, slice_index, arith, length-set, sym, ◌∙◌, subst, get_or-set_other}
 use Rattle.paper.specs.Columns.{IsColumnSet}
 use Rattle.paper.proofs.Standings.{status_of-set}

@@ -1,4 +1,4 @@
--- Why `write_plain` keeps its promise.
+-- Proof that `write_plain` meets its contract.
 use Rattle.sheet.proofs.Quoted.{IsUtf8-plain}
 use Rattle.sheet.proofs.Writing.{Writes-puts}
 use Rattle.sheet.proofs.escaping.write_plain.Goals as goal

@@ -1,4 +1,4 @@
--- Why `write_named` keeps its promise.
+-- Proof that `write_named` meets its contract.
 use Rattle.sheet.proofs.Writing.{Writes-then, Writes-failed, Writes-front}
 use Rattle.sheet.proofs.line.write_named.Goals as goal
 

@@ -1,4 +1,4 @@
--- Why `write_rejected_line` keeps its promise.
+-- Proof that `write_rejected_line` meets its contract.
 use Rattle.sheet.proofs.opening.write_rejected_line.Goals as goal
 
 pub returns : goal.returns

@@ -1,4 +1,4 @@
--- Why `write_seats_line` keeps its promise.
+-- Proof that `write_seats_line` meets its contract.
 use Rattle.sheet.proofs.opening.write_seats_line.Goals as goal
 
 pub returns : goal.returns

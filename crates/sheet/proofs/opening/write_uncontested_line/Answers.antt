@@ -1,4 +1,4 @@
--- Why `write_uncontested_line` keeps its promise.
+-- Proof that `write_uncontested_line` meets its contract.
 use Rattle.sheet.proofs.opening.write_uncontested_line.Goals as goal
 
 pub returns : goal.returns

@@ -1,4 +1,4 @@
--- Why `write_ward_line` keeps its promise.
+-- Proof that `write_ward_line` meets its contract.
 use Rattle.sheet.proofs.opening.write_ward_line.Goals as goal
 
 pub returns : goal.returns

@@ -1,4 +1,4 @@
--- Why `write_each` keeps its promise.
+-- Proof that `write_each` meets its contract.
 use Rattle.std.proofs.Common.{string_bytes}
 use Rattle.std.proofs.lemmas.List.{take_all}
 use Rattle.std.proofs.lemmas.List.Folds.{flat_map-map}

@@ -1,4 +1,4 @@
--- What holds each time round the loop of `write_each`.
+-- The invariant of the loop in `write_each`.
 use Rattle.std.proofs.Common.{take, Ok, string_bytes}
 use Rattle.std.specs.List.{flat_map}
 use Rattle.streams.specs.declared.streams.Broken.{Broken}

@@ -1,4 +1,4 @@
--- Why `own_texts_are_confirmed` keeps its promise.
+-- Proof that `own_texts_are_confirmed` meets its contract.
 use Rattle.sheet_round_trip.proofs.LawLemmas.{ballots_read, declaration_confirmed, declared_finished, sheet_confirmed}
 use Rattle.sheet_round_trip.proofs.laws.own_texts_are_confirmed.Goals as goal
 

@@ -1,4 +1,4 @@
--- Why `commit_copy` keeps its promise.
+-- Proof that `commit_copy` meets its contract.
 use Rattle.std.proofs.Common.{rules, ◌≡◌, arith}
 use Rattle.sqlite.specs.Held.{state}
 use Rattle.sqlite.specs.State.{HasCleanDisk, Survives}

@@ -1,4 +1,4 @@
--- Why `copy` keeps its promise.
+-- Proof that `copy` meets its contract.
 use Rattle.std.proofs.Common.{◌≡◌, inl, ap, ◌∙◌, subst, rules}
 use Rattle.sqlite.specs.Held.{state}
 use Rattle.register.specs.Offices.{OfficeState}

@@ -1,4 +1,4 @@
--- Why `migrate` keeps its promise.
+-- Proof that `migrate` meets its contract.
 use Rattle.std.proofs.Common.{rules}
 use Rattle.sqlite.specs.Held.{state}
 use Rattle.store.proofs.MigrationLemmas.{moved_from, stops_from, refuses_from, already_from}

@@ -1,4 +1,4 @@
--- Why `migrate_older` keeps its promise.
+-- Proof that `migrate_older` meets its contract.
 use Rattle.std.proofs.Common.{inl, inr}
 use Rattle.std.proofs.lemmas.Result.{err_from_is_err_and}
 use Rattle.sqlite.specs.Held.{state}

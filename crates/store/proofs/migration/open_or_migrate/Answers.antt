@@ -1,4 +1,4 @@
--- Why `open_or_migrate` keeps its promise.
+-- Proof that `open_or_migrate` meets its contract.
 use Rattle.std.proofs.Common.{inl, inr}
 use Rattle.sqlite.specs.Held.{state}
 use Rattle.store.proofs.KeepLemmas.{opened_is_at, reads_wear, wears_then}

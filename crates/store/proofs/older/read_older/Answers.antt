@@ -1,4 +1,4 @@
--- Why `read_older` keeps its promise.
+-- Proof that `read_older` meets its contract.
 use Rattle.std.proofs.Common.{sym, ap, ◌∙◌}
 use Rattle.std.proofs.lemmas.Result.{err_from_is_err_and}
 use Rattle.sqlite.specs.Effect.{Database}

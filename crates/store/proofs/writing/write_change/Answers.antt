@@ -1,4 +1,4 @@
--- Why `write_change` keeps its promise.
+-- Proof that `write_change` meets its contract.
 use Rattle.std.proofs.Common.{sym, subst}
 use Rattle.sqlite.specs.Held.{state}
 use Rattle.register.specs.Offices.{OfficeState, receipt_entry}

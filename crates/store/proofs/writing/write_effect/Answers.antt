@@ -1,4 +1,4 @@
--- Why `write_effect` keeps its promise.
+-- Proof that `write_effect` meets its contract.
 use Rattle.std.proofs.Common.{List, map, subst}
 use Rattle.sqlite.specs.Order.{Row}
 use Rattle.register.specs.Offices.{ward_entry, candidate_entry, batch_entry, third_entry, keyed_entry, judged_entry, lot_entry}

@@ -1,4 +1,4 @@
--- Why `add` keeps its promise.
+-- Proof that `add` meets its contract.
 use Rattle.std.proofs.Common.{◌≡◌, ◌∙◌, true, false, ap, subst, sym, arith}
 use Rattle.std.specs.Prelude.{◌==◌}
 use Rattle.std.specs.List.{list_any}

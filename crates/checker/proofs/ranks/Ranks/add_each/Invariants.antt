@@ -1,4 +1,4 @@
--- What holds each time round the loop of `add_each`: the words that are left, behind those so far, name whom all do.
+-- The invariant of the loop in `add_each`: those so far and the remaining words make up all of them.
 use Rattle.std.proofs.Common.{◌≡◌, map, drop}
 use Rattle.paper.specs.Ranking.{IsRanking}
 use Rattle.checker.specs.Ranks.{with_each}

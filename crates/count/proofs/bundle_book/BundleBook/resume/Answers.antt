@@ -1,4 +1,4 @@
--- Of the proof of `resume`: what is shown by hand.
+-- Parts of the proof of `resume` that are done by hand.
 use Rattle.std.proofs.Common.{◌≡◌, ◌∙◌, List, reverse, refl, sym, ap, subst}
 use Rattle.count.specs.Bundles.{papers_of}
 use Rattle.count.specs.Law.Contest.{Contest, contest_for, IsContest}

@@ -1,4 +1,4 @@
--- Of the proof of `begin`: what is shown by hand.
+-- Parts of the proof of `begin` that are done by hand.
 use Rattle.std.proofs.Common.{length, reverse, sym, ap, subst, arith}
 use Rattle.std.specs.List.{AllByRecursion}
 use Rattle.count.specs.Inside.Holdings.{newest_lost}

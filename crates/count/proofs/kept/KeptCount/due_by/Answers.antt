@@ -1,4 +1,4 @@
--- Of the proof of `due_by`: what is shown by hand.
+-- Parts of the proof of `due_by` that are done by hand.
 use Rattle.count.specs.Law.Count.{due_by}
 use Rattle.count.proofs.KeptLemmas.{kept-tells}
 use Rattle.count.proofs.kept.KeptCount.due_by.Goals as goal

@@ -1,4 +1,4 @@
--- Of the proof of `elected`: what is shown by hand.
+-- Parts of the proof of `elected` that are done by hand.
 use Rattle.count.specs.Law.Elected.{elected_after}
 use Rattle.count.proofs.KeptLemmas.{kept-tells}
 use Rattle.count.proofs.kept.KeptCount.elected.Goals as goal

@@ -1,4 +1,4 @@
--- Of the proof of `next_stage`: what is shown by hand.
+-- Parts of the proof of `next_stage` that are done by hand.
 use Rattle.std.proofs.Common.{◌≡◌, ◌∙◌, List, Option, Some, None, reverse, refl, sym, ap, subst}
 use Rattle.std.specs.Prelude.{IsSome}
 use Rattle.count.specs.Advance.{Adds}
@@ -15,7 +15,7 @@ use Rattle.count.proofs.KeptLemmas.{kept-tells, kept-next}
 use Rattle.count.proofs.kept.KeptCount.next_stage.Goals as goal
 use Rattle.count.proofs.kept.KeptCount.next_stage.Goals.{In_ok-places-in-Some}
 
--- none is due where none was found,
+-- no action is due if none was found,
 pub returns-in-None-clause-some : goal.returns-in-None-clause-some
 returns-in-None-clause-some c contest history kept =
     let none : None ≡ next_action contest c.args.lots.now history =
@@ -24,7 +24,7 @@ returns-in-None-clause-some c contest history kept =
     c.self.view_is c.deref.ensures.value c.self.invariant c.in-None.ensures kept in
     (λ nothing. absurd (cc), λ some. subst (λ (o : Option Action). IsSome o) (sym none) some)
 
--- and one is due where one was
+-- and one is due if one was found
 pub returns-in_ok-places-in-Some-clause-some : goal.returns-in_ok-places-in-Some-clause-some
 returns-in_ok-places-in-Some-clause-some c contest history kept =
     let one : Some c.in-Some.action ≡ next_action contest c.args.lots.now history =
@@ -33,7 +33,7 @@ returns-in_ok-places-in-Some-clause-some c contest history kept =
     c.self.view_is c.deref.ensures.value c.self.invariant c.in-Some.ensures kept in
     (λ found. subst (λ (o : Option Action). IsSome o) one refl, λ some. refl)
 
--- where the action is due, over the places and stages that were lent
+-- if the action is due, for the borrowed places and stages
 lent : (c : In_ok-places-in-Some) → let contest : Contest = contest_on c.self.inside.terms c.self.inside.bundles in
     IsDueInBook contest (reverse c.self.inside.stages.items) c.self.inside.bundles c.self.inside.places.items c.in-Some.action →
     IsDueInBook contest (reverse c.deref-in-Some-2.result.now) c.self.inside.bundles c.deref-in-Some.result.now c.in-Some.action

@@ -1,4 +1,4 @@
--- Of the proof of `resume`: what is shown by hand.
+-- Parts of the proof of `resume` that are done by hand.
 use Rattle.std.proofs.Common.{◌∙◌, ◌+◌, ◌*◌, ◌<◌, ◌≤◌, List, length, reverse, sym, subst}
 use Rattle.std.specs.List.{AllByRecursion}
 use Rattle.votes.specs.Units.{one_vote, max_units}

@@ -1,9 +1,9 @@
--- Why `accepts_all` keeps its promise.
+-- Proof that `accepts_all` meets its contract.
 use Rattle.std.proofs.Common.{◌∙◌, sym}
 use Rattle.office.proofs.PlayLemmas.{answers_done}
 use Rattle.office.proofs.offices.Office.accepts_all.Goals as goal
 
--- no fault: all were answered, and the answers are those of the machine
+-- no fault: all requests were answered, and the answers are those of the machine
 pub returns-clause-all : goal.returns-clause-all
 returns-clause-all g c clean is_open s at =
     let all = rw c.in-None.is at (c.run-run.ensures.all clean is_open s at) in

@@ -1,4 +1,4 @@
--- Why `copy_open` keeps its promise.
+-- Proof that `copy_open` meets its contract.
 use Rattle.std.proofs.Common.{sym, subst}
 use Rattle.sqlite.specs.Held.{state}
 use Rattle.store.specs.Offices.{IsAt}

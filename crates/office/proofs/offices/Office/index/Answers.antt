@@ -1,4 +1,4 @@
--- Why `index` keeps its promise.
+-- Proof that `index` meets its contract.
 use Rattle.std.proofs.Common.{subst, sym}
 use Rattle.sqlite.specs.Held.{state}
 use Rattle.sqlite.specs.State.{HasCleanDisk}

@@ -1,11 +1,11 @@
--- Why `leads_to` keeps its promise.
+-- Proof that `leads_to` meets its contract.
 use Rattle.std.proofs.Common.{◌∙◌, sym, true≢false}
 use Rattle.register.specs.Offices.{empty_office}
 use Rattle.office.proofs.PlayLemmas.{ok_then}
 use Rattle.office.proofs.offices.Office.leads_to.Goals as goal
 
--- Each arm: the office was made empty (`made` of `create`), the requests led on from there (`all` of `accepts_all`), and what the connection
--- holds then was compared (`same` and `other` of `has_rows`). The disk that is clean in the end was clean before.
+-- In each arm: the office was made empty (`made` of `create`), the requests led on from there (`all` of `accepts_all`), and what the connection then contains
+-- was compared (`same` and `other` of `has_rows`). If the disk is clean in the end, it was clean before.
 pub returns-in-Ok-true-clause-leads : goal.returns-in-Ok-true-clause-leads
 returns-in-Ok-true-clause-leads g c clean blank =
     let played = rw c.into_connection-conn.ensures at (c.has_rows-has.ensures.clean clean) in

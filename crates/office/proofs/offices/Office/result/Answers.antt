@@ -1,4 +1,4 @@
--- Why `result` keeps its promise.
+-- Proof that `result` meets its contract.
 use Rattle.std.proofs.Common.{rules, ◌≡◌, false, true, Some, option_map, sym, ap, subst, ◌∙◌}
 use Rattle.sqlite.specs.Held.{state}
 use Rattle.sqlite.specs.State.{HasCleanDisk}

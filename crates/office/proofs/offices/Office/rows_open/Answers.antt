@@ -1,4 +1,4 @@
--- Why `rows_open` keeps its promise.
+-- Proof that `rows_open` meets its contract.
 use Rattle.std.proofs.Common.{inl, inr, refl, sym, subst}
 use Rattle.sqlite.specs.Held.{state}
 use Rattle.store.specs.Offices.{IsAt}

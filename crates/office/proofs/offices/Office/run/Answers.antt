@@ -11,7 +11,7 @@ use Rattle.office.proofs.RunLemmas.{answers_more, keeps_beginning, after_next, s
 use Rattle.office.proofs.ClerkLemmas.{told_alone}
 use Rattle.office.proofs.offices.Office.run.Goals as goal
 
--- no room for the answers: nothing was handled
+-- the answers could not be allocated: nothing was handled
 pub returns-in_default-clause-headline : goal.returns-in_default-clause-headline
 returns-in_default-clause-headline g c clean is_open earlier at =
     subst (λ n. LeavesState (state g.S.Store c.args.self.now.held) (IsAfterBeginning earlier c.args.requests.now n))
@@ -75,7 +75,7 @@ loop-request-preserved g c =
           ((handled clean is_open s at).0 ∙ ap (λ x. told_of (step_of (after s (take i rs)) x)) c.request-item.is);
     }
 
--- all were answered
+-- all requests were answered
 pub returns-clause-headline : goal.returns-clause-headline
 returns-clause-headline g c clean is_open earlier at =
     let here = c.loop-request.invariant.open_at clean is_open (after empty_office earlier) at in

@@ -1,4 +1,4 @@
--- Of the proof of `with`: what is shown by hand.
+-- Parts of the proof of `with` that are done by hand.
 use Rattle.std.proofs.Common.{length, sym, ap, ◌∙◌, arith}
 use Rattle.paper.specs.Columns.{with_column}
 use Rattle.paper.specs.Padded.{listed}

@@ -1,4 +1,4 @@
--- What the loop of `apart_among` keeps.
+-- The invariant of the loop in `apart_among`.
 use Rattle.std.proofs.Common.{◌≡◌, ◌++◌, ◌∷◌, [], map, filter, drop}
 use Rattle.register.specs.Offices.{keyed_entry}
 use Rattle.register.specs.Papers.{is_keyed}

@@ -1,4 +1,4 @@
--- Why `add_agreed` keeps its promise.
+-- Proof that `add_agreed` meets its contract.
 use Rattle.std.proofs.Common.{List, map, subst, ap, ◌∙◌}
 use Rattle.register.specs.Offices.{KeyedEntry, judged_entry}
 use Rattle.register.specs.Papers.{agreed}

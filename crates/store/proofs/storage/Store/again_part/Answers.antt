@@ -1,4 +1,4 @@
--- Why `again_part` keeps its promise.
+-- Proof that `again_part` meets its contract.
 use Rattle.std.proofs.Common.{None, ap}
 use Rattle.register.specs.Parts.{PartEntries}
 use Rattle.store.proofs.LoadsLemmas.{loads_as}

@@ -1,4 +1,4 @@
--- Why `batch_overview` keeps its promise.
+-- Proof that `batch_overview` meets its contract.
 use Rattle.std.proofs.Common.{map, ap, ◌∙◌}
 use Rattle.register.specs.Offices.{batch_entry, judged_entry}
 use Rattle.register.specs.Papers.{clerks}

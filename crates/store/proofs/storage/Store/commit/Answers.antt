@@ -1,4 +1,4 @@
--- Why `commit` keeps its promise.
+-- Proof that `commit` meets its contract.
 use Rattle.std.proofs.Common.{IsTrue, sym, subst}
 use Rattle.sqlite.specs.Held.{Held, state}
 use Rattle.store.specs.Offices.{tables_of, IsAt}

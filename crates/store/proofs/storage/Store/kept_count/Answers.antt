@@ -1,4 +1,4 @@
--- Why `kept_count` keeps its promise.
+-- Proof that `kept_count` meets its contract.
 use Rattle.std.proofs.Common.{◌≡◌, Some, None, refl, sym, subst, ◌∙◌}
 use Rattle.register.specs.Elections.{contest_of, stages_of}
 use Rattle.count.specs.Kept.{CountKept, IsKeptOf}

@@ -1,4 +1,4 @@
--- Why `list_batches` keeps its promise.
+-- Proof that `list_batches` meets its contract.
 use Rattle.std.proofs.Common.{refl}
 use Rattle.register.specs.Offices.{batch_entry}
 use Rattle.register.specs.Papers.{batches_of}

@@ -1,4 +1,4 @@
--- Why `load_lots` keeps its promise.
+-- Proof that `load_lots` meets its contract.
 use Rattle.std.proofs.Common.{◌≡◌, ◌==◌, map, true, refl, sym, ap, ◌∙◌, true≢false}
 use Rattle.std.specs.List.{list_all}
 use Rattle.register.specs.Offices.{lot_entry}

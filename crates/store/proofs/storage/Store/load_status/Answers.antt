@@ -1,4 +1,4 @@
--- Why `load_status` keeps its promise.
+-- Proof that `load_status` meets its contract.
 use Rattle.std.proofs.Common.{◌≡◌, Some, option_map, ap, ◌∙◌}
 use Rattle.register.specs.Offices.{ward_entry, ward_at}
 use Rattle.register.specs.Standings.{StatusEntry, status_of}

@@ -1,4 +1,4 @@
--- Why `own_paper` keeps its promise.
+-- Proof that `own_paper` meets its contract.
 use Rattle.std.proofs.Common.{◌≡◌, List, true, false, Some, None, option_map, sym, ap, ◌∙◌}
 use Rattle.std.proofs.lemmas.Bool.{cond-true, cond-false}
 use Rattle.register.specs.Offices.{CandidateEntry, batch_entry, ward_entry, ward_at, third_at}

@@ -1,4 +1,4 @@
--- Why `own_work` keeps its promise.
+-- Proof that `own_work` meets its contract.
 use Rattle.std.proofs.Common.{◌≡◌, ◌&&◌, Bool, true, false, Some, None, sym, ap, ◌∙◌}
 use Rattle.std.proofs.Math.Bool.{and-false}
 use Rattle.std.proofs.lemmas.Bool.{and_from, cond-true, cond-false}

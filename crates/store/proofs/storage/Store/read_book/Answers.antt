@@ -1,4 +1,4 @@
--- Why `read_book` keeps its promise.
+-- Proof that `read_book` meets its contract.
 use Rattle.std.proofs.Common.{map, refl, ap, ◌∙◌}
 use Rattle.register.specs.Offices.{ward_entry, candidate_entry}
 use Rattle.register.specs.Marks.{columns_of}

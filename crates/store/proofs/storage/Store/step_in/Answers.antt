@@ -1,4 +1,4 @@
--- Why `step_in` keeps its promise.
+-- Proof that `step_in` meets its contract.
 use Rattle.std.proofs.Common.{◌≡◌, ◌∙◌, ap, map, sym, List, ℕ}
 use Rattle.count.specs.declared.stages.Due.{Due}
 use Rattle.register.specs.declared.phase.Phase.{Phase}

@@ -1,4 +1,4 @@
--- Why `work_in` keeps its promise.
+-- Proof that `work_in` meets its contract.
 use Rattle.std.proofs.Common.{◌≡◌, map, take, refl, sym, ap, ◌∙◌, ◌++◌, ◌∷◌, [], rules}
 use Rattle.std.specs.Option.{option_to_list}
 use Rattle.register.specs.Offices.{batch_entry}

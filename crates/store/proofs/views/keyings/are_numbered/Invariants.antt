@@ -1,4 +1,4 @@
--- What the loop of `are_numbered` keeps.
+-- The invariant of the loop in `are_numbered`.
 use Rattle.std.proofs.Common.{◌≡◌, ◌+◌, map, drop}
 use Rattle.register.specs.Offices.{keyed_entry}
 use Rattle.register.specs.Keyed.{are_numbered}

@@ -1,4 +1,4 @@
--- Why `write_addition` keeps its promise.
+-- Proof that `write_addition` meets its contract.
 use Rattle.sqlite.specs.Held.{state}
 use Rattle.register.specs.Offices.{OfficeState}
 use Rattle.register.specs.Tabulated.{TabulationEntries}

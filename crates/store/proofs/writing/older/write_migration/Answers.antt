@@ -1,4 +1,4 @@
--- Why `write_migration` keeps its promise.
+-- Proof that `write_migration` meets its contract.
 use Rattle.std.proofs.Common.{subst}
 use Rattle.sqlite.specs.Held.{state}
 use Rattle.register.specs.Offices.{OfficeState}
