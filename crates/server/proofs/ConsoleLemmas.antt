@@ -1,5 +1,5 @@
 -- An order of the console that has its turn, part by part.
-use Rattle.std.proofs.Common.{◌≡◌, ◌∙◌, ◌⊎◌, ◌&&◌, Bool, false, true, true≢false, ℕ, List, [], Option, Some, ap, if◌then◌else◌, inl, inr, map, refl, string_bytes, subst, sym}
+use Rattle.std.proofs.Common.{◌≡◌, ◌∙◌, ◌⊎◌, ◌&&◌, Bool, false, true, true≢false, ℕ, List, [], Some, ap, if◌then◌else◌, inl, inr, refl, subst, sym}
 use Rattle.std.specs.Str.{IsUtf8, is_utf8}
 use Rattle.std.proofs.lemmas.Str.{IsUtf8-from_is_utf8, is_utf8-from_IsUtf8}
 use Rattle.sqlite.specs.Held.{Held}
@@ -7,8 +7,7 @@ use Rattle.sqlite.specs.State.{State}
 use Rattle.tables.specs.declared.fault.Fault.TheVariants.{Memory}
 use Rattle.office.specs.Values.{OfficeValue}
 use Rattle.connections.specs.declared.client.Listener.TheVariants.{Clients}
-use Rattle.order_protocol.specs.Messages.{MessagePartEntry}
-use Rattle.desk.specs.Pages.{Cut, Page, failed, uncut}
+use Rattle.desk.specs.Pages.{Page, failed, uncut}
 use Rattle.desk.specs.declared.lines.Failure.TheVariants.{Office}
 use Rattle.wire.specs.ConsoleOrders.{ConsoleOrderEntry}
 use Rattle.wire.specs.Gates.{HttpSettingsEntry}
@@ -23,13 +22,11 @@ use Rattle.wire.specs.declared.request_error.RequestError.TheVariants.{BadReques
 use Rattle.wire.specs.declared.response.Response.{Response}
 use Rattle.wire.proofs.ParsedLemmas.{none_came}
 use Rattle.wire.proofs.RequestLemmas.{AsksOneThing-all}
-use Rattle.server.specs.ConsoleOrders.{AsksConsole, FollowsConsole, FollowsEntry, HasPrinted, IsInResponse, printed_response}
+use Rattle.server.specs.ConsoleOrders.{FollowsConsole, FollowsEntry, HasPrinted, IsInResponse, printed_response}
 use Rattle.server.specs.Endings.{EndsIn}
 use Rattle.server.specs.Exchanges.{AsksNoOrder, ServesAsked, Exchange}
 use Rattle.server.specs.Reads.{MemoryEntry, ServedOffice, served_office}
-use Rattle.server.specs.ServedOrders.{AsksSo, Follows}
 use Rattle.server.specs.Settings.{ServerSettingsEntry}
-use Rattle.server.specs.declared.served_order.ServedOrder.{ServedOrder}
 use Rattle.server.specs.declared.served_order.ServedOrder.TheVariants as asked
 use Rattle.server.proofs.AnswerLemmas.{noted_still, served_none}
 use Rattle.server.proofs.OrderLemmas.{follows_sent}

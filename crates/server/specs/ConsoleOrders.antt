@@ -1,5 +1,5 @@
 -- An order that the officer's console sends: what it asks, the outcome, and its output in one response.
-use Rattle.std.specs.Prelude.{◌≡◌, ◌⊎◌, ◌&&◌, List, [], Option, Some, if◌then◌else◌, map, ℕ}
+use Rattle.std.specs.Prelude.{◌≡◌, ◌⊎◌, ◌&&◌, List, [], Some, if◌then◌else◌, map, ℕ}
 use Rattle.std.specs.Str.{is_utf8}
 use Rattle.sqlite.specs.Held.{Held}
 use Rattle.sqlite.specs.State.{State}
