@@ -22,6 +22,7 @@ SERVING, CROWD, LINES, LONG = 12, 2000, 2000, (32 << 20) - 4096
 # Each kind of order has wards of its own.
 COMING, PIPED, KILLED, STEERS = range(10, 40), 40, 60, 70
 HELD_BYTE, OFD_SETLK = (1 << 30) + 512, 37
+OPEN_LINE = b"town.db is open to other accounts on this machine; 'chmod 600 town.db town.db-wal' closes it\n"
 STEERING, SHOWN = "A\u009b31m\u202eB\u061c\u2066C", b"A\xc2?31m\xe2\x80?B\xd8?\xe2\x81?C"
 
 
@@ -145,13 +146,23 @@ class Waits:
             self.script(f"a script of {4 * LINES} lines, while served: it is done", SCRIPT, out * LINES)
             self.piped("`serve` is killed while a script comes through a pipe: the order is done", KILLED, 1, serving.process.kill)
 
-    def terminal(self):
-        """Looks at a name of a ward that would steer a terminal."""
-        expect("a name that steers", self.run("ward", STEERS, 1, STEERING, "--id", "steers").status, 0)
-        command = ["script", "--quiet", "--command", shlex.join([program(), TOWN, "wards"]), "/dev/null"]
+    def at_terminal(self, *words):
+        """Returns what an order shows at a terminal."""
+        command = ["script", "--quiet", "--command", shlex.join([program(), TOWN, *words]), "/dev/null"]
         shown = subprocess.run(command, cwd=self.office.folder, stdin=subprocess.DEVNULL, capture_output=True, timeout=60).stdout
-        expect("a name that steers", (SHOWN in shown, STEERING in self.run("wards").out), (True, True))
-        self.table.row("a name that would steer a terminal, shown there: no character steers", "0.0")
+        return shown.replace(b"\r\n", b"\n")
+
+    def terminal(self):
+        """Looks at what a terminal shows: whether DB is open to others, for what an order waits, and a name that would steer it."""
+        for mode, lines in ((0o600, 0), (0o640, 1), (0o620, 1), (0o604, 1), (0o602, 1)):
+            self.path.chmod(mode)
+            expect(f"rights {mode:o}", (self.at_terminal("receipts").count(OPEN_LINE), self.run("receipts").err), (lines, ""))
+        self.path.chmod(0o600)
+        threading.Timer(2, lock_of_an_order(self.path)).start()
+        expect("an order that waits", self.at_terminal("receipts").count(b"waiting for town.db: another order holds it\n"), 1)
+        expect("a name that steers", self.run("ward", STEERS, 1, STEERING, "--id", "steers").status, 0)
+        expect("a name that steers", (SHOWN in self.at_terminal("wards"), STEERING in self.run("wards").out), (True, True))
+        self.table.row("on a terminal: rights of DB, what an order waits for, and no character that steers", "0.0")
 
 
 def main():
