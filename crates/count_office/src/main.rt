@@ -30,7 +30,7 @@ ghost use Rattle.count_office.specs.Serving.{ServesOrder};
 ghost use Rattle.sqlite_wal.specs.Reads.{AreClean};
 ghost use Rattle.sqlite.specs.Closing.{IsCopied};
 
-// the words of an order, and the files that it reads
+// the words of an order, and the files that it names
 mod codes_file;
 mod order_files;
 // the path of a database, what is there, and its lock
