@@ -13,7 +13,7 @@ use Rattle.std.proofs.lemmas.List.{take_more}
 use Rattle.std.proofs.lemmas.Str.{digit_value_digit}
 use Rattle.httparse.proofs.ChunkLemmas.{digits_value_after_push}
 use Rattle.std.proofs.lemmas.Str.Parse.{digits_value_short, numerals_by_value, parse_gives, tells_all_ascii_digits}
-use Rattle.wire.specs.Targets.{number_in}
+use Rattle.wire.specs.Numbers.{number_in}
 
 all_digits : (ds : List ℕ) → list_all is_ascii_digit ds ≡ all_ascii_digits ds
 all_digits [] = refl

@@ -15,7 +15,8 @@ use Rattle.wire.specs.Bodies.{KeyingEntry, body_in, keying_of}
 use Rattle.wire.specs.Gates.{GateEntry, HttpSettingsEntry, account_at, account_under, clerk_under, has_code, kept_out, kept_out_by, needs_office, number_before, reader_of, sent_codes, served_at}
 use Rattle.wire.specs.Lengths.{NamedValue, body_length}
 use Rattle.wire.specs.Origins.{is_foreign}
-use Rattle.wire.specs.Targets.{IsTargetOf, is_number, most_digits, named_by, number_in, office_path}
+use Rattle.wire.specs.Numbers.{is_number, most_digits, number_in}
+use Rattle.wire.specs.Targets.{IsTargetOf, named_by, office_path}
 use Rattle.wire.specs.declared.target.OfficeTarget.{OfficeTarget}
 use Rattle.wire.specs.declared.request_error.RequestError.{RequestError}
 use Rattle.wire.specs.declared.target.Resource.TheVariants.{Candidates, Declaration, Sheet, Work}

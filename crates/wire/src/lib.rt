@@ -44,6 +44,7 @@ mod head;
 mod length;
 mod origin;
 pub mod parsed;
+mod office_read;
 pub mod plain;
 mod read_failure;
 pub mod request;
@@ -52,7 +53,9 @@ pub mod target;
 // responses
 mod bodies;
 mod candidates;
+mod office_reads;
 mod response;
+mod told;
 mod work;
 // one connection
 mod answering;
@@ -64,6 +67,7 @@ pub use authentication::Authentication;
 pub use completeness::Completeness;
 pub use console_order::{ConsoleFile, ConsoleOrder};
 pub use head::MAX_HEAD_BYTES;
+pub use office_read::OfficeRead;
 pub use origins::Origin;
 pub use parsed::{Head, Parsed, parse};
 pub use read_failure::ReadFailure;
