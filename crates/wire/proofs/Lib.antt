@@ -7,6 +7,7 @@ pub mod DigitLemmas
 pub mod TargetLemmas
 pub mod RowLemmas
 pub mod PartLemmas
+pub mod OfficeTargetLemmas
 pub mod PathLemmas
 pub mod LengthLemmas
 pub mod RequestLemmas

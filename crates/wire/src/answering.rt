@@ -26,6 +26,7 @@ use office::{Answer, Office, Stop};
 use register::{BallotPaper, Command, KeyingCommand, Work};
 use sqlite::Alter;
 use std::alloc::Global;
+use store::Fault;
 
 /// Returns the response with the office's answer to a keying.
 fn answered(alloc: Global, answer: &Answer) -> Response
