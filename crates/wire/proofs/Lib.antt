@@ -15,7 +15,10 @@ pub mod GateLemmas
 pub mod AuthenticationLemmas
 pub mod ParsedLemmas
 pub mod ReplyLemmas
+pub mod OfficeReplyLemmas
+pub mod ToldLemmas
 pub mod ResponseLemmas
 pub mod OutcomeLemmas
 pub mod AnswerLemmas
+pub mod OfficeReadLemmas
 pub mod ServingLemmas

@@ -31,14 +31,14 @@ pub(crate) fn replied(alloc: Global, text: &str) -> Response
 
 /// Returns the JSON of a value, if the value could be made.
 fn value_text(alloc: Global, made: Result<Value, AllocError>) -> Result<String, AllocError>
-    ensures { (data : Data) → has_float data ≡ false → IfOk made (λ value. view value ≡ data) → IfOk result (λ text. string_bytes text ≡ compact_text data) }
+    ensures { (json : Data) → has_float json ≡ false → IfOk made (λ value. view value ≡ json) → IfOk result (λ text. string_bytes text ≡ compact_text json) }
 {
     made?.to_string(alloc)
 }
 
 /// Returns the response with the JSON of a value, which has no float.
 pub(crate) fn valued(alloc: Global, made: Result<Value, AllocError>) -> Response
-    ensures { (data : Data) → has_float data ≡ false → IfOk made (λ value. view value ≡ data) → IsTold (data_response data) result }
+    ensures { (json : Data) → has_float json ≡ false → IfOk made (λ value. view value ≡ json) → IsTold (data_response json) result }
 {
     Response::made(
         alloc,
