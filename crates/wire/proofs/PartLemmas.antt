@@ -13,7 +13,8 @@ use Rattle.matchit.specs.Params.{after_token, part_of, walk, wild_from, wild_sto
 use Rattle.matchit.specs.Rows.{param_token}
 use Rattle.matchit.specs.Seek.{segment}
 use Rattle.wire.proofs.RowLemmas.{BeginsByPart, Fits, HasNoSlash, segment-part}
-use Rattle.wire.specs.Targets.{Taken, is_number, most_digits, number_in}
+use Rattle.wire.specs.Numbers.{is_number, most_digits, number_in}
+use Rattle.wire.specs.Targets.{Taken}
 
 -- ---- what a parameter takes
 

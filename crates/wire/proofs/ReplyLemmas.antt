@@ -19,7 +19,7 @@ unfolding serde_json_on_literals
 fault_body-written n = refl
 
 -- a list of values without floats has none
-list-float : {X : Type 0} (value : X → Data) → ((x : X) → has_float (value x) ≡ false) → (xs : List X) → has_float (list_data value xs) ≡ false
+pub list-float : {X : Type 0} (value : X → Data) → ((x : X) → has_float (value x) ≡ false) → (xs : List X) → has_float (list_data value xs) ≡ false
 list-float value each [] = refl
 list-float value each (x ∷ xs) = rw (each x, list-float value each xs) refl
 

@@ -1,6 +1,6 @@
 -- What a request asks, or why it is rejected before the office is asked: by its head and the bytes that follow it.
 use Rattle.std.specs.Prelude.{◌≡◌, ◌⊎◌, ◌+◌, ◌<◌, ◌++◌, ⊤, Bool, List, [], ◌∷◌, Option, Some, None, Result}
-use Rattle.std.specs.Prelude.{Ok, Err, bytes_eq, codes, drop, false, if◌then◌else◌, length, map, option_and_then, option_map, string_bytes, take, true, ℕ}
+use Rattle.std.specs.Prelude.{Ok, Err, bytes_eq, codes, drop, false, if◌then◌else◌, length, map, option_and_then, string_bytes, take, true, ℕ}
 use Rattle.std.specs.Io.KnownBytes.{Consumes}
 use Rattle.httparse.specs.Grammar.{RequestHead}
 use Rattle.httparse.specs.Spans.{header_bytes, name_and_value, span_bytes}
@@ -25,7 +25,7 @@ use Rattle.wire.specs.declared.account.Account.{Account}
 use Rattle.wire.specs.declared.account.Account.TheVariants.{Clerk, Office}
 use Rattle.wire.specs.ConsoleOrders.{ConsoleOrderEntry, console_order_entry, order_of}
 use Rattle.wire.specs.Bodies.{KeyingEntry, body_in, keying_of}
-use Rattle.wire.specs.Gates.{GateEntry, HttpSettingsEntry, PageEntry, account_at, has_code, kept_out, page_entry, reader_of, sent_codes, served_at}
+use Rattle.wire.specs.Gates.{GateEntry, HttpSettingsEntry, PageEntry, account_at, has_code, kept_out, page_entry, reader_of, reading_account, sent_codes, served_at}
 use Rattle.wire.specs.Heads.{BeginsWith, HasNoHead, IsHeadWanting}
 use Rattle.wire.specs.Lengths.{NamedValue, body_length}
 use Rattle.wire.specs.Origins.{is_foreign}
@@ -189,7 +189,7 @@ abbrev pub account_asked : HttpRequestEntry → Option Account
 account_asked (denied why) = None
 account_asked (shown clerk show) = Some (Clerk clerk)
 account_asked (keying clerk batch entry) = Some (Clerk clerk)
-account_asked (reading what) = option_map (λ clerk. Clerk clerk) (reader_of what)
+account_asked (reading what) = reading_account what
 account_asked (console show) = Some Office
 account_asked (order entry) = Some Office
 

@@ -18,7 +18,7 @@ fn candidate_value(alloc: Global, candidate: &Candidate) -> Result<Value, AllocE
 }
 
 /// Returns the candidates, as a list of values.
-fn candidates_value(alloc: Global, candidates: &[Candidate]) -> Result<Value, AllocError>
+pub(crate) fn candidates_value(alloc: Global, candidates: &[Candidate]) -> Result<Value, AllocError>
     ensures { IfOk result (λ value. view value ≡ list_data candidate_data (map candidate_entry candidates.now)) }
 {
     let mut values = Vec::with_capacity(alloc, candidates.len())?;

@@ -3,7 +3,7 @@
 //! Seven routes are served: `POST /clerks/{c}/batches/{b}/keying`, `GET /clerks/{c}/work`, `GET /wards/{w}/sheet` and
 //! `GET /wards/{w}/result`; and with codes also `GET /clerks/{c}/`, `GET /clerks/{c}/leave` and
 //! `GET /clerks/{c}/batches/{b}/candidates`. [`Routes`] has these seven, and a server makes it once. With a code of the office
-//! there are also `GET /office/`, `GET /office/leave` and `POST /office/orders`.
+//! there are also `GET /office/`, `GET /office/leave`, `POST /office/orders` and the reads of the console, [`OfficeRead`].
 //!
 //! [`parse`] parses the head of a request once. What it returns, [`Parsed`], says whether bytes are still lacking
 //! ([`Completeness`]), and whose code the request needs ([`Authentication`]). With the bytes it says what is asked,
@@ -19,9 +19,9 @@
 //!
 //! `specs/Requests.antt` defines what the bytes of a client ask, `specs/Completeness.antt` when they are a complete request, and
 //! `specs/Parsing.antt` what a parsed head says of them. `specs/Gates.antt` defines authentication, and `specs/Origins.antt`
-//! which headers show that a page from elsewhere sent the request. `specs/Targets.antt` defines what a target names, and
-//! `specs/Responses.antt` the bytes of a response. `specs/Serving.antt` defines the response at a state of the office, and what
-//! each outcome of a connection leaves.
+//! which headers show that a page from elsewhere sent the request. `specs/Targets.antt` and `specs/OfficeTargets.antt` define
+//! what a target names, and `specs/Responses.antt` the bytes of a response. `specs/Serving.antt` defines the response at a state of
+//! the office, and what each outcome of a connection leaves; `specs/OfficeReplies.antt` the JSON of the console's reads.
 //!
 //! ```text
 //! let parsed = parse(settings, &routes, got);
@@ -42,6 +42,7 @@ pub mod console_order;
 mod digits;
 mod head;
 mod length;
+mod office_read;
 mod origin;
 pub mod parsed;
 pub mod plain;
@@ -52,7 +53,9 @@ pub mod target;
 // responses
 mod bodies;
 mod candidates;
+mod office_reads;
 mod response;
+mod told;
 mod work;
 // one connection
 mod answering;
@@ -64,6 +67,7 @@ pub use authentication::Authentication;
 pub use completeness::Completeness;
 pub use console_order::{ConsoleFile, ConsoleOrder};
 pub use head::MAX_HEAD_BYTES;
+pub use office_read::OfficeRead;
 pub use origins::Origin;
 pub use parsed::{Head, Parsed, parse};
 pub use read_failure::ReadFailure;

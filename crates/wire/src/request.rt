@@ -3,7 +3,7 @@
 ghost use Rattle.std.specs.Prelude.{◌≡◌, ◌≢◌, ◌-◌, ◌^◌, ◌<◌, ◌++◌, IfErr, IfOk, IfSome, List, Ok, OnOk, option_map, ℕ};
 ghost use Rattle.wire.specs.Requests.{Asks, AsksByHolder, AsksOneThing, ShowEntry, DeniesForeign, FailsAfter, IsUnread, IsWanting};
 ghost use Rattle.wire.specs.Requests.{MissesBytes, TakesOwn, http_request_entry, asked_for, asked_of, console_at, page_at, verb_of, verb_text};
-ghost use Rattle.wire.specs.Gates.{GateEntry, HttpSettingsEntry, gate_entry, settings_entry, needs_gate, needs_office, reading_needs_gate, served_at};
+ghost use Rattle.wire.specs.Gates.{GateEntry, HttpSettingsEntry, gate_entry, settings_entry, needs_gate, needs_office, reading_needs_gate, reading_needs_office, served_at};
 ghost use Rattle.wire.specs.Targets.{NamesItsOwn, named_by};
 ghost use Rattle.wire.specs.Serving.{IsConsoleAlike, IsDeniedAlike, IsShownAlike};
 ghost use Rattle.wire.specs.declared.request_error.RequestError.{RequestError};
@@ -70,7 +70,15 @@ impl Resource {
             Resource::Candidates { .. } => true,
             Resource::Sheet { .. } => false,
             Resource::Declaration { .. } => false,
+            Resource::Office(_) => true,
         }
+    }
+
+    /// Returns whether it is served only if the office has a code.
+    fn needs_office(&self) -> bool
+        ensures { result ≡ reading_needs_office self.now }
+    {
+        matches!(self, Resource::Office(_))
     }
 }
 
@@ -103,7 +111,13 @@ impl Target {
     fn needs_office(&self) -> bool
         ensures { result ≡ needs_office self.now }
     {
-        matches!(self, Target::Office(_))
+        match self {
+            Target::Keying { .. } => false,
+            Target::Page { .. } => false,
+            Target::Leave { .. } => false,
+            Target::Resource(what) => what.needs_office(),
+            Target::Office(_) => true,
+        }
     }
 }
 
@@ -220,8 +234,8 @@ fn read_from_head<'a, R: Source>(
 /// the request may have been read.
 ///
 /// What is asked for depends only on the target, which names exactly what it is the path of. That is one of the seven routes of
-/// this crate, with numbers of 1 to 5 digits in it, the first not 0; or `/office/`, `/office/leave` or `/office/orders`. Any other
-/// target names nothing.
+/// this crate, with numbers of 1 to 5 digits in it, the first not 0; or `/office/`, `/office/leave`, `/office/orders` or the path of
+/// a read of the console. Any other target names nothing.
 pub fn read_request<'a, R: Source>(
     alloc: Global,
     settings: HttpSettings<'a>,
