@@ -87,7 +87,7 @@ DRAW.count = async (isNow) => {
     for (const id of ['count-result', 'count-chart']) fill(at(id));
     return fill(at('count-now'), made('p', {}, why ?? 'There are no wards yet.'));
   }
-  const isSealed = ward.phase === 'sealed' || ward.phase === 'declared';
+  const isSealed = wasSealed(ward);
   const [now, chart] = [await drawNow(ward, says), isSealed ? await drawChart(ward) : []];
   if (!isNow()) return undefined;
   fill(at('count-now'), made('div', {className: ward.phase === 'declared' ? '' : 'case'}, made('p', {className: 'which'}, wardName(ward)), ...now));

@@ -12,9 +12,10 @@ const headingOf = (text) => {
   return batch ? {batch: Number(batch), clerk: Number(clerk)} : null;
 };
 
-// Returns the current round of a batch, or 0 if no ward in keying has the batch.
+// Returns the current round of a batch, or 0 if no ward in keying has the batch. Looks first where the batch was when it was last read.
 const roundOf = async (batch) => {
-  for (const {ward} of office.wards.filter((it) => it.phase === 'keying')) {
+  const had = (ward) => Boolean(detailOf(ward).batches?.some((it) => it.batch === batch));
+  for (const {ward} of office.wards.filter((it) => it.phase === 'keying').sort((one, other) => had(other) - had(one))) {
     const found = (await readBatches(ward)).says?.batches.find((it) => it.batch === batch);
     if (found) return found.round;
   }
