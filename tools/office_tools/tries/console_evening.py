@@ -160,7 +160,7 @@ class GuideEvening(Evening):
         officer.picture("7-file-fault")
         officer.drop("drop-keyings", k4_12=[HEAD[12][4], *TWELVE], k4_13=[HEAD[13][4], *THIRTEEN], k9_13=[HEAD[13][9], *OTHER],
             nobody=["paper,1,2", "1,1,"])
-        officer.shows("doesn\u2019t name its batch and teller", "brought")
+        officer.shows("Not imported. The file doesn\u2019t name its batch and teller", "brought")
         browser.until("document.getElementById('brought').innerText.split('accepted').length === 4")
         officer.picture("8-batches")
         # The console shows an order that was typed beside it.

@@ -53,7 +53,7 @@ const saveOutput = async (name, type, ...words) => {
 const titleField = (key) => {
   const field = made('input', {type: 'text', autocomplete: 'off', className: 'long', defaultValue: stored('title', ''), data: {key}});
   field.addEventListener('input', () => store('title', field.value));
-  return made('label', {}, 'Title printed on the page ', field);
+  return made('label', {}, 'Election title, for printed pages ', field);
 };
 
 // Downloads an HTML page with the election's title. A page that this one opened would have this one's policy, and so lose its style.
@@ -61,7 +61,7 @@ const savePage = (name, ...words) => saveOutput(name, 'text/html', ...words, ...
 
 const printsOf = (ward) => {
   const {ward: number} = ward;
-  return [made('p', {className: 'row'}, titleField('title page')), made('p', {className: 'acts'},
+  return [made('h3', {}, 'Print and download'), made('p', {className: 'row'}, titleField('title page')), made('p', {className: 'acts'},
     button('Download result page', () => savePage(`result-${number}.html`, 'page', number), {key: 'page', main: ward.phase === 'declared'}),
     ward.phase === 'declared' ? button('Print declaration', () => printOutput('Declaration', 'result', number), {key: 'print-result'}) : '',
     button('Print stage sheet', () => printOutput('Stage sheet', 'sheet', number), {key: 'print-sheet'}),

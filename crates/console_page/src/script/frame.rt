@@ -76,6 +76,7 @@ const route = () => {
     forgetTold();
   }
   if (view !== before) {
+    document.body.classList.remove('judging');
     scrollTo(0, 0);
     at(`${view}-title`).focus({preventScroll: true});
   }

@@ -123,7 +123,7 @@ const sumRow = () => {
   const expected = office.wards.reduce((total, it) => total + expectedOf(it.ward), 0);
   const polled = office.wards.filter((it) => it.phase !== 'nominations' && !isUncontested(it)).map(papersFor);
   const papers = (member) => (polled.includes(null) ? null : polled.reduce((total, it) => total + it[member], 0));
-  return made('tr', {className: 'sum'}, made('th', {scope: 'row'}, 'All wards'), made('td', {}, ''), figure('expected', expected),
+  return made('tr', {className: 'sum'}, made('th', {scope: 'row'}, 'All wards'), made('td', {}, ''), figure('expected', expected || '\u2013'),
     figure('given out', papers('givenOut')), figure('keyed', papers('keyed')), figure('agreed', papers('agreed')),
     differing(sum('differing')), toJudge(sum('doubtful_open')), made('td', {}, ''));
 };
