@@ -13,6 +13,9 @@ from office_tools.web import HERE, Proxy
 
 CODE, TITLE = "kf7m2wxth4dnw3hd4psn", "Election of 6 May 2027, Harbour Council"
 WIDTHS = ((1280, 800), (800, 600), (400, 800))
+# What has the focus: its key, its id, and the id of the list that it opens.
+FOCUSED = """(({id, dataset, tagName, parentElement}) => [dataset?.key, id, tagName === 'SUMMARY' && parentElement.id].filter(Boolean))(
+    document.activeElement ?? {})"""
 # What the page may ask for: docs/CONSOLE-API.md.
 ASKED = re.compile(r"(GET /office/(|leave|wards(/\d+(/batches|/doubtful)?)?|batches/\d+/(differences|papers)|receipts(\?actor=\d+)?)"
                    r"|POST /office/orders) HTTP/1.1")
@@ -40,11 +43,11 @@ class Officer:
 
     def go(self, part, ward=0):
         """Opens a section by its tab, and chooses a ward from the list."""
+        self.browser.press("Escape")
         self.click(f"tab {part}")
         if ward:
-            self.has(f"ward {part}")
-            self.browser.driver.execute_script(f"const it = {self.found(f'ward {part}')}; it.value = '{ward}';"
-                                               "it.dispatchEvent(new Event('change'));")
+            self.tab_to(f"ward {part}")
+            self.browser.press(*str(ward))
             self.browser.until(f"location.hash === '#{part}/{ward}'")
         self.drawn()
 
@@ -59,19 +62,26 @@ class Officer:
         self.browser.until(f"Boolean({self.found(key)}) && !{self.found(key)}.disabled")
 
     def click(self, key):
+        """Reaches a button with the Tab key, and presses it."""
         self.has(key)
-        self.browser.value(f"{self.found(key)}.click()")
+        self.tab_to(key)
+        self.browser.press("Enter")
 
-    def submit(self, form):
-        self.browser.value(f"document.getElementById('{form}').requestSubmit()")
+    def tab_to(self, name):
+        """Reaches an element with the Tab key alone: by its key, its id, or that of the list that it opens."""
+        for _ in range(150):
+            if name in self.browser.value(FOCUSED):
+                return
+            self.browser.press("Tab")
+        raise Wrong(f"Tab doesn't reach {name}")
 
     def type(self, name, text):
-        field = f"(document.getElementById('{name}') ?? {self.found(name)})"
-        self.browser.value(f"({field}.focus(), {field}.select())")
-        self.insert(text)
+        """Types into a field. The Tab key selects what it held before."""
+        self.tab_to(name)
+        self.browser.press(*(key for key in str(text)))
 
     def insert(self, text):
-        self.browser.call("Input.insertText", {"text": str(text)})
+        self.browser.press(*str(text))
 
     def drop(self, place, **files):
         """Drops files on an element."""
@@ -102,19 +112,6 @@ class Officer:
     def leave_field(self):
         """Takes the focus from where it is, so that keys are the section's."""
         self.browser.value("document.activeElement.blur()")
-
-    def tab_to(self, key):
-        """Reaches an element with the Tab key alone."""
-        self.has(key)
-        for _ in range(120):
-            if self.browser.value("document.activeElement?.dataset?.key ?? ''") == key:
-                return
-            self.browser.press("Tab")
-        raise Wrong(f"Tab doesn't reach {key}")
-
-    def press_on(self, key):
-        self.tab_to(key)
-        self.browser.press("Enter")
 
     def said(self):
         """Returns what the browser's console was told, but for what was done on purpose: connections that broke, and denials."""

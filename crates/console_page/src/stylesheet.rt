@@ -7,6 +7,7 @@ html { font-size: 20px; }
 body { margin: 0 auto; max-width: 72rem; padding: 0 .8rem 2rem; font: 1rem/1.4 sans-serif; color: #111; background: #fff; }
 [hidden] { display: none !important; }
 bdi { unicode-bidi: isolate; overflow-wrap: anywhere; }
+section { scroll-margin-top: 100vh; }
 h1 { font-size: 1rem; margin: 0; white-space: nowrap; }
 h2 { font-size: 1.5rem; margin: .6rem 0 .4rem; overflow-wrap: anywhere; }
 h3 { font-size: 1.1rem; margin: 1.2rem 0 .3rem; }

@@ -105,7 +105,7 @@ class GuideEvening(Evening):
             officer.type("ward-number", number)
             officer.type("ward-seats", 2)
             officer.type("ward-name", name)
-            officer.submit("add-ward")
+            officer.browser.press("Enter")
             if number == 7:
                 officer.asked("Add ward 7")
                 officer.picture("2-ask-ward")
@@ -114,7 +114,8 @@ class GuideEvening(Evening):
         officer.type("candidate-number", 1)
         officer.type("candidate-name", "Ann")
         self.reloaded(officer)
-        officer.submit("add-candidate")
+        officer.type("candidate-name", "Ann")
+        officer.browser.press("Enter")
         officer.shows("candidate 1 of ward 7 added")
         officer.drop("drop-candidates", names=[*NAMES[:3], "7,3,Dee", *NAMES[4:]])
         officer.shows("This number is in the file twice", "preview")
@@ -152,9 +153,10 @@ class GuideEvening(Evening):
             officer.type(f"give-{name}", value)
         officer.shows("14 of 14 expected papers", "give-preview")
         officer.picture("6-giving-out")
-        officer.submit("give-out")
+        browser.press("Enter")
         officer.yes("2 batches, 14 papers", "Batch 12", "8 papers", "Batch 13", "6 papers", "Tellers 4 and 9")
-        browser.value("(document.getElementById('bring').open = true)")
+        officer.tab_to("bring")
+        browser.press("Enter")
         officer.drop("drop-keyings", k4_12=[HEAD[12][4], *TWELVE[:3], "4,1,,2", *TWELVE[4:]])
         officer.shows("file fault 2 at record 4", "brought")
         officer.picture("7-file-fault")
@@ -209,7 +211,7 @@ class GuideEvening(Evening):
         browser.press("1")
         officer.shows("2 doubtful papers to judge", "steps")
         officer.picture("13-overview-doubtful")
-        officer.press_on("step doubtful 7")
+        officer.click("step doubtful 7")
         officer.shows("Batch 12, paper 6", "judging")
         browser.press("2")
         officer.shows("Bob", "judging")
@@ -243,14 +245,14 @@ class GuideEvening(Evening):
         browser = officer.browser
         officer.leave_field()
         browser.press("6")
-        officer.press_on("copy")
+        officer.click("copy")
         officer.shows("copied 2 wards")
         officer.picture("18-journal")
         officer.leave_field()
         browser.press("5")
         officer.shows("Next: the seal", "count-now")
         officer.picture("19-seal")
-        officer.press_on("seal")
+        officer.click("seal")
         officer.asked("All expected papers were given out: 14")
         officer.picture("20-ask-seal")
         officer.yes("Seal Ward 7", said="ward 7 sealed: 12 valid, 2 rejected, quota 5.00000")
@@ -258,7 +260,8 @@ class GuideEvening(Evening):
         self.in_two_consoles(officer)
         officer.shows("Next: a lot", "count-now")
         officer.picture("22-lot")
-        officer.click("lot 4")
+        officer.tab_to("lot 3")
+        officer.browser.press("Down")
         officer.click("lot")
         officer.yes("3 Cy and 4 Dee", "4 Dee is excluded", said="lot at ward 7 stage 3: candidate 4")
         officer.shows("Next: stage 3", "count-now")
@@ -276,7 +279,7 @@ class GuideEvening(Evening):
             for window in (-1, 0):
                 browser.show(window)
                 officer.shows("Next: stage 2", "count-now")
-                officer.press_on("advance")
+                officer.click("advance")
                 officer.asked("Count stage 2", "the surplus of 1 Ann")
             officer.picture("21-ask-stage")
             for window in (0, -1):
@@ -288,7 +291,7 @@ class GuideEvening(Evening):
     def locked(self, officer):
         """Another program locks the file, so the order fails. It is sent again with its id, and done once."""
         officer.shows("Next: stage 1", "count-now")
-        officer.press_on("advance")
+        officer.click("advance")
         officer.asked("the first preferences")
         if self.is_served:
             # It holds the file, so nobody else can lock it.
@@ -300,7 +303,7 @@ class GuideEvening(Evening):
         officer.picture("21-fault")
         holder.execute("ROLLBACK")
         holder.close()
-        officer.browser.value("document.querySelector('#unsent button').click()")
+        officer.click("send-again")
         return officer.shows("ward 7 stage 1 first preferences")
 
     def declaring(self, officer):

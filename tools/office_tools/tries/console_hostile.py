@@ -94,9 +94,10 @@ class HostileEvening(Evening):
         officer.drop("drop-keyings", large=["paper 3/4,1,2,3,4", *["1,1,2,3,4"] * 120000])
         officer.shows("too large for the console", "unsent")
         officer.picture("47-too-large")
-        browser.value("[...document.querySelectorAll('#unsent button')].at(-1).click()")
+        officer.click("discard")
         browser.until("document.getElementById('unsent').hidden && pendingOrders().length === 0")
-        browser.value("document.getElementById('sign-out').click()")
+        officer.tab_to("sign-out")
+        browser.press("Enter")
         browser.until("document.body.innerText.includes('You have signed out')")
         browser.open("about:blank")
         browser.open(self.address())
@@ -109,7 +110,7 @@ class HostileEvening(Evening):
         officer.browser.value("(document.getElementById('give').open = true)")
         for field, value in fields.items():
             officer.type(f"give-{field}", value)
-        officer.submit("give-out")
+        officer.browser.press("Enter")
 
     def evening_of_tellers(self, officer):
         """Two wards have a poll and one has none: twelve tellers key 22 batches, with 19 doubtful papers, and each lot is recorded."""
@@ -227,7 +228,8 @@ class HostileEvening(Evening):
             step = next(key for word, key in steps if f"Next: {word}" in text)
             if step == "lot":
                 tied = browser.value("document.querySelector('#count-now input[type=radio]').dataset.key")
-                officer.click(tied)
+                officer.tab_to(tied)
+                browser.press(" ")
             if step == "declare":
                 officer.picture(f"32-finished-{ward}")
             officer.click(step)

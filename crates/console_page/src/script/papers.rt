@@ -41,9 +41,11 @@ const papersFor = (ward) => detailOf(ward).papers ?? (ward.phase === 'keying' &&
 // Returns what comes next in a ward after its seal, or nothing if that isn't known.
 const nextOf = (ward) => (isCurrent(ward) ? detailOf(ward).next : undefined);
 
+// Returns whether a ward may have changed since it was read. After its seal only a lot leaves its entry in the list as it was.
 const isStale = (ward) => {
-  if (ward.phase === 'keying' ? !ward.batches : !wasSealed(ward) || isUncontested(ward)) return false;
-  return !isCurrent(ward) || (ward.phase !== 'declared' && detailOf(ward).receipts !== office.receipts);
+  const {phase} = ward;
+  if (phase === 'keying' ? !ward.batches : !wasSealed(ward) || isUncontested(ward)) return false;
+  return !isCurrent(ward) || ((phase === 'keying' || nextOf(ward)?.step === 'lot') && detailOf(ward).receipts !== office.receipts);
 };
 
 // Reads the wards of which something may have changed, first those whose entry in the list changed. Then draws the overview.
