@@ -68,7 +68,7 @@ class Machine:
     """The program on the file of an office, and the output of its orders."""
 
     def __init__(self, town):
-        self.town, self.lock, self.kept, self.stamp = Path(town).resolve(), threading.RLock(), {}, None
+        self.town, self.lock, self.kept, self.stamp, self.times = Path(town).resolve(), threading.RLock(), {}, None, None
 
     def run(self, words, folder=None):
         ended = subprocess.run([program(), str(self.town), *words], cwd=folder or self.town.parent, capture_output=True, check=False)
@@ -76,10 +76,13 @@ class Machine:
 
     def output(self, *words):
         """Returns what an order prints. The order is run once while the file stays the same."""
-        log = self.town.with_name(self.town.name + "-wal")
-        stamp = [zlib.crc32(path.read_bytes()) for path in (self.town, log) if path.exists() and path.stat().st_size > EMPTY_LOG]
+        files = [path for path in (self.town, self.town.with_name(self.town.name + "-wal")) if path.exists()]
+        times = [path.stat().st_mtime_ns for path in files]
+        # A read may write the log, but not what it holds.
+        stamp = self.stamp if times == self.times else [zlib.crc32(path.read_bytes()) for path in files if path.stat().st_size > EMPTY_LOG]
         if stamp != self.stamp:
-            self.stamp, self.kept = stamp, {}
+            self.kept = {}
+        self.stamp, self.times = stamp, times
         if words not in self.kept:
             self.kept[words] = self.run(map(str, words))
         status, out, errors = self.kept[words]

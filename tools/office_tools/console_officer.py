@@ -12,6 +12,7 @@ from office_tools.office import SCRIPT, TOWN, Office, Wrong, free_port, temporar
 from office_tools.web import HERE, Proxy
 
 CODE, TITLE = "kf7m2wxth4dnw3hd4psn", "Election of 6 May 2027, Harbour Council"
+SECTIONS = ["overview", "nominations", "batches", "doubtful", "count", "journal"]
 WIDTHS = ((1280, 800), (800, 600), (400, 800))
 # What has the focus: its key, its id, and the id of the list that it opens.
 FOCUSED = """(({id, dataset, tagName, parentElement}) => [dataset?.key, id, tagName === 'SUMMARY' && parentElement.id].filter(Boolean))(
@@ -42,13 +43,14 @@ class Officer:
         self.browser.until(f"document.getElementById('{part}')?.innerText.includes({json.dumps(words)})")
 
     def go(self, part, ward=0):
-        """Opens a section by its tab, and chooses a ward from the list."""
-        self.browser.press("Escape")
-        self.click(f"tab {part}")
-        if ward:
+        """Opens a section by its number, and chooses a ward from the list. The first Escape leaves a field, the next one the section."""
+        self.browser.press("Escape", "Escape", str(1 + SECTIONS.index(part)))
+        chosen = f"location.hash === '#{part}/{ward}'"
+        self.browser.until(f"location.hash.startsWith('#{part}')")
+        if ward and not self.browser.value(chosen):
             self.tab_to(f"ward {part}")
             self.browser.press(*str(ward))
-            self.browser.until(f"location.hash === '#{part}/{ward}'")
+            self.browser.until(chosen)
         self.drawn()
 
     def drawn(self):

@@ -13,7 +13,7 @@ from pathlib import Path
 
 from office_tools.console_officer import Evening, played
 from office_tools.election import LARGE, ward_orders
-from office_tools.office import Wrong, timed
+from office_tools.office import Wrong, timed, waited
 from office_tools.tables import Table
 
 # Puts 9,000 batches into what the page has read of ward 1.
@@ -254,7 +254,9 @@ class HostileEvening(Evening):
             self.server.machine.batches(str(ward))
         officer.log_in()
         table = Table("section", "milliseconds to draw")
-        _, seconds = timed(browser.until, "office.wards.length === 99 && !office.wards.some(isStale)")
+        is_read, seconds = timed(waited, lambda: browser.value("office.wards.length === 99 && !office.wards.some(isStale)"), 600)
+        if not is_read:
+            raise Wrong("not all wards were read")
         officer.shows("Teller 1", "waiting")
         officer.picture("50-large-overview")
         spent = {part: self.milliseconds(officer, part) for part in ("overview", "nominations", "batches", "doubtful", "count", "journal")}
