@@ -71,7 +71,7 @@ You can check the list before anything is added.</p>
 <p class="row"><label>First batch <input id="give-from" type="text" inputmode="numeric" autocomplete="off" size="5" data-draft></label>
 <label>Number of batches <input id="give-count" type="text" inputmode="numeric" autocomplete="off" size="5" data-draft></label>
 <label>Papers per batch <input id="give-size" type="text" inputmode="numeric" autocomplete="off" size="4" data-draft></label>
-<label>Papers in the last batch <input id="give-last" type="text" inputmode="numeric" autocomplete="off" size="4" data-draft></label></p>
+<label>In the last batch, if different <input id="give-last" type="text" inputmode="numeric" autocomplete="off" size="4" data-draft></label></p>
 <p class="row"><label>Tellers, in pairs <input id="give-clerks" type="text" autocomplete="off" class="long" data-draft></label></p>
 <p class="hint">The pairs take turns. For example, with 4 9 5 6 the first batch goes to tellers 4 and 9, the second to tellers 5 and 6, and the third to tellers 4 and 9 again.</p>
 <div id="give-preview"></div>
@@ -95,8 +95,8 @@ for example <b>paper 12/4</b> for batch 12 and teller 4.</p>
 <section id="count" aria-labelledby="count-title" hidden>
 <div class="head"><h2 id="count-title" tabindex="-1">Count and result</h2><div class="pick" data-pick="count"></div></div>
 <div id="count-now"></div>
-<div id="count-result"></div>
 <div id="count-chart"></div>
+<div id="count-result"></div>
 </section>
 
 <section id="journal" aria-labelledby="journal-title" hidden>
@@ -115,7 +115,7 @@ for example <b>paper 12/4</b> for batch 12 and teller 4.</p>
 </main>
 
 <footer><p><button id="sign-out" type="button">Sign out</button>
-<span id="keys-hint">Keyboard: <kbd>1</kbd> to <kbd>6</kbd> open the sections, <kbd>Tab</kbd> and <kbd>Enter</kbd> select, <kbd>Esc</kbd> returns to the overview.</span></p></footer>
+<span id="keys-hint">Keyboard: <kbd>1</kbd> to <kbd>6</kbd> open the sections, <kbd>Tab</kbd> and <kbd>Enter</kbd> select, <kbd>Esc</kbd> leaves a field, then returns to the overview.</span></p></footer>
 <dialog id="ask" aria-labelledby="ask-title"><h2 id="ask-title" tabindex="-1"></h2><div id="ask-text"></div>
 <p class="acts"><button id="ask-no" type="button">Cancel (Esc)</button> <button id="ask-yes" type="button" class="main"></button></p></dialog>
 <div id="paper"></div>

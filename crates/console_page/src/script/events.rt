@@ -6,7 +6,11 @@ pub(crate) const EVENTS: &str = r#"// ---- events: only this part runs anything 
 const isTyping = ({target}) => /^(INPUT|TEXTAREA|SELECT)$/.test(target.tagName) && target.type !== 'radio';
 
 const onKey = (event) => {
-  if (event.ctrlKey || event.metaKey || event.altKey || event.repeat || isTyping(event)) return;
+  if (event.ctrlKey || event.metaKey || event.altKey || event.repeat) return;
+  if (isTyping(event)) {
+    if (event.key === 'Escape' && !at('ask').open) event.target.blur();
+    return;
+  }
   if (at('ask').open) { onAskKey(event); return; }
   if (view === 'doubtful' && onDoubtfulKey(event)) return;
   const tab = TABS[Number(event.key) - 1];

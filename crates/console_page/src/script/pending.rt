@@ -59,10 +59,10 @@ const giveUp = () => {
 const showUnsent = (order, text, isPaused) => {
   at('result').hidden = true;
   at('unsent').hidden = false;
-  const forgetIt = button('Discard this order', giveUp);
+  const forgetIt = button('Discard this order', giveUp, {key: 'discard'});
   at('unsent').replaceChildren(
-    made('p', {className: 'said'}, `Not confirmed yet: ${order.title}.`), made('p', {}, text),
-    made('p', {className: 'acts'}, button('Send again now', () => wakeUp(), {main: true}), isPaused ? forgetIt : ''));
+    made('p', {className: 'said'}, `${order.open ? 'Not confirmed yet' : 'Not done yet'}: ${order.title}.`), made('p', {}, text),
+    made('p', {className: 'acts'}, button('Send again now', () => wakeUp(), {main: true, key: 'send-again'}), isPaused ? forgetIt : ''));
 };
 
 const leaveOpen = (order) => {
