@@ -2,6 +2,7 @@
 
 ghost use Rattle.std.specs.Prelude.{Some, take};
 
+use super::console_targets::asks_reads;
 use super::wire_requests::asks_of;
 use crate::sheet_outputs::is_text;
 use codes::{
@@ -311,7 +312,7 @@ fn asks_beside(rt: &(impl Abort + AllocGlobal), given: HttpSettings<'_>) -> Resu
 }
 
 /// What is asked of the console with this value of `Authorization`, or with none where it is empty.
-const OF_CONSOLE: [(&str, &str, &str); 10] = [
+const OF_CONSOLE: [(&str, &str, &str); 13] = [
     (
         "GET /office/",
         OFFICE,
@@ -322,6 +323,9 @@ const OF_CONSOLE: [(&str, &str, &str); 10] = [
     ("GET /office/orders", OFFICE, "only Post"),
     ("GET /office/nothing", OFFICE, "NotFound"),
     ("GET /office", OFFICE, "NotFound"),
+    ("POST /office/wards", OFFICE, "only Get"),
+    ("GET /office/wards", "", "Unauthorized(Office)"),
+    ("GET /office/wards", FOUR, "WrongCode(Office)"),
     ("GET /office/", "", "Unauthorized(Office)"),
     ("GET /office/nothing", "", "Unauthorized(Office)"),
     ("GET /office/", FOUR, "WrongCode(Office)"),
@@ -414,8 +418,10 @@ fn codes_of_clerks(rt: HostRuntime) -> Result<(), Fail> {
     assert!(rt; !held.admits_office(OFFICE.as_bytes()));
     asks_sent(&rt, gate_of(&held), "GET /office/", OFFICE, "NotFound")?;
     asks_sent(&rt, gate_of(&held), "GET /office/", "", "NotFound")?;
+    asks_sent(&rt, gate_of(&held), "GET /office/wards", OFFICE, "NotFound")?;
     let with_office = codes_of(rt.alloc(), WITH_OFFICE)?;
     asks_console(&rt, gate_of(&with_office))?;
+    asks_reads(&rt, gate_of(&with_office), OFFICE)?;
     office_is_let_in(&rt, &with_office)
 }
 

@@ -12,6 +12,8 @@ mod checker_texts;
 #[cfg(test)]
 mod codes_and_wire;
 #[cfg(test)]
+mod console_targets;
+#[cfg(test)]
 mod count_elections;
 #[cfg(test)]
 mod keyfile_imports;

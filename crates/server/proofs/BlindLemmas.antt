@@ -29,7 +29,7 @@ use Rattle.wire.specs.Told.{IsTold}
 use Rattle.wire.specs.declared.request_error.RequestError.{RequestError}
 use Rattle.wire.specs.declared.serving.Served.{Served}
 use Rattle.wire.specs.declared.target.Resource.{Resource}
-use Rattle.wire.specs.declared.target.Resource.TheVariants.{Candidates, Declaration, Sheet, Work}
+use Rattle.wire.specs.declared.target.Resource.TheVariants.{Candidates, Declaration, Office, Sheet, Work}
 use Rattle.wire.proofs.RequestLemmas.{AsksOneThing-all}
 use Rattle.server.specs.Blind.{AnswersAsSeen, RespondsBySeen, IsAnsweredBySeen, IsStoppedBySeen, IsUnder}
 use Rattle.server.specs.Settings.{ServerSettingsEntry}
@@ -136,6 +136,7 @@ module _ (itself : SeenIsAlike) (alike : AlikeOfficesAnswerAlike) (seen : SeenIs
       subst (λ (m : ℕ). reading_response s (Candidates m batch) ≡ reading_response (seen_by clerk s) (Candidates m batch)) (sym same) (paper_seen s batch)
   read_seen s (Sheet ward) its = absurd (cc its)
   read_seen s (Declaration ward) its = absurd (cc its)
+  read_seen s (Office read) its = absurd (cc its)
 
   -- ---- one turn
 

@@ -28,6 +28,8 @@ mod begun;
 #[cfg(test)]
 mod console;
 #[cfg(test)]
+mod console_reads;
+#[cfg(test)]
 mod copies;
 #[cfg(test)]
 mod http;

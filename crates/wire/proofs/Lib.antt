@@ -20,5 +20,4 @@ pub mod ToldLemmas
 pub mod ResponseLemmas
 pub mod OutcomeLemmas
 pub mod AnswerLemmas
-pub mod OfficeReadLemmas
 pub mod ServingLemmas

@@ -33,7 +33,10 @@ pub(crate) fn replied(alloc: Global, text: &str) -> Response
 fn value_text(alloc: Global, made: Result<Value, AllocError>) -> Result<String, AllocError>
     ensures { (json : Data) → has_float json ≡ false → IfOk made (λ value. view value ≡ json) → IfOk result (λ text. string_bytes text ≡ compact_text json) }
 {
-    made?.to_string(alloc)
+    match made {
+        Ok(value) => value.to_string(alloc),
+        Err(failed) => Err(failed),
+    }
 }
 
 /// Returns the response with the JSON of a value, which has no float.

@@ -97,7 +97,7 @@ fn no_such_ward(alloc: Global) -> Response
 
 /// Returns the response with a ward, if it was found.
 fn answer_found(alloc: Global, ward: Option<&WardOverview>, found: &WardRead) -> Response
-    ensures { IsTold (found_response (ward_read_view found.now) (option_map (λ w. ward_view w.now) ward)) result }
+    ensures { IsTold (found_response (ward_read_view found.now) (option_map (λ w. ward_view w.now) ward.entry)) result }
 {
     match ward {
         Some(ward) => valued(

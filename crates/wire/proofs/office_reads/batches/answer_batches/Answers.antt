@@ -10,4 +10,5 @@ use Rattle.wire.proofs.office_reads.batches.answer_batches.Goals as goal
 pub returns-in-Ok : goal.returns-in-Ok
 returns-in-Ok c =
     subst (λ told. IsReadTold (λ (batches : List BatchView). data_response (batches_data c.args.ward batches)) (λ batches. map batch_view batches.items) told c.valued.result) (sym c.in-Ok.is)
-    (c.valued.ensures (batches_data c.args.ward (map batch_view c.in-Ok.batches.items)) (batches-float c.args.ward (map batch_view c.in-Ok.batches.items)) c.batches_value.ensures)
+    (c.valued.ensures (batches_data c.args.ward (map batch_view c.in-Ok.batches.items))
+    (batches-float c.args.ward (map batch_view c.in-Ok.batches.items)) (rw c.deref.ensures.value at c.batches_value.ensures))

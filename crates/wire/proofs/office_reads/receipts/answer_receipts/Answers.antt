@@ -10,4 +10,4 @@ use Rattle.wire.proofs.office_reads.receipts.answer_receipts.Goals as goal
 pub returns-in-Ok : goal.returns-in-Ok
 returns-in-Ok c =
     subst (λ told. IsReadTold (λ (receipts : List ReceiptEntry). data_response (receipts_data receipts)) (λ receipts. map receipt_entry receipts.items) told c.valued.result) (sym c.in-Ok.is)
-    (c.valued.ensures (receipts_data (map receipt_entry c.in-Ok.receipts.items)) (receipts-float (map receipt_entry c.in-Ok.receipts.items)) c.receipts_value.ensures)
+    (c.valued.ensures (receipts_data (map receipt_entry c.in-Ok.receipts.items)) (receipts-float (map receipt_entry c.in-Ok.receipts.items)) (rw c.deref.ensures.value at c.receipts_value.ensures))
