@@ -15,6 +15,7 @@ pub mod Counts
 pub mod ReadingBack
 pub mod Views
 pub mod Texts
+pub mod Remedies
 pub mod Reports
 pub mod Pages
 pub mod Outputs

@@ -1,9 +1,10 @@
 -- The checker's output and exit status.
-use Rattle.std.specs.Prelude.{ℕ, ◌==◌, ◌||◌, ◌&&◌, nat_le, Bool, false, not, if◌then◌else◌, List, [], ◌∷◌, ◌-◌, length, slice_get, Option, Some, None, option_map, codes, string_bytes}
+use Rattle.std.specs.Prelude.{ℕ, ◌==◌, ◌||◌, ◌&&◌, nat_le, Bool, false, not, if◌then◌else◌, List, [], ◌∷◌, ◌++◌, ◌-◌, length, slice_get, Option, Some, None, option_map, codes, string_bytes}
 use Rattle.std.specs.Fmt.{decimal}
 use Rattle.std.specs.List.{flat_map, list_any}
 use Rattle.std.specs.Char.{encode_utf8}
 use Rattle.std.specs.Str.{chars}
+use Rattle.checker.specs.Remedies.{remedy}
 use Rattle.checker.specs.Tokens.{Text}
 use Rattle.checker.specs.Texts.{joined, problem_text}
 use Rattle.checker.specs.declared.differences.Checked.{Checked}
@@ -136,10 +137,10 @@ words_text words.SecondTitle = codes "error: give one title; --help says more\n"
 abbrev pub second_lot_text : ℕ → Text
 second_lot_text stage = joined (codes "error: a lot for stage " ∷ decimal stage ∷ codes " is given a second time: give one, in the ballots or by --lot\n" ∷ [])
 
--- the reason why ballots aren't counted
+-- the reason why ballots aren't counted, and what to do
 abbrev pub uncounted_text : CountProblem → Text
 uncounted_text (uncounted.LotTwice stage) = second_lot_text stage
-uncounted_text (uncounted.Ballots problem) = hindered_text problem
+uncounted_text (uncounted.Ballots problem) = hindered_text problem ++ remedy problem
 
 -- the status for the outcome of a check
 abbrev pub checked_status : Checked → ℕ

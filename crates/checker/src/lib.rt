@@ -43,6 +43,7 @@ mod help;
 mod hints;
 mod input_files;
 mod printing;
+mod remedies;
 mod report;
 mod requests;
 mod shown;

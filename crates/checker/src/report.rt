@@ -10,6 +10,7 @@ use crate::differences::Checked;
 use crate::help::{COUNT_HELP, HELP};
 use crate::hints::{Hint, hint_text};
 use crate::problem::Problem;
+use crate::remedies::remedy;
 use crate::requests::WordsFlaw;
 use crate::shown::shown;
 use itoa::Buffer;
@@ -175,7 +176,7 @@ fn unread_text(alloc: Global, path: &str, why: &str) -> Result<String, AllocErro
     format!(in alloc; "error: {path} can't be read: {why}\n")
 }
 
-/// Returns the message about the reason why ballots aren't counted.
+/// Returns the message about the reason why ballots aren't counted, and what to do.
 fn uncounted_text(alloc: Global, problem: &CountProblem) -> Result<String, AllocError>
     ensures { IfOk result (λ text. string_bytes text ≡ uncounted_text problem.now) }
 {
@@ -185,7 +186,11 @@ fn uncounted_text(alloc: Global, problem: &CountProblem) -> Result<String, Alloc
                 "error: a lot for stage {stage} is given a second time: give one, in the ballots or by --lot\n"
             )
         }
-        CountProblem::Ballots(problem) => hindered_text(alloc, problem),
+        CountProblem::Ballots(problem) => {
+            let mut text = hindered_text(alloc, problem)?;
+            text.push_str(remedy(problem))?;
+            Ok(text)
+        }
     }
 }
 

@@ -111,6 +111,10 @@ const NO_VALUE: &str = "error: the last option needs a value; --help says more\n
 const NO_LOT: &str =
     "error: give a lot as its stage and its candidate, such as --lot 3:4; --help says more\n";
 
+const NOT_TIED: &str = "error: the lot for stage 2 names none of the tied
+(correct the lot; without it the tied candidates are printed)
+";
+
 /// The words that the checker is asked by, and what it prints.
 const ASKED: [(&str, (&str, &str, u8)); 14] = [
     ("large text", MEMORY),
@@ -126,10 +130,7 @@ const ASKED: [(&str, (&str, &str, u8)); 14] = [
     ("--count", ("", NO_BALLOTS, 2)),
     ("--count tied --lot", ("", NO_VALUE, 2)),
     ("--count tied --lot 2:", ("", NO_LOT, 2)),
-    (
-        "--count tied --lot 2:1",
-        ("", "error: the lot for stage 2 names none of the tied\n", 2),
-    ),
+    ("--count tied --lot 2:1", ("", NOT_TIED, 2)),
 ];
 
 /// Asks the checker by some words over outputs that take no more bytes than they have room for, and gives its status.
