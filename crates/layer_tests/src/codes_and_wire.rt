@@ -27,8 +27,9 @@ const WITH_OFFICE: &str = "4 kf7m-2wxt\noffice abcd-efgh-jkmn-prst\r\n9 w3hd-4ps
 /// What the office sends with that code.
 const OFFICE: &str = "Basic b2ZmaWNlOmFiY2QtZWZnaC1qa21uLXByc3Q=";
 
-/// What may be sent to the office, and whether it is the office's: a clerk's own, nothing, the office's code under clerk 4's name,
-/// clerk 4's under the office's, the office's name in a capital, its code cut, and under another scheme.
+/// What may be sent to the office, and whether it is the office's. After its own come two clerks', nothing, the office's code under
+/// clerk 4's name, and clerk 4's code under the office's. Then the office's name has a capital, its code is cut, and another scheme
+/// is named.
 const TO_OFFICE: [(&str, bool); 9] = [
     (OFFICE, true),
     (FOUR, false),
@@ -226,7 +227,7 @@ fn is_reached_after(
     Ok(limit.is_reached(now))
 }
 
-/// RandomSource these bytes, one after the other. Then it fails.
+/// Returns these bytes, one after the other. Then it fails.
 #[derive(Drop)]
 struct Known<'a> {
     bytes: &'a [u8],

@@ -26,6 +26,8 @@ mod clients;
 mod begun;
 // The tests.
 #[cfg(test)]
+mod console;
+#[cfg(test)]
 mod copies;
 #[cfg(test)]
 mod http;
