@@ -28,7 +28,8 @@ impl LocalFiles<'_> {
     /// Returns the bytes of standard input, up to its end.
     fn standard_input(&self) -> Result<Vec<u8>, Error> {
         let mut bytes = Vec::new(self.rt.alloc());
-        self.rt.stdin().read_to_end(&mut bytes)?;
+        let mut input = self.rt.stdin();
+        input.read_to_end(&mut bytes)?;
         Ok(bytes)
     }
 
