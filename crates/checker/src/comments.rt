@@ -21,7 +21,7 @@ fn is_word(text: &str, word: &[u8]) -> bool
 }
 
 /// Parses a number that fits in one byte.
-fn small_in(word: &[u8]) -> Option<u8>
+pub(crate) fn small_in(word: &[u8]) -> Option<u8>
     ensures { result ≡ small_in word.now }
 {
     match number_in(255, word) {
@@ -102,7 +102,7 @@ fn lot_in(words: &[&[u8]]) -> Option<(u8, u8)>
 }
 
 /// Returns whether a lot is recorded for a stage.
-fn is_drawn(stage: u8, lots: &[(u8, u8)]) -> bool
+pub(crate) fn is_drawn(stage: u8, lots: &[(u8, u8)]) -> bool
     ensures { result ≡ is_drawn stage lots.now }
 {
     for lot in lots {

@@ -6,6 +6,8 @@
 #![tactic(auto)]
 
 #[cfg(test)]
+mod ballot_counts;
+#[cfg(test)]
 mod checker_failures;
 #[cfg(test)]
 mod checker_texts;
