@@ -5,8 +5,8 @@ use Rattle.count.specs.Advance.{end_after}
 use Rattle.count.specs.Law.Contest.{Contest, History}
 use Rattle.count.specs.Law.Elected.{elected_after}
 use Rattle.count.specs.Law.Right.{IsWholeCount}
-use Rattle.count.specs.declared.run.CountEnd.{CountEnd}
-use Rattle.count.specs.declared.run.CountEnd.TheVariants as end
+use Rattle.count.specs.declared.count_to_end.CountEnd.{CountEnd}
+use Rattle.count.specs.declared.count_to_end.CountEnd.TheVariants as end
 use Rattle.count.specs.declared.stages.Due.{Due}
 use Rattle.count.specs.declared.stages.Stage.{Stage}
 use Rattle.checker.specs.Checks.{EndsAt, dues_of, undrawn_by}

@@ -100,7 +100,7 @@ IsCountFileOutcome held asked told =
 abbrev pub IsAnswer : InputFiles → Request → Report → Type 0
 IsAnswer held help told = told ≡ report.Help
 IsAnswer held (check ballots text) told = IsFilesOutcome held ballots text told
-IsAnswer held nothing told = told ≡ report.NotAsked
+IsAnswer held nothing told = told ≡ report.BadArguments
 IsAnswer held count_help told = told ≡ report.CountHelp
 IsAnswer held (count asked) told = IsCountFileOutcome held asked told
 IsAnswer held (misread flaw) told = (told ≡ report.Misread flaw) ⊎ (told ≡ report.Hindered problem.Memory)

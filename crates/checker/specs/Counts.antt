@@ -1,12 +1,13 @@
 -- The count of the ward in a file of ballots, and its texts.
-use Rattle.std.specs.Prelude.{◌≡◌, ◌⊎◌, ◌==◌, ℕ, ◌+◌, nat_eq, nat_lt, Bool, true, false, if◌then◌else◌, List, [], ◌∷◌, ◌++◌, reverse, insert, option_map, Option, Some, None, Result, Ok, Err, codes, string_bytes, ⊤}
+use Rattle.std.specs.Prelude.{◌≡◌, ◌⊎◌, ◌==◌, ℕ, ◌+◌, nat_eq, nat_lt, Bool, true, false, if◌then◌else◌, List, []}
+use Rattle.std.specs.Prelude.{◌∷◌, ◌++◌, reverse, insert, option_map, Option, Some, None, Result, Ok, Err, codes, string_bytes, ⊤}
 use Rattle.std.specs.Fmt.{decimal}
 use Rattle.std.specs.List.{flat_map, list_any}
 use Rattle.count.specs.Bundles.{Bundle}
 use Rattle.count.specs.Law.Contest.{Contest, IsContest}
 use Rattle.count.specs.Law.Elected.{elected_after}
-use Rattle.count.specs.declared.run.CountEnd.{CountEnd}
-use Rattle.count.specs.declared.run.CountEnd.TheVariants as end
+use Rattle.count.specs.declared.count_to_end.CountEnd.{CountEnd}
+use Rattle.count.specs.declared.count_to_end.CountEnd.TheVariants as end
 use Rattle.count.specs.declared.stages.Due.{Due}
 use Rattle.sheet.specs.Ballots.{ballots}
 use Rattle.sheet.specs.Entries.{SheetEntry}
@@ -15,7 +16,7 @@ use Rattle.sheet.specs.Sheet.{declaration, sheet}
 use Rattle.sheet.specs.Spreadsheet.{spreadsheet}
 use Rattle.sheet.specs.declared.ward.Poll.{Poll}
 use Rattle.checker.specs.Checks.{EndsAt, IsWardProblem, dues_of, undrawn, undrawn_by}
-use Rattle.checker.specs.Comments.{is_drawn}
+use Rattle.checker.specs.BallotsComments.{is_drawn}
 use Rattle.checker.specs.Reading.{ReaderEntry, read}
 use Rattle.checker.specs.Reports.{shown}
 use Rattle.checker.specs.Texts.{joined}

@@ -6,14 +6,14 @@ pub mod Ranks
 pub mod Papers
 pub mod ForeignComments
 pub mod Names
-pub mod Comments
+pub mod BallotsComments
 pub mod Reading
 pub mod Differences
 pub mod Wards
 pub mod Checks
 pub mod Counts
-pub mod ReadingBack
-pub mod Views
+pub mod BallotsRoundTrip
+pub mod Values
 pub mod Texts
 pub mod Remedies
 pub mod Reports

@@ -171,7 +171,7 @@ counted_page text (Some line) = record { out = text; err = line; status = 1 }
 abbrev pub page_of : Report → ReportEntry
 page_of report.Help = page_with 0 HELP.now
 page_of report.CountHelp = page_with 0 COUNT_HELP.now
-page_of report.NotAsked = page_with 2 (codes "error: give the path of the ballots, and that of the sheet; --help says more\n")
+page_of report.BadArguments = page_with 2 (codes "error: give the path of the ballots, and that of the sheet; --help says more\n")
 page_of (report.Misread flaw) = page_with 2 (words_text flaw)
 page_of report.NotUtf8 = page_with 2 (codes "error: a word is not UTF-8\n")
 page_of (report.NotRead path why) = page_with 3 (unread_text (string_bytes path) (string_bytes why))

@@ -1,7 +1,7 @@
 -- The words of a request to count ballots: the path of the ballots, the text to print, and lots.
 use Rattle.std.specs.Prelude.{ℕ, ◌==◌, Bool, false, if◌then◌else◌, List, [], ◌∷◌, ◌++◌, codes, option_map, Option, Some, None, is_some, Result, Ok, Err}
 use Rattle.std.specs.Option.{option_and_then}
-use Rattle.checker.specs.Comments.{is_word, small_in}
+use Rattle.checker.specs.BallotsComments.{is_word, small_in}
 use Rattle.checker.specs.Counts.{TextEntry, sheet_asked, declaration_asked, page_asked, table_asked, ballots_asked}
 use Rattle.checker.specs.Tokens.{Text, pieces_of}
 use Rattle.checker.specs.declared.tokens.Separator.TheVariants.{Colon}

@@ -4,7 +4,7 @@ ghost use Rattle.std.specs.Prelude.{◌≡◌, ◌-◌, ◌^◌, ◌<◌, map, s
 ghost use Rattle.checker.specs.Arguments.{IsAnswer, IsCheckOutcome, IsCountFileOutcome, IsCountOutcome, IsFilesOutcome, IsOutcome, IsPageFor, IsTextOutcome, IsUnreadFile};
 ghost use Rattle.checker.specs.Arguments.{asked, check_asked, count_asked, is_help, is_help_alone, words_told};
 ghost use Rattle.checker.specs.InputFiles.{Holds};
-ghost use Rattle.checker.specs.Outputs.{TellsSome, outputs_of};
+ghost use Rattle.checker.specs.Outputs.{PrintsSomeReport, outputs_of};
 ghost use Rattle.checker.specs.RequestViews.{request_told};
 
 use crate::ballot_counts::count_ballots;
@@ -92,11 +92,11 @@ fn check_answer<F: InputFiles>(alloc: Global, words: &[String], folder: &F) -> R
             if is_help(word.as_str()) {
                 Report::Help
             } else {
-                Report::NotAsked
+                Report::BadArguments
             }
         }
         [ballots, text] => checked_files(alloc, folder, ballots.as_str(), text.as_str()),
-        _ => Report::NotAsked,
+        _ => Report::BadArguments,
     }
 }
 
@@ -149,7 +149,7 @@ fn answer<F: InputFiles>(alloc: Global, words: &[String], folder: &F) -> Report
     ensures { IsAnswer (F.held folder.now) (asked (map string_bytes words.now)) result }
 {
     let [word, others @ ..] = words else {
-        return Report::NotAsked;
+        return Report::BadArguments;
     };
     if word.as_str() == "--count" {
         return count_answer(alloc, others, folder);
@@ -193,7 +193,7 @@ pub fn run<F: InputFiles, O: Sink, E: Sink>(
     requires out { O.failed out.old < 2 ^ 64 - 1 }
     requires err { E.failed err.old < 2 ^ 64 - 1 }
     ensures { let outputs = outputs_of O.taken O.failed E.taken E.failed in
-        TellsSome (outputs out.old err.old) (outputs out.new err.new) result (λ page. IsPageFor (F.held folder.now) (words_told (λ given. map string_bytes given.items) words.now) page) }
+        PrintsSomeReport (outputs out.old err.old) (outputs out.new err.new) result (λ page. IsPageFor (F.held folder.now) (words_told (λ given. map string_bytes given.items) words.now) page) }
 {
     print_report(alloc, outcome_of(alloc, words, folder), out, err)
 }

@@ -5,14 +5,14 @@ ghost use Rattle.sheet.specs.Entries.{shown};
 ghost use Rattle.sheet.specs.Wards.{CanBePrinted};
 ghost use Rattle.checker.specs.Counts.{IsCountedText, IsLotLine, IsNoLotLine, IsReadingText, IsReadingUncounted, IsUncounted};
 ghost use Rattle.checker.specs.Counts.{IsWardText, IsWardUncounted, declaration_asked, is_finished, lots_in, text_of, text_shown};
-ghost use Rattle.checker.specs.Views.{reading_of};
+ghost use Rattle.checker.specs.Values.{reading_of};
 
 use crate::counting::{WardCount, count_of};
+use crate::file_content::Reader;
 use crate::lot_lines::lot_line;
 use crate::lots::lots_of;
 use crate::problem::Problem;
 use crate::reading::read;
-use crate::state::Reader;
 use crate::wards::{Election, candidates_of, ward_in};
 use count::CountEnd;
 use sheet::{ballots_text, declaration_text, page_text, sheet_text, spreadsheet_text};

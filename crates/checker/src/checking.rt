@@ -6,14 +6,14 @@ ghost use Rattle.sheet.specs.Sheet.{declaration, sheet};
 ghost use Rattle.sheet.specs.Wards.{CanBePrinted};
 ghost use Rattle.checker.specs.Checks.{IsChecked, IsProblem, IsWardCheck, IsWardProblem, problem_of};
 ghost use Rattle.checker.specs.Differences.{IsComparison};
-ghost use Rattle.checker.specs.Views.{reading_of};
+ghost use Rattle.checker.specs.Values.{reading_of};
 ghost use Rattle.checker.specs.Wards.{ward_told};
 
 use crate::counting::count_of;
 use crate::differences::{Checked, comparison};
+use crate::file_content::Reader;
 use crate::problem::Problem;
 use crate::reading::read;
-use crate::state::Reader;
 use crate::wards::{Election, candidates_of, ward_in};
 use count::{CountEnd, Stage};
 use paper::Columns;

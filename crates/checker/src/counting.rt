@@ -9,7 +9,9 @@ ghost use Rattle.checker.specs.Wards.{contest_in};
 use crate::lots::undrawn_by;
 use crate::problem::Problem;
 use crate::wards::{Election, numbers_of};
-use count::{BundleBook, CountBook, CountEnd, Due, Stage, dues_to, is_bundled_contest, run_count};
+use count::{
+    BundleBook, CountBook, CountEnd, Due, Stage, bundles_can_be_counted, dues_to, run_count,
+};
 use paper::Columns;
 use std::alloc::Global;
 
@@ -73,7 +75,7 @@ fn contested_count(alloc: Global, election: &Election) -> Result<WardCount, Prob
 {
     let numbers = numbers_of(&election.ward);
     let seats = election.ward.seats;
-    if !is_bundled_contest(&numbers, seats, election.bundles) {
+    if !bundles_can_be_counted(&numbers, seats, election.bundles) {
         return Err(Problem::NoContest);
     }
     let Ok(mut book) = BundleBook::new(alloc, numbers, seats, election.bundles) else {

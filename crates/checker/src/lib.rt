@@ -23,12 +23,12 @@ mod numbers;
 mod tokens;
 // what a file contains so far, and what each of its lines adds
 mod comments;
+mod file_content;
 mod foreign_comments;
 mod names;
 mod papers;
 mod ranks;
 mod reading;
-mod state;
 // the ward in a file, its count by the lots, the texts of the count, and the comparison of a text with them
 mod ballot_counts;
 mod checking;
@@ -46,7 +46,7 @@ mod printing;
 mod remedies;
 mod report;
 mod requests;
-mod shown;
+mod terminal_escaping;
 
 pub use arguments::{ArgumentsFault, run};
 pub use ballot_counts::{CountProblem, CountText, CountedText, count_ballots};

@@ -4,7 +4,7 @@ ghost use Rattle.std.specs.Prelude.{◌≡◌, ◌++◌, string_bytes, IfOk, OnO
 ghost use Rattle.sheet.specs.Entries.{shown as shown_ward};
 ghost use Rattle.checker.specs.Counts.{lot_line, tie_mark, tied_name, tied_names};
 
-use crate::shown::shown;
+use crate::terminal_escaping::shown;
 use itoa::Buffer;
 use paper::Columns;
 use sheet::Ward;

@@ -12,7 +12,7 @@ use crate::hints::{Hint, hint_text};
 use crate::problem::Problem;
 use crate::remedies::remedy;
 use crate::requests::WordsFlaw;
-use crate::shown::shown;
+use crate::terminal_escaping::shown;
 use itoa::Buffer;
 use paper::Columns;
 use std::alloc::{AllocError, Global};
@@ -37,7 +37,7 @@ pub enum Report {
     /// Help about counting is requested.
     CountHelp,
     /// The arguments of a check aren't understood.
-    NotAsked,
+    BadArguments,
     /// The arguments of a count aren't understood.
     Misread(WordsFlaw),
     /// An argument isn't UTF-8.
@@ -284,7 +284,7 @@ pub(crate) fn page_of(alloc: Global, report: Report) -> Result<Page, AllocError>
     match report {
         Report::Help => page_of_text(alloc, WELL, HELP),
         Report::CountHelp => page_of_text(alloc, WELL, COUNT_HELP),
-        Report::NotAsked => page_of_text(
+        Report::BadArguments => page_of_text(
             alloc,
             NOT_CHECKED,
             "error: give the path of the ballots, and that of the sheet; --help says more\n",

@@ -1,7 +1,7 @@
 //! The words of a request to count ballots.
 
 ghost use Rattle.std.specs.Prelude.{◌≡◌, Ok, map, option_map, string_bytes, IfOk, IfErr};
-ghost use Rattle.checker.specs.Comments.{is_word as is_word_of};
+ghost use Rattle.checker.specs.BallotsComments.{is_word as is_word_of};
 ghost use Rattle.checker.specs.Counts.{text_of};
 ghost use Rattle.checker.specs.Requests.{count_request, done_as, is_option, lot_in_word, lot_of, nothing_asked, request_at, text_asked, text_option};
 ghost use Rattle.checker.specs.Requests.{with_any, with_ballots, with_lot, with_next, with_text, with_text_or_ballots, with_title, with_word, with_words};

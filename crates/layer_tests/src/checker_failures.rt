@@ -1,4 +1,4 @@
-//! What the checker prints over files that can't be read, memory that is wanting, and outputs that fail. (What else it prints is
+//! What the checker prints if files can't be read, allocations fail, or outputs fail. (What else it prints is
 //! played in examples/checking.sh and examples/transcripts/checks.txt.)
 
 ghost use Rattle.std.specs.Prelude.{◌-◌, ◌^◌, ◌<◌};
@@ -48,7 +48,7 @@ impl InputFiles for MemoryFiles<'_> {
     }
 }
 
-/// Some words, parted by spaces.
+/// Returns words that are separated by spaces.
 fn words_of(alloc: Global, words: &str) -> Result<Vec<String>, AllocError> {
     let mut all = Vec::new(alloc);
     for word in words.split_whitespace() {
@@ -57,7 +57,7 @@ fn words_of(alloc: Global, words: &str) -> Result<Vec<String>, AllocError> {
     Ok(all)
 }
 
-/// Asks the checker, of which a text lies on the shelf beside the ballots, by some words, and gives its status.
+/// Runs the checker with some words, in a folder with a text and the ballots, and returns its status.
 fn asked<O: Sink, E: Sink>(
     alloc: Global,
     words: &Result<Vec<String>, ArgumentsFault>,
@@ -76,7 +76,7 @@ fn asked<O: Sink, E: Sink>(
     run(alloc, words, &folder, out, err)
 }
 
-/// Asks the checker by some words, and compares what it prints on the output and the error output, and its status.
+/// Runs the checker with some words, and compares its output, its error output and its status.
 fn tells(
     rt: &(impl Abort + AllocGlobal),
     words: &Result<Vec<String>, ArgumentsFault>,
@@ -90,20 +90,20 @@ fn tells(
     assert!(rt; status == told.2);
 }
 
-/// The same by words that can be read.
+/// Does the same with words that are UTF-8.
 fn asks(rt: &(impl Abort + AllocGlobal), words: &str, told: &(&str, &str, u8)) -> Result<(), Fail> {
     let words = Ok(words_of(rt.alloc(), words)?);
     tells(rt, &words, told);
     Ok(())
 }
 
-/// What it prints where memory is wanting.
+/// Its output if an allocation fails.
 const MEMORY: (&str, &str, u8) = ("", "error: memory is wanting\n", 3);
 
-/// What it prints of a file that can't be read.
+/// Its output if a file can't be read.
 const UNREAD: (&str, &str, u8) = ("", "error: no?ne can't be read: there is none\n", 3);
 
-/// What it prints of words that lack the ballots, or a lot.
+/// Its output for words that lack the ballots, or a lot.
 const NO_BALLOTS: &str = "error: give the path of the ballots; --help says more\n";
 
 const NO_VALUE: &str = "error: the last option needs a value; --help says more\n";
@@ -115,7 +115,7 @@ const NOT_TIED: &str = "error: the lot for stage 2 names none of the tied
 (correct the lot; without it the tied candidates are printed)
 ";
 
-/// The words that the checker is asked by, and what it prints.
+/// The checker's words, and its output.
 const ASKED: [(&str, (&str, &str, u8)); 14] = [
     ("large text", MEMORY),
     ("ballots large", MEMORY),
@@ -133,7 +133,7 @@ const ASKED: [(&str, (&str, &str, u8)); 14] = [
     ("--count tied --lot 2:1", ("", NOT_TIED, 2)),
 ];
 
-/// Asks the checker by some words over outputs that take no more bytes than they have room for, and gives its status.
+/// Runs the checker with some words, and with outputs that accept only so many bytes as they have room for, and returns its status.
 fn asked_over(
     alloc: Global,
     words: &str,
@@ -146,7 +146,7 @@ fn asked_over(
     Ok(asked(alloc, &words, text, &mut to_out, &mut to_err))
 }
 
-/// What it prints of a text over outputs that have room for just this.
+/// Compares its output for a text with outputs that have room for just this.
 fn breaks(
     rt: &(impl Abort + AllocGlobal),
     (words, text, out_told, err_told): &(&str, &str, &str, &str),
@@ -160,7 +160,7 @@ fn breaks(
     Ok(())
 }
 
-/// Words, a text, and what an output and an error output take that have no room for more.
+/// Words, a text, and what an output and an error output accept that have no room for more.
 const BROKEN: [(&str, &str, &str, &str); 5] = [
     (
         "ballots text",

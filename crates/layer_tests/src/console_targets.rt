@@ -9,13 +9,25 @@ use wire::HttpSettings;
 const READS: [(&str, &str); 9] = [
     ("/office/wards", "Office(Wards)"),
     ("/office/wards/7", "Office(Ward { ward: 7 })"),
-    ("/office/wards/99999/batches", "Office(Batches { ward: 99999 })"),
+    (
+        "/office/wards/99999/batches",
+        "Office(Batches { ward: 99999 })",
+    ),
     ("/office/wards/7/doubtful", "Office(Doubtful { ward: 7 })"),
-    ("/office/batches/13/differences", "Office(Differences { batch: 13 })"),
+    (
+        "/office/batches/13/differences",
+        "Office(Differences { batch: 13 })",
+    ),
     ("/office/batches/12/papers", "Office(Papers { batch: 12 })"),
     ("/office/receipts", "Office(Receipts { actor: None })"),
-    ("/office/receipts?actor=0", "Office(Receipts { actor: Some(0) })"),
-    ("/office/receipts?actor=12", "Office(Receipts { actor: Some(12) })"),
+    (
+        "/office/receipts?actor=0",
+        "Office(Receipts { actor: Some(0) })",
+    ),
+    (
+        "/office/receipts?actor=12",
+        "Office(Receipts { actor: Some(12) })",
+    ),
 ];
 
 /// Targets at which nothing is read.

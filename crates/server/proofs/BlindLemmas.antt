@@ -4,12 +4,12 @@ use Rattle.std.proofs.lemmas.Bool.{both_ways, eq-eqb, eqb-true}
 use Rattle.std.specs.Str.{bytes_eq}
 use Rattle.sqlite.specs.Held.{Held}
 use Rattle.sqlite.specs.State.{State}
-use Rattle.register.specs.Items.{IsState}
+use Rattle.register.specs.StateConditions.{IsState}
 use Rattle.register.specs.Machine.{Ruling, accepts, after, answered, decided, keeps, outcome_at, part_of, refuses, ruling_at, state_after, step, step_of, subject_of}
 use Rattle.register.specs.Offices.{OfficeState, ReceiptEntry, receipt_at}
 use Rattle.register.specs.Ranges.{is_batch_number, is_clerk, is_id, is_office}
 use Rattle.register.specs.Seen.{seen_by}
-use Rattle.register.specs.Standings.{BallotPaperEntry, WorkEntry}
+use Rattle.register.specs.Status.{BallotPaperEntry, WorkEntry}
 use Rattle.register.specs.declared.command.Command.{Command}
 use Rattle.register.specs.declared.command.Command.TheVariants as command
 use Rattle.register.specs.declared.command.Request.{Request}

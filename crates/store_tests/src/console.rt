@@ -3,8 +3,8 @@
 use super::begun::{BAD_REQUEST, BEGUN};
 use super::clients::{Evening, TestClient};
 use super::disks::Disks;
-use super::machine::{Machine, hear, hear_unchanged, play_acts};
 use super::steps::{Case, Step};
+use super::test_host::{TestHost, hear, hear_unchanged, play_acts};
 use std::alloc::{AllocError, Global};
 use std::process::Abort;
 use std::test::Fail;
@@ -133,7 +133,7 @@ fn followed(alloc: Global, body: &str) -> Result<String, AllocError> {
 }
 
 /// Orders of the office are followed in turn.
-fn are_followed<M: Machine + Drop>(rt: &(impl Abort + AllocGlobal), machine: M) -> Result<M, Fail> {
+fn are_followed<M: TestHost + Drop>(rt: &(impl Abort + AllocGlobal), host: M) -> Result<M, Fail> {
     let alloc = rt.alloc();
     let mut talk = Talk::new(alloc);
     for (body, printed) in &ORDERS {
@@ -141,13 +141,13 @@ fn are_followed<M: Machine + Drop>(rt: &(impl Abort + AllocGlobal), machine: M) 
         talk.add(alloc, OFFICE, *body, told.as_str())?;
     }
     let clients = talk.clients(alloc)?;
-    hear(rt, machine, &[talk.case(&clients)])
+    hear(rt, host, &[talk.case(&clients)])
 }
 
 /// What lacks the office's code, or has no words, changes nothing.
-fn are_not_followed<M: Machine + Drop>(
+fn are_not_followed<M: TestHost + Drop>(
     rt: &(impl Abort + AllocGlobal),
-    machine: M,
+    host: M,
 ) -> Result<M, Fail> {
     let alloc = rt.alloc();
     let mut talk = Talk::new(alloc);
@@ -155,13 +155,13 @@ fn are_not_followed<M: Machine + Drop>(
         talk.add(alloc, *header, *body, *told)?;
     }
     let clients = talk.clients(alloc)?;
-    hear_unchanged(rt, machine, &[talk.case(&clients)])
+    hear_unchanged(rt, host, &[talk.case(&clients)])
 }
 
-fn are_sent<M: Machine + Drop>(rt: &(impl Abort + AllocGlobal)) -> Result<(), Fail> {
-    let machine: M = play_acts(rt, BEGUN)?;
-    let machine = are_not_followed(rt, machine)?;
-    are_followed(rt, machine)?;
+fn are_sent<M: TestHost + Drop>(rt: &(impl Abort + AllocGlobal)) -> Result<(), Fail> {
+    let host: M = play_acts(rt, BEGUN)?;
+    let host = are_not_followed(rt, host)?;
+    are_followed(rt, host)?;
     Ok(())
 }
 

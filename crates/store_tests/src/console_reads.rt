@@ -1,12 +1,10 @@
 //! What the officer's console reads, of an office whose batch differs, and of the same office once the batch is taken and judged.
 
-use super::begun::{
-    DIFFERING, FOUR_COMES_LATE, GIVEN_OUT, NOMINATED, PAPER_BY_PAPER, SET,
-};
+use super::begun::{DIFFERING, FOUR_COMES_LATE, GIVEN_OUT, NOMINATED, PAPER_BY_PAPER, SET};
 use super::clients::{Evening, TestClient};
 use super::disks::Disks;
-use super::machine::{Act, Machine, do_act, hear_unchanged, play_acts};
 use super::steps::Step;
+use super::test_host::{Act, TestHost, do_act, hear_unchanged, play_acts};
 use std::alloc::{AllocError, Global};
 use std::process::Abort;
 use std::test::Fail;
@@ -104,7 +102,7 @@ const WHILE_IT_DIFFERS: [Read; 12] = [
     ),
 ];
 
-/// Batch 12 is taken, and its doubtful paper is accepted. 
+/// Batch 12 is taken, and its doubtful paper is accepted.
 const ONCE_IT_IS_TAKEN: [Read; 7] = [
     (
         "/office/wards",
@@ -172,9 +170,9 @@ fn response_of(alloc: Global, status: &str, body: &str) -> Result<String, AllocE
 }
 
 /// Reads one thing, with these codes; the response must be this, and no row may change.
-fn read_one<M: Machine + Drop>(
+fn read_one<M: TestHost + Drop>(
     rt: &(impl Abort + AllocGlobal),
-    machine: M,
+    host: M,
     read: &Read,
     codes: &str,
 ) -> Result<M, Fail> {
@@ -187,27 +185,24 @@ fn read_one<M: Machine + Drop>(
         ..Evening::of(&clients)
     };
     let told = (0, response.as_str(), "Ok(())");
-    hear_unchanged(rt, machine, &[(Step::Serve(evening), told)])
+    hear_unchanged(rt, host, &[(Step::Serve(evening), told)])
 }
 
 /// Reads each of these.
-fn read_all<M: Machine + Drop>(
+fn read_all<M: TestHost + Drop>(
     rt: &(impl Abort + AllocGlobal),
-    machine: M,
+    host: M,
     reads: &[Read],
 ) -> Result<M, Fail> {
-    let mut machine = machine;
+    let mut host = host;
     for read in reads {
-        machine = read_one(rt, machine, read, CODES)?;
+        host = read_one(rt, host, read, CODES)?;
     }
-    Ok(machine)
+    Ok(host)
 }
 
 /// A clerk's code isn't the office's; and without a line of the office nothing is there.
-fn are_kept_out<M: Machine + Drop>(
-    rt: &(impl Abort + AllocGlobal),
-    machine: M,
-) -> Result<M, Fail> {
+fn are_kept_out<M: TestHost + Drop>(rt: &(impl Abort + AllocGlobal), host: M) -> Result<M, Fail> {
     let by_a_clerk = (
         "/office/wards",
         FOUR,
@@ -220,23 +215,23 @@ fn are_kept_out<M: Machine + Drop>(
         NOT_FOUND,
         r#"{"error":"not found"}"#,
     );
-    let machine = read_one(rt, machine, &by_a_clerk, CODES)?;
-    read_one(rt, machine, &nowhere, "4 kf7m-2wxt\n")
+    let host = read_one(rt, host, &by_a_clerk, CODES)?;
+    read_one(rt, host, &nowhere, "4 kf7m-2wxt\n")
 }
 
-fn console_reads<M: Machine + Drop>(rt: &(impl Abort + AllocGlobal)) -> Result<(), Fail> {
+fn console_reads<M: TestHost + Drop>(rt: &(impl Abort + AllocGlobal)) -> Result<(), Fail> {
     let begun = [
         Act::Typed(NOMINATED),
         Act::Typed(GIVEN_OUT),
         Act::Typed(DIFFERING),
     ];
-    let machine: M = play_acts(rt, &begun)?;
-    let mut machine = read_all(rt, machine, &WHILE_IT_DIFFERS)?;
+    let host: M = play_acts(rt, &begun)?;
+    let mut host = read_all(rt, host, &WHILE_IT_DIFFERS)?;
     for then in [SET, PAPER_BY_PAPER, FOUR_COMES_LATE] {
-        machine = do_act(rt, machine, &Act::Typed(then))?;
+        host = do_act(rt, host, &Act::Typed(then))?;
     }
-    let machine = read_all(rt, machine, &ONCE_IT_IS_TAKEN)?;
-    are_kept_out(rt, machine)?;
+    let host = read_all(rt, host, &ONCE_IT_IS_TAKEN)?;
+    are_kept_out(rt, host)?;
     Ok(())
 }
 

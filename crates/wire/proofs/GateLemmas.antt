@@ -65,7 +65,7 @@ under-clerk own target part rest clerk account is numbered same = ap (account_un
 -- the console, if the office has a code
 under-office : (own : Option (List ℕ)) (what : OfficeTarget) → (not (is_some own)) ≡ false → account_under own (office_path what) ≡ Some Officer
 under-office None what has = let no : ⊥ = cc in absurd no
-under-office (Some text) office.Console has = refl
+under-office (Some text) office.ConsolePage has = refl
 under-office (Some text) office.Leave has = refl
 under-office (Some text) office.Orders has = refl
 
@@ -125,7 +125,7 @@ own-asked gate (Keying c batch) (Err why) behind account is = let no : ⊥ = cc 
 own-asked gate (Page c) size behind account is = is
 own-asked gate (Leave c) size behind account is = is
 own-asked gate (Resource what) size behind account is = is
-own-asked gate (Office office.Console) size behind account is = is
+own-asked gate (Office office.ConsolePage) size behind account is = is
 own-asked gate (Office office.Leave) size behind account is = is
 own-asked gate (Office office.Orders) (Ok n) behind account is = ap Some (order-own (option_and_then order_of (body_in n behind)) account is)
 own-asked gate (Office office.Orders) (Err why) behind account is = let no : ⊥ = cc in absurd no

@@ -5,7 +5,7 @@ use Rattle.serde_json.specs.Written.{has_float}
 use Rattle.count.specs.declared.stages.Due.{Due}
 use Rattle.count.specs.declared.stages.Due.TheVariants.{Act, Lot, Finished}
 use Rattle.register.specs.Offices.{ReceiptEntry}
-use Rattle.register.specs.Steps.{StepEntry, nominations_end, papers_stand, count_goes, nothing_comes}
+use Rattle.register.specs.NextSteps.{NextStepEntry, nominations_end, papers_stand, count_goes, nothing_comes}
 use Rattle.store.specs.Overviews.{BatchView, DifferencesView, DoubtfulPapersView, DoubtfulView, PaperView, PapersView, WardView}
 use Rattle.wire.specs.OfficeReads.{WardPapersView, WardsReadView}
 use Rattle.wire.specs.OfficeReplies.{batch_clerk_data, batch_data, batches_data, counted_data, differences_data, doubtful_data, doubtful_papers_data, due_data, numbers_data, papers_data}
@@ -29,13 +29,13 @@ due-float stage (Act action) = refl
 due-float stage (Lot at kind tied) = rw (numbers-float tied) refl
 due-float stage Finished = refl
 
-step-float : (next : StepEntry) → has_float (step_data next) ≡ false
+step-float : (next : NextStepEntry) → has_float (step_data next) ≡ false
 step-float (nominations_end candidates seats) = refl
 step-float (papers_stand status) = refl
 step-float (count_goes stage due candidates) = due-float stage due
 step-float nothing_comes = refl
 
-pub ward-read-float : (ward : WardView) (next : StepEntry) (papers : WardPapersView) → has_float (ward_read_data ward next papers) ≡ false
+pub ward-read-float : (ward : WardView) (next : NextStepEntry) (papers : WardPapersView) → has_float (ward_read_data ward next papers) ≡ false
 ward-read-float ward next papers = rw (list-float candidate_data (λ _. refl) papers.doubtful.candidates, step-float next, ward-float ward) refl
 
 -- ---- batches

@@ -327,7 +327,7 @@ routed-own target there named = by (list_all is_ascii target) (first office_rout
 -- ---- the console
 
 office-own : (target : List ℕ) (what : OfficeTarget) → office_by target ≡ Some what → target ≡ office_path what
-office-own target what named = console (bytes_eq target (office_path office.Console)) refl named
+office-own target what named = console (bytes_eq target (office_path office.ConsolePage)) refl named
   where
     orders : (b : Bool) → bytes_eq target (office_path office.Orders) ≡ b → (if b then Some office.Orders else None) ≡ Some what → target ≡ office_path what
     orders true same named =
@@ -342,13 +342,13 @@ office-own target what named = console (bytes_eq target (office_path office.Cons
         (bytes_eq-Decides target (office_path office.Leave)).0 same ∙ ap office_path one
     leave false other named = orders (bytes_eq target (office_path office.Orders)) refl named
 
-    console : (b : Bool) → bytes_eq target (office_path office.Console) ≡ b
-        → (if b then Some office.Console
+    console : (b : Bool) → bytes_eq target (office_path office.ConsolePage) ≡ b
+        → (if b then Some office.ConsolePage
         else (if bytes_eq target (office_path office.Leave) then Some office.Leave else (if bytes_eq target (office_path office.Orders) then Some office.Orders else None))) ≡ Some what
         → target ≡ office_path what
     console true same named =
-        let one : office.Console ≡ what = cc in
-        (bytes_eq-Decides target (office_path office.Console)).0 same ∙ ap office_path one
+        let one : office.ConsolePage ≡ what = cc in
+        (bytes_eq-Decides target (office_path office.ConsolePage)).0 same ∙ ap office_path one
     console false other named = leave (bytes_eq target (office_path office.Leave)) refl named
 
 -- ---- both
@@ -380,7 +380,7 @@ own-named target (Resource (Candidates clerk batch)) (c, b, is, own, other) =
 own-named target (Keying clerk batch) (c, b, is, own, other) =
     ap named_by is ∙ two-named keyings is-keyings c b clerk batch own other (keyings-found c b (numeric c clerk own) (numeric b batch other))
 own-named target (Resource (Reads read)) is = read-named target read is
-own-named target (Office office.Console) is = ap named_by is
+own-named target (Office office.ConsolePage) is = ap named_by is
 own-named target (Office office.Leave) is = ap named_by is
 own-named target (Office office.Orders) is = ap named_by is
 

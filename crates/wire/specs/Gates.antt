@@ -174,7 +174,7 @@ authentication_by None account fields = None
 authentication_by (Some gate) None fields = None
 authentication_by (Some gate) (Some account) fields = Some (record { account = account; is_wrong = is_wrong_code (kept_out_by gate account (sent_codes fields)) })
 
--- the same for a request with these header fields and this target; a foreign one has none
+-- the authentication of a request with these header fields and this target; a request of a foreign page has none
 abbrev pub authentication_at : HttpSettingsEntry → List NamedValue → List ℕ → Option AuthenticationEntry
 authentication_at settings fields target = if is_foreign settings.origin fields then None else authentication_by settings.gate (account_at settings.gate target) fields
 

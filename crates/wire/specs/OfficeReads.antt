@@ -1,7 +1,7 @@
 -- What the officer's console reads that is made of more than one answer of the office.
 use Rattle.std.specs.Prelude.{List, None, Result, Ok, Err, length, map, ℕ}
 use Rattle.register.specs.Offices.{OfficeState, ReceiptEntry}
-use Rattle.register.specs.Steps.{StepEntry, step_entry}
+use Rattle.register.specs.NextSteps.{NextStepEntry, step_entry}
 use Rattle.register.specs.declared.refusal.Reason.{Reason}
 use Rattle.store.specs.Overviews.{BatchView, DoubtfulPapersView, WardView, batch_view, doubtful_papers_view, ward_view}
 use Rattle.office.specs.Overviews.{batches_told, doubtful_told, receipts_told, wards_told}
@@ -37,10 +37,10 @@ wards_read_view found = record { receipts = found.receipts; wards = map ward_vie
 
 -- its next step, and all wards
 pub record WardProgressView : Type 0 where
-  pub next : StepEntry
+  pub next : NextStepEntry
   pub wards : List WardView
 
-abbrev pub progress_with : StepEntry → List WardView → WardProgressView
+abbrev pub progress_with : NextStepEntry → List WardView → WardProgressView
 progress_with next wards = record { next = next; wards = wards }
 
 abbrev pub progress_told : OfficeState → ℕ → Result WardProgressView Reason

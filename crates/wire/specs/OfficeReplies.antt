@@ -9,8 +9,8 @@ use Rattle.count.specs.declared.stages.Due.TheVariants.{Act, Lot, Finished}
 use Rattle.count.specs.declared.stages.TiedFor.{TiedFor}
 use Rattle.count.specs.declared.stages.TiedFor.TheVariants.{Surplus as for_surplus, Exclusion as for_exclusion}
 use Rattle.register.specs.Offices.{JudgedEntry, ReceiptEntry}
-use Rattle.register.specs.Standings.{StatusEntry}
-use Rattle.register.specs.Steps.{StepEntry, nominations_end, papers_stand, count_goes, nothing_comes}
+use Rattle.register.specs.Status.{StatusEntry}
+use Rattle.register.specs.NextSteps.{NextStepEntry, nominations_end, papers_stand, count_goes, nothing_comes}
 use Rattle.register.specs.declared.phase.Phase.{Phase}
 use Rattle.register.specs.declared.phase.Phase.TheVariants as phase
 use Rattle.register.specs.declared.polls.Judgement.{Judgement}
@@ -102,7 +102,7 @@ due_data stage (Act action) = stage_data stage action
 due_data stage (Lot at kind tied) = lot_data at kind tied
 due_data stage Finished = word_data (codes "declaration")
 
-abbrev pub step_data : StepEntry → Data
+abbrev pub step_data : NextStepEntry → Data
 step_data (nominations_end candidates seats) = word_data (codes "nominations")
 step_data (papers_stand status) = word_data (papers_word status)
 step_data (count_goes stage due candidates) = due_data stage due
@@ -154,7 +154,7 @@ abbrev pub agreed_in : List BatchView → ℕ
 agreed_in batches = min (sum_by (λ (v : BatchView). size_in v.standing v.batch.size) batches) most_papers
 
 -- the ward, with its next step and its papers
-abbrev pub ward_read_data : WardView → StepEntry → WardPapersView → Data
+abbrev pub ward_read_data : WardView → NextStepEntry → WardPapersView → Data
 ward_read_data ward next papers = object
     (member (codes "candidates") (list_data candidate_data papers.doubtful.candidates)
     (member (codes "next") (step_data next)

@@ -5,7 +5,7 @@ use Rattle.serde_json.specs.Data.{Data, array, boolean, member, no_members, numb
 use Rattle.serde_json.specs.View.{items_of}
 use Rattle.serde_json.specs.Written.{compact_text}
 use Rattle.register.specs.Offices.{CandidateEntry}
-use Rattle.register.specs.Standings.{BallotPaperEntry, WorkEntry}
+use Rattle.register.specs.Status.{BallotPaperEntry, WorkEntry}
 
 -- a reply
 abbrev pub reply_data : List ℕ → Data

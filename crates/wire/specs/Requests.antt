@@ -7,7 +7,7 @@ use Rattle.httparse.specs.Spans.{header_bytes, name_and_value, span_bytes}
 use Rattle.httparse.specs.declared.spans.HeaderSpan.{HeaderSpan}
 use Rattle.httparse.specs.declared.spans.RequestSpans.{RequestSpans}
 use Rattle.wire.specs.declared.request.HttpRequest.{HttpRequest}
-use Rattle.wire.specs.declared.request.HttpRequest.TheVariants.{Console, Denied, Keying, Order, Resource as Reads, Shown}
+use Rattle.wire.specs.declared.request.HttpRequest.TheVariants.{ConsolePage, Denied, Keying, Order, Resource as Reads, Shown}
 use Rattle.wire.specs.declared.settings.Show.{Show}
 use Rattle.wire.specs.declared.settings.Show.TheVariants.{Left, Page}
 use Rattle.wire.specs.declared.read_failure.ReadFailure.{ReadFailure}
@@ -56,7 +56,7 @@ http_request_entry (Denied why) = denied why
 http_request_entry (Shown clerk show) = shown clerk (show_entry show)
 http_request_entry (Keying k) = keying k.clerk k.batch (record { id = string_bytes k.id; round = k.round; papers = map string_bytes k.papers.items })
 http_request_entry (Reads what) = reading what
-http_request_entry (Console show) = console (show_entry show)
+http_request_entry (ConsolePage show) = console (show_entry show)
 http_request_entry (Order its) = order (console_order_entry its)
 
 -- why a request wasn't read, by what the source counts: one failure more, or none if an allocation failed
@@ -75,7 +75,7 @@ verb_of (target.Keying clerk batch) = Post
 verb_of (target.Page clerk) = Get
 verb_of (target.Leave clerk) = Get
 verb_of (target.Resource what) = Get
-verb_of (target.Office office.Console) = Get
+verb_of (target.Office office.ConsolePage) = Get
 verb_of (target.Office office.Leave) = Get
 verb_of (target.Office office.Orders) = Post
 
@@ -137,7 +137,7 @@ asked_of gate (Ok (target.Keying clerk batch)) size behind = asked_with clerk ba
 asked_of gate (Ok (target.Page clerk)) size behind = page_at gate clerk
 asked_of gate (Ok (target.Leave clerk)) size behind = shown clerk has_left
 asked_of gate (Ok (target.Resource what)) size behind = reading what
-asked_of gate (Ok (target.Office office.Console)) size behind = console_at gate
+asked_of gate (Ok (target.Office office.ConsolePage)) size behind = console_at gate
 asked_of gate (Ok (target.Office office.Leave)) size behind = console has_left
 asked_of gate (Ok (target.Office office.Orders)) size behind = ordered_with size behind
 asked_of gate (Err why) size behind = denied why
@@ -219,7 +219,7 @@ MissesBytes (Ok (target.Keying clerk batch)) size behind = MissesBody size behin
 MissesBytes (Ok (target.Page clerk)) size behind = ⊥
 MissesBytes (Ok (target.Leave clerk)) size behind = ⊥
 MissesBytes (Ok (target.Resource what)) size behind = ⊥
-MissesBytes (Ok (target.Office office.Console)) size behind = ⊥
+MissesBytes (Ok (target.Office office.ConsolePage)) size behind = ⊥
 MissesBytes (Ok (target.Office office.Leave)) size behind = ⊥
 MissesBytes (Ok (target.Office office.Orders)) size behind = MissesBody size behind
 MissesBytes (Err why) size behind = ⊥

@@ -73,14 +73,14 @@ routed_by target = option_and_then (λ (route : RouteOf RouteTarget). named_at r
 
 -- the targets of the officer's console
 abbrev pub office_path : OfficeTarget → List ℕ
-office_path office.Console = codes "/office/"
+office_path office.ConsolePage = codes "/office/"
 office_path office.Leave = codes "/office/leave"
 office_path office.Orders = codes "/office/orders"
 
 -- what of the console a target is
 abbrev pub office_by : List ℕ → Option OfficeTarget
 office_by target =
-    if bytes_eq target (office_path office.Console) then Some office.Console
+    if bytes_eq target (office_path office.ConsolePage) then Some office.ConsolePage
     else (if bytes_eq target (office_path office.Leave) then Some office.Leave
     else (if bytes_eq target (office_path office.Orders) then Some office.Orders else None))
 

@@ -1,11 +1,11 @@
 //! What the office is asked for a request, and the response.
 
 ghost use Rattle.std.specs.Prelude.{◌≡◌, false, map, true, string_bytes};
-ghost use Rattle.register.specs.Standings.{paper_entry, work_entry};
+ghost use Rattle.register.specs.Status.{paper_entry, work_entry};
 ghost use Rattle.sqlite.specs.State.{HasCleanDisk};
 ghost use Rattle.sqlite.specs.Held.{state};
 ghost use Rattle.register.specs.Offices.{OfficeState};
-ghost use Rattle.store.specs.Offices.{IsAt};
+ghost use Rattle.store.specs.StateTables.{IsAt};
 ghost use Rattle.tables.specs.Faults.{fault_number};
 ghost use Rattle.office.specs.Answers.{told};
 ghost use Rattle.wire.specs.Requests.{http_request_entry, reading};
@@ -140,7 +140,7 @@ pub(crate) fn answer<S: Alter>(
         HttpRequest::Shown(_, show) => Response::shown(alloc, show),
         HttpRequest::Keying(keying) => answer_keying(alloc, office, keying),
         HttpRequest::Resource(what) => answer_reading(alloc, office, what),
-        HttpRequest::Console(show) => Response::shown(alloc, show),
+        HttpRequest::ConsolePage(show) => Response::shown(alloc, show),
         HttpRequest::Order(_) => Response::denied(alloc, RequestError::NotFound),
     }
 }

@@ -3,7 +3,7 @@
 ghost use Rattle.std.specs.Prelude.{◌≡◌, IfOk, map, string_bytes};
 ghost use Rattle.serde_json.specs.View.{view};
 ghost use Rattle.register.specs.Offices.{candidate_entry};
-ghost use Rattle.register.specs.Standings.{paper_entry};
+ghost use Rattle.register.specs.Status.{paper_entry};
 ghost use Rattle.wire.specs.Replies.{candidate_data, list_data, paper_body, paper_data};
 
 use register::{BallotPaper, Candidate};

@@ -13,7 +13,7 @@
 //! [`serve_one`] serves one connection from any reader: it reads what is asked ([`read_request`]) by the same head.
 //!
 //! [`HttpSettings`] are the settings of HTTP: the [`Origin`] of pages that come through a proxy, and the [`Gate`], if any.
-//! [`plain`] serves a connection without either. A request with a header which shows that a page from elsewhere sent it is
+//! [`without_settings`] serves a connection without either. A request with a header which shows that a page from elsewhere sent it is
 //! rejected. At a gate, everything under a clerk's number requires that clerk's code, and everything under `/office/` the office's. [`write_wait_response`] writes the response
 //! to a rate-limited client.
 //!
@@ -45,11 +45,11 @@ mod length;
 mod office_read;
 mod origin;
 pub mod parsed;
-pub mod plain;
 mod read_failure;
 pub mod request;
 pub mod settings;
 pub mod target;
+pub mod without_settings;
 // responses
 mod bodies;
 mod candidates;
@@ -80,3 +80,5 @@ pub use serving::{
 };
 pub use settings::{Gate, HttpSettings, Page, Show};
 pub use target::{Resource, Routes};
+/// The original name of [`without_settings`].
+pub use without_settings as plain;

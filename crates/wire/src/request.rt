@@ -43,7 +43,7 @@ pub enum HttpRequest<'a> {
     /// To read a resource.
     Resource(Resource),
     /// To show the office its console, or that it is signed out.
-    Console(Show<'a>),
+    ConsolePage(Show<'a>),
     /// To follow an order of the office.
     Order(ConsoleOrder),
 }
@@ -90,7 +90,7 @@ impl Target {
         match self {
             Target::Keying { .. } | Target::Office(OfficeTarget::Orders) => Verb::Post,
             Target::Page { .. } | Target::Leave { .. } | Target::Resource(_) => Verb::Get,
-            Target::Office(OfficeTarget::Console | OfficeTarget::Leave) => Verb::Get,
+            Target::Office(OfficeTarget::ConsolePage | OfficeTarget::Leave) => Verb::Get,
         }
     }
 
@@ -163,7 +163,7 @@ pub(crate) fn console_at<'a>(gate: Option<Gate<'a>>) -> HttpRequest<'a>
     ensures { http_request_entry result ≡ console_at (option_map gate_entry gate.entry) }
 {
     match gate {
-        Some(gate) => HttpRequest::Console(Show::Page(gate.console)),
+        Some(gate) => HttpRequest::ConsolePage(Show::Page(gate.console)),
         None => HttpRequest::Denied(RequestError::NotFound),
     }
 }
@@ -227,7 +227,7 @@ fn read_from_head<'a, R: Source>(
 /// with that clerk's code; and one whose target begins with `/office/` only with the office's, if the office has one. Otherwise it
 /// is `Unauthorized`, or a `WrongCode`, whatever else it asks. So what is asked under a clerk's number is asked by the holder of
 /// that clerk's code, and what is asked of the console by the holder of the office's. Every other request needs no such check.
-/// The response to a rejected request is the same at every state of the office, and so is what is `Shown`, and the `Console`.
+/// The response to a rejected request is the same at every state of the office, and so is what is `Shown`, and the `ConsolePage`.
 ///
 /// `Broken` comes only from the source, which then counts one failure more. It comes only while what was read doesn't say yet
 /// what is asked. Once it does, nothing more is read, because the client may wait for its response. Some of the bytes that follow

@@ -30,7 +30,7 @@ pub enum Resource {
 #[derive(Clone, Copy, Debug, PartialEq, Eq)]
 pub(crate) enum OfficeTarget {
     /// The console.
-    Console,
+    ConsolePage,
     /// The signing out of the office.
     Leave,
     /// The orders, to be sent.
@@ -134,7 +134,7 @@ fn office_by(target: &[u8]) -> Option<OfficeTarget>
     ensures { result ≡ office_by target.now }
 {
     if target == "/office/".as_bytes() {
-        return Some(OfficeTarget::Console);
+        return Some(OfficeTarget::ConsolePage);
     }
     if target == "/office/leave".as_bytes() {
         return Some(OfficeTarget::Leave);

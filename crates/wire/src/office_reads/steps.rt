@@ -2,8 +2,8 @@
 
 ghost use Rattle.std.specs.Prelude.{◌≡◌, IfOk};
 ghost use Rattle.serde_json.specs.View.{view};
-ghost use Rattle.register.specs.Standings.{status_entry};
-ghost use Rattle.register.specs.Steps.{step_entry};
+ghost use Rattle.register.specs.Status.{status_entry};
+ghost use Rattle.register.specs.NextSteps.{step_entry};
 ghost use Rattle.wire.specs.OfficeReplies.{action_candidate, action_word, due_data, lot_data, lot_word, papers_word, stage_data, step_data, word_data};
 
 use crate::office_reads::numbers::candidate_numbers_value;

@@ -2,7 +2,7 @@
 
 ghost use Rattle.std.specs.Prelude.{◌≡◌, ◌==◌, IfOk, find, map, option_map};
 ghost use Rattle.serde_json.specs.View.{view};
-ghost use Rattle.register.specs.Steps.{step_entry};
+ghost use Rattle.register.specs.NextSteps.{step_entry};
 ghost use Rattle.store.specs.Overviews.{WardView, batch_view, ward_view};
 ghost use Rattle.wire.specs.OfficeReads.{ward_papers_view, ward_read_view};
 ghost use Rattle.wire.specs.OfficeReplies.{agreed_in, given_out, size_in, ward_read_data};

@@ -2,7 +2,7 @@
 use Rattle.std.proofs.Common.{ap, sym}
 use Rattle.sqlite.specs.Held.{state}
 use Rattle.std.specs.Prelude.{string_bytes}
-use Rattle.register.specs.Standings.{paper_entry}
+use Rattle.register.specs.Status.{paper_entry}
 use Rattle.office.specs.Reads.{paper_told}
 use Rattle.office.specs.Sheets.{text_told}
 use Rattle.office.specs.declared.sheets.Text.TheVariants as text

@@ -1,7 +1,7 @@
 -- Why `answer_found` keeps its promise.
 use Rattle.std.proofs.Common.{Option, ap, map, subst, sym}
 use Rattle.std.specs.Prelude.{option_map}
-use Rattle.register.specs.Steps.{step_entry}
+use Rattle.register.specs.NextSteps.{step_entry}
 use Rattle.store.specs.Overviews.{ward_view}
 use Rattle.wire.specs.OfficeReads.{ward_papers_view, ward_read_view}
 use Rattle.wire.specs.OfficeReplies.{ward_read_data}
