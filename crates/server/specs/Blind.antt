@@ -35,7 +35,7 @@ pub record IsUnder (settings : HttpSettingsEntry) (clerk : ℕ) (bytes : List �
   pub asks : Asks settings bytes asked
   pub its : clerk_asked asked ≡ Some clerk
 
--- The law: whoever asks for something under a clerk's number asks no order.
+-- The law: a request for something under a clerk's number asks no order.
 abbrev pub ClerksAskNoOrder : Type 0
 ClerksAskNoOrder = (settings : HttpSettingsEntry) (clerk : ℕ) (bytes : List ℕ) → IsUnder settings clerk bytes → AsksNoOrder settings bytes
 
@@ -118,7 +118,7 @@ abbrev pub AreClients : HttpSettingsEntry → List Exchange → Type 0
 AreClients settings [] = ⊤
 AreClients settings (exchange ∷ exchanges) = (exchange.listener ≡ Clients) × AsksNoOrder settings exchange.got × AreClients settings exchanges
 
--- a client got no answer: a fault came, the office was closed or its file gone, or the client has to wait
+-- a client got no answer: there was a fault, the office was closed or its file gone, or the client has to wait
 abbrev pub IsUnanswered : ServerSettingsEntry → Exchange → Type 0
 IsUnanswered settings exchange = EndsSo exchange (IsServed TellsFault) ⊎ IsToldClosed Clients settings exchange
 

@@ -65,13 +65,13 @@ ServesOn settings stream state_of before later old new at behind =
 abbrev pub IsNumbered : {L : Type 0} → List (Client L) → ℕ → ℕ → Type 0
 IsNumbered {L} clients place number = (client : Client L) → (slice_index_or clients place client).number ≡ number
 
--- a connection stands at its place of the table again
+-- a connection is at its place of the table again
 pub record StandsAgain {L : Type 0} (place : ℕ) (client : Client L) (old new : ConnectionTable L) : Type 0 where
   pub clients : new.clients.items ≡ insert old.clients.items place client
   pub came : new.came ≡ old.came
   pub counted : new.counted ≡ old.counted
 
--- What became of a connection that was serviced, and taken out of the table for that. It was closed for its reason. Or it stands at its place again, and then connections
+-- The outcome of servicing a connection, which was taken out of the table for that. It was closed for its reason. Or it is at its place again, and then connections
 -- were closed while too many bytes were in memory.
 abbrev pub IsSettled : {L : Type 0} → Option CloseReason → ℕ → Client L → NetworkEntry L → NetworkEntry L → ConnectionTable L → ConnectionTable L → Type 0
 IsSettled (Some why) place client before later old new = (later ≡ with_removed before (removed_of client why)) × (new ≡ old)

@@ -6,10 +6,10 @@ use Rattle.register.specs.declared.refusal.Reason.{Reason}
 use Rattle.store.specs.Overviews.{BatchView, DoubtfulPapersView, WardView, batch_view, doubtful_papers_view, ward_view}
 use Rattle.office.specs.Overviews.{batches_told, doubtful_told, receipts_told, wards_told}
 use Rattle.office.specs.Reads.{next_told}
-use Rattle.wire.specs.declared.office_reads.found.WardsRead.{WardsRead}
-use Rattle.wire.specs.declared.office_reads.found.WardProgress.{WardProgress}
-use Rattle.wire.specs.declared.office_reads.found.WardPapers.{WardPapers}
-use Rattle.wire.specs.declared.office_reads.found.WardRead.{WardRead}
+use Rattle.wire.specs.declared.read_responses.found.WardsRead.{WardsRead}
+use Rattle.wire.specs.declared.read_responses.found.WardProgress.{WardProgress}
+use Rattle.wire.specs.declared.read_responses.found.WardPapers.{WardPapers}
+use Rattle.wire.specs.declared.read_responses.found.WardRead.{WardRead}
 
 -- what is made of two answers; or the reason of the first that is a refusal
 abbrev pub made_of : {X Y Z : Type 0} → (X → Y → Z) → Result X Reason → Result Y Reason → Result Z Reason

@@ -135,7 +135,7 @@ batches_data ward batches = object (member (codes "batches") (list_data batch_da
 
 -- ---- one ward
 
--- the most papers that are told
+-- the most papers that a reply has
 abbrev pub most_papers : ℕ
 most_papers = 18446744073709551615
 

@@ -112,7 +112,7 @@ pub record IsOutcome (s : OfficeState) (clerk batch : ℕ) (entry : KeyingEntry)
   pub is : IsHandedOn clerk batch entry request
   pub each : (other : Request) → IsHandedOn clerk batch entry other → outcome ≡ step_of s other
 
--- The response to what is asked at a state, and the state after it. An order is followed by whoever serves the office, and not here: here nothing is found at its target.
+-- The response to what is asked at a state, and the state after it. An order is followed by the server, and not here: here nothing is found at its target.
 abbrev pub IsAnswer : OfficeState → HttpRequestEntry → OfficeState → ResponseEntry → Type 0
 IsAnswer s (denied why) next answer = (next ≡ s) × (answer ≡ denied_response why)
 IsAnswer s (shown clerk show) next answer = (next ≡ s) × (answer ≡ shown_response show)

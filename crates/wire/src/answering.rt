@@ -14,12 +14,12 @@ ghost use Rattle.wire.specs.Serving.{IsReadTold, Readies, closed_response, paper
 ghost use Rattle.wire.specs.Told.{IsTold};
 
 use crate::candidates::paper_body;
-use crate::office_reads::answer_office;
+use crate::office_responses::{faulted, refused, replied};
+use crate::read_responses::answer_office;
 use crate::request::{HttpRequest, Keying};
 use crate::request_error::RequestError;
 use crate::response::{Content, Response};
 use crate::target::Resource;
-use crate::told::{faulted, refused, replied};
 use crate::work::work_body;
 use http::StatusCode;
 use office::{Answer, Office, Stop};

@@ -13,9 +13,9 @@
 //! [`serve_one`] serves one connection from any reader: it reads what is asked ([`read_request`]) by the same head.
 //!
 //! [`HttpSettings`] are the settings of HTTP: the [`Origin`] of pages that come through a proxy, and the [`Gate`], if any.
-//! [`without_settings`] serves a connection without either. A request with a header which shows that a page from elsewhere sent it is
-//! rejected. At a gate, everything under a clerk's number requires that clerk's code, and everything under `/office/` the office's. [`write_wait_response`] writes the response
-//! to a rate-limited client.
+//! [`without_settings`] serves a connection without either. A request with a header which shows that a page from elsewhere sent it
+//! is rejected. At a gate, everything under a clerk's number requires that clerk's code, and everything under `/office/` the
+//! office's. [`write_wait_response`] writes the response to a rate-limited client.
 //!
 //! `specs/Requests.antt` defines what the bytes of a client ask, `specs/Completeness.antt` when they are a complete request, and
 //! `specs/Parsing.antt` what a parsed head says of them. `specs/Gates.antt` defines authentication, and `specs/Origins.antt`
@@ -53,9 +53,9 @@ pub mod without_settings;
 // responses
 mod bodies;
 mod candidates;
-mod office_reads;
+mod office_responses;
+mod read_responses;
 mod response;
-mod told;
 mod work;
 // one connection
 mod answering;
