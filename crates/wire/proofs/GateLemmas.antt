@@ -43,7 +43,7 @@ slash-behind : (part rest : List ℕ) → slice_index (part ++ (47 ∷ rest)) (l
 slash-behind [] rest = refl
 slash-behind (d ∷ part) rest = slash-behind part rest
 
--- a path in which a clerk's number stands first stands under his number
+-- a path that begins with a clerk's number is under that number
 under-path : (part rest : List ℕ) (clerk : ℕ) → number_in part ≡ Some clerk → clerk_under (codes "/clerks/" ++ (part ++ (47 ∷ rest))) ≡ Some clerk
 under-path part rest clerk own =
     ap (λ n. number_before n (part ++ (47 ∷ rest))) (digits-before part rest (number-digits part clerk own))
@@ -57,7 +57,7 @@ owner_of (Leave clerk) = Some (Clerk clerk)
 owner_of (Resource what) = reading_account what
 owner_of (Office what) = Some Officer
 
--- the same for a path in which a clerk's number stands first
+-- the same for a path that begins with a clerk's number
 under-clerk : (own : Option (List ℕ)) (target part rest : List ℕ) (clerk : ℕ) (account : Account) → target ≡ codes "/clerks/" ++ (part ++ (47 ∷ rest)) → number_in part ≡ Some clerk
     → Some (Clerk clerk) ≡ Some account → account_under own target ≡ Some account
 under-clerk own target part rest clerk account is numbered same = ap (account_under own) is ∙ ap (option_map (λ c. Clerk c)) (under-path part rest clerk numbered) ∙ same
@@ -130,7 +130,7 @@ own-asked gate (Office office.Leave) size behind account is = is
 own-asked gate (Office office.Orders) (Ok n) behind account is = ap Some (order-own (option_and_then order_of (body_in n behind)) account is)
 own-asked gate (Office office.Orders) (Err why) behind account is = let no : ⊥ = cc in absurd no
 
--- behind a gate, by what was found there
+-- at a gate, by what was found there
 module _ (gate : GateEntry) (fields : List NamedValue) (method target : List ℕ) (size : Result ℕ RequestError) (behind : List ℕ) (account : Account) where
   -- what is asked for is the account's
   abbrev IsAskedAs : Option Target → Type 0

@@ -128,7 +128,7 @@ module _ (target part rest : List ℕ) (n : ℕ) (read : OfficeRead) (own : numb
       differences true same named = same-text rest (codes "/differences") target (Differences n) read (λ e. (part, at (codes "/differences") e, own)) same named
       differences false other named = papers (bytes_eq rest (codes "/papers")) refl named
 
--- behind the part of a target that all of its kind have
+-- after the part of a target that all of its kind have
 module _ (target behind : List ℕ) (read : OfficeRead) where
   abbrev digits : ℕ
   digits = prefix_len is_ascii_digit behind

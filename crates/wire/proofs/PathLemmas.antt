@@ -127,7 +127,7 @@ is-declaration = record { word_bytes = refl; rest_bytes = refl; word_low = refl;
 
 -- ---- the routes of a keying and of candidates, with two parameters
 
--- a route with two parameters: what stands behind the slash at its end, its text, where it leads, and what it names by two numbers
+-- a route with two parameters: what follows the slash at its end, its text, where it leads, and what it names by two numbers
 pub record TwoRoute : Type 0 where
   pub end : List ℕ
   pub text : List ℕ
