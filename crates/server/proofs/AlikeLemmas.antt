@@ -37,7 +37,7 @@ tails x y xs ys is = ap of is
     of (z ∷ zs) = zs
 
 module _ (settings : ServerSettingsEntry) where
-  -- ---- one client at a view, and another who asks the same there
+  -- ---- one client at a view, and another that asks the same there
 
   none_sent : (view : OfficeState) (sent sent_too : List Request) → sent ≡ [] → sent_too ≡ [] → after view sent_too ≡ after view sent
   none_sent view sent sent_too none none_too = ap (after view) (none_too ∙ sym none)

@@ -35,9 +35,9 @@ use Rattle.server.specs.Blind.{AnswersAsSeen, RespondsBySeen, IsAnsweredBySeen, 
 use Rattle.server.specs.Settings.{ServerSettingsEntry}
 use Rattle.server.specs.Exchanges.{AnswersInTurn, AsksNoOrder, IsAnsweredAt, IsClientAnsweredAt, IsStoppedAt, Exchange}
 
--- ---- who asks under a clerk's number
+-- ---- requests under a clerk's number
 
--- whoever does asks no order
+-- such a request asks no order
 pub under_no_order : (settings : HttpSettingsEntry) (clerk : ℕ) (bytes : List ℕ) → IsUnder settings clerk bytes → AsksNoOrder settings bytes
 under_no_order settings clerk bytes under entry asks =
     let one : under.asked ≡ order entry = AsksOneThing-all settings bytes under.asked (order entry) under.asks asks in
@@ -52,7 +52,7 @@ told_anywhere s t (accepts change reply) = refl
 told_anywhere s t (keeps reply) = refl
 told_anywhere s t (refuses why) = refl
 
--- whoever is no clerk keys nothing
+-- a request that isn't a clerk's keys nothing
 none_keyed : (s : OfficeState) (actor : ℕ) (id : List ℕ) (c : KeyingCommand) → is_clerk actor ≡ false → state_after s (step s actor id (command.Keying c)) ≡ s
 unfolding step decided
 none_keyed s actor id c no_clerk = go (is_id id) (receipt_at s actor id)
@@ -86,7 +86,7 @@ module _ (itself : SeenIsAlike) (alike : AlikeOfficesAnswerAlike) (seen : SeenIs
   good : is_office clerk ≡ false
   good = no_office clerk is
 
-  -- what the clerk's own request is told
+  -- the response to the clerk's own request
   told_seen : (s : OfficeState) (r : Request) → r.actor ≡ clerk → told_of (step_of s r) ≡ told_of (step_of (seen_by clerk s) r)
   unfolding step
   told_seen s r its =

@@ -42,7 +42,7 @@ is_order (reading what) = false
 is_order (console show) = false
 is_order (order entry) = true
 
--- whoever asks anything else asks none
+-- a request for anything else asks none
 pub asks_no_order : (settings : HttpSettingsEntry) (got : List ℕ) (what : HttpRequestEntry) → Asks settings got what → is_order what ≡ false → AsksNoOrder settings got
 asks_no_order settings got what asks other entry its =
     let one : what ≡ order entry = AsksOneThing-all settings got what (order entry) asks its in
@@ -145,7 +145,7 @@ module _ {S : Type 0} (settings : ServerSettingsEntry) (state_of : Held S → St
         | inr (entry, asks) ↦ inr (console_unread office got answer entry asks told, none)
       ]
 
-  -- and a wrong code is noted behind it
+  -- and then a wrong code is noted
   pub noted_asked : (old : ServedOffice S) (exchange : Exchange) (new : OfficeValue S) (kept later : MemoryEntry) → later.reads ≡ kept.reads
       → ServesAsked settings state_of old exchange (served_office new kept) → ServesAsked settings state_of old exchange (served_office new later)
   noted_asked old exchange new kept later same (inl (free, it)) = inl (free, noted_still settings.clients state_of old exchange new kept later same it)

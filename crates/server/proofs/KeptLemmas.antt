@@ -1,4 +1,4 @@
--- What clients and orders who have their turns one after the other leave of an office.
+-- What clients and orders that are processed one after the other leave of an office.
 use Rattle.std.proofs.Common.{◌≡◌, ◌≤◌, ◌+◌, ◌∙◌, ◌⊎◌, ◌∷◌, ◌++◌, append_assoc, drop, true, ℕ, Bool, List, [], Some}
 use Rattle.std.proofs.Common.{arith, inl, inr, length, length-append, refl, sym, subst, suc, take, ap}
 use Rattle.std.specs.Prelude.{false}
@@ -83,7 +83,7 @@ ready_answered settings bytes s (keying clerk batch entry) answer response close
       subst (λ x. IsOpenAt x closed st) (next ∙ ap (state_after s) same) it.open_at,
     )
 
--- a fault that is want of memory is told as that
+-- a failed allocation is reported as that
 tells_memory : (fault : Fault) (response : _) → fault ≡ Memory → IsTold (fault_response (fault_number fault)) response → IsWritten (fault_response 101) response
 tells_memory fault response is tells = by (subst (λ (f : Fault). IsTold (fault_response (fault_number f)) response) is tells)
   where
@@ -138,7 +138,7 @@ ready_leaves settings bytes s response closed st (inl ready) =
       | inr failed ↦ ready_failed settings bytes s ready.asked failed.0 response closed st ready.asks (subst (λ a. IsTold a response) failed.1 tells) failed.2
     ]
 
--- what a client who was served leaves
+-- what a served client leaves
 abbrev ClientLeaves : HttpSettingsEntry → OfficeState → Exchange → Bool → State → Type 0
 ClientLeaves settings s exchange closed st =
     ((sent : List Request) × EndsSo exchange (IsServed (TellsFor settings (Some exchange.got) s sent)) × IsOpenAt (after s sent) closed st)
@@ -201,7 +201,7 @@ module _ {S : Type 0} (state_of : Held S → State) (folder : Folder) (s : Offic
 
 -- ---- one after the other
 
--- what one who had his turn leaves: what was answered for him, the office open behind it, and the answers that are kept right at its state; or a fault closed it
+-- what a processed request leaves: its answer, the office, still open, and the cached answers, right at its state; or a fault closed it
 abbrev TurnLeaves : {S : Type 0} → Listener → (Held S → State) → ServerSettingsEntry → OfficeState → Exchange → List ReadEntry → Bool → State → Type 0
 TurnLeaves listener state_of settings s exchange reads closed st =
     ((sent : List Request) × IsAnsweredAt listener state_of settings s exchange sent × AreReadAt (after s sent) reads × IsOpenAt (after s sent) closed st)
@@ -231,11 +231,11 @@ nothing_sent settings s exchange asked sent asks still (served, it) = by it.read
     by (inr (fault, none)) = none
 
 module _ {S : Type 0} (settings : ServerSettingsEntry) (state_of : Held S → State) where
-  -- a client who must wait leaves all as it was
+  -- a client that must wait leaves all unchanged
   stays_clean : (old new : ServedOffice S) → new ≡ old → HasCleanDisk (state_of new.office.held) → HasCleanDisk (state_of old.office.held)
   stays_clean old new stays clean = subst (λ (d : ServedOffice S). HasCleanDisk (state_of d.office.held)) stays clean
 
-  -- a client that is turned back is told so, and all stays as it was
+  -- a client that is rejected gets that response, and all is unchanged
   turned_back : (exchange : Exchange) (old new : ServedOffice S) → IsKeptWaiting settings.clients old exchange new ⊎ IsWithoutFile settings old exchange new
       → IsSentAway settings exchange × (new ≡ old)
   turned_back exchange old new (inl waits) = (inl waits.told, waits.stays)
@@ -279,7 +279,7 @@ module _ {S : Type 0} (settings : ServerSettingsEntry) (state_of : Held S → St
       let (page, stays) = it.tells.turned_away closed in
       (record { files = it.files; asked = it.asked; is = it.is; cut = it.tells.cut; told = subst (λ (p : Page). IsFramed it.tells.cut p exchange.answer) page it.tells.told }, stays)
 
-  -- what is kept behind a client who was served is right at the state after him
+  -- what is cached after a served client is right at the state after it
   kept_right : (s : OfficeState) (exchange : Exchange) (old new : ServedOffice S) → ServesClient settings.clients state_of old exchange new
       → HasCleanDisk (state_of new.office.held) → old.office.closed ≡ false
       → IsAt s (state_of old.office.held) → AreReadAt s old.kept.reads → (sent : List Request) → EndsSo exchange (IsServed (TellsFor settings.clients (Some exchange.got) s sent))
@@ -358,7 +358,7 @@ module _ {S : Type 0} (settings : ServerSettingsEntry) (state_of : Held S → St
       let others = turned_away exchanges mid new rest (ap (λ (o : OfficeValue S). o.closed) stays ∙ closed) in
       ((away, others.0), others.1 ∙ stays)
 
-  -- what is kept of those who have their turns from a state on
+  -- what is cached of those that are processed from a state on
   pub record Keeps (s : OfficeState) (exchanges : List Exchange) (closed : Bool) (st : State) : Type 0 where
     pub answered : List Request
     pub last : List Request
@@ -372,7 +372,7 @@ module _ {S : Type 0} (settings : ServerSettingsEntry) (state_of : Held S → St
       let more = behind (after_one s r) sent rest n x it in
       (suc more.0, omega (arith, more.1), omega (arith, more.2), omega (arith, more.3), more.4)
 
-  -- one was answered, and the others go on behind him
+  -- one was answered, and the others follow
   goes_on : (s : OfficeState) (sent : List Request) (exchange : Exchange) (exchanges : List Exchange) (closed : Bool) (st : State) → (others : Keeps (after s sent) exchanges closed st)
       → AnswersInTurn state_of settings s (exchange ∷ exchanges) (sent ++ others.answered) others.last → Keeps s (exchange ∷ exchanges) closed st
   goes_on s sent exchange exchanges closed st others in_turn = record {
@@ -387,7 +387,7 @@ module _ {S : Type 0} (settings : ServerSettingsEntry) (state_of : Held S → St
         others.leaves;
   }
 
-  -- the office is closed since his turn
+  -- the office is closed since then
   shut : (s : OfficeState) (answered last : List Request) (exchanges : List Exchange) (closed : Bool) (st : State) → closed ≡ true → AnswersInTurn state_of settings s exchanges answered last
       → LeavesState st (IsAfterSome s (answered ++ last) (length answered)) → Keeps s exchanges closed st
   shut s answered last exchanges closed st is_closed in_turn leaves = record {

@@ -26,7 +26,7 @@ use Rattle.server.specs.declared.served_order.ServedOrder.{ServedOrder}
 use Rattle.server.specs.declared.served_order.ServedOrder.TheVariants as asked
 use Rattle.server.specs.declared.server_settings.FileNumbers.{FileNumbers}
 
--- ---- what is told
+-- ---- what is sent
 
 -- two outputs that took nothing yet
 pub none_told : (o : Outputs) → o.out ≡ Some [] → o.out_failed ≡ 0 → o.err ≡ Some [] → o.err_failed ≡ 0 → o ≡ untold
@@ -40,7 +40,7 @@ taken_known : (new : Option (List ℕ)) (bytes : List ℕ) → Appends (Some [])
 taken_known None bytes it = absurd it
 taken_known (Some said) bytes it = (said, refl)
 
--- however far a page was told, it is known what the output took
+-- however far a page was printed, it is known what the output accepted
 shown_said : (cut : Cut) (told : Outputs) (page : Page) (status : ℕ) → IsShown cut untold told page status → (said : List ℕ) × (told.out ≡ Some said)
 shown_said uncut told page status it = taken_known told.out page.out it.out
 shown_said (cut_behind took) told page status it = taken_known told.out took it.out
@@ -73,7 +73,7 @@ follows_sent {S} state_of old new files what IsSent IsSentToo turns it = record 
   clean = it.clean;
 }
 
--- what is asked had its turn, and its page was told in frames
+-- what is asked was processed, and its page was sent in frames
 pub tells_asked : {L S : Type 0} (stream : Stream L) (state_of : Held S → State) (old new : OfficeValue S) (files : List MessagePartEntry) (what : ServedOrder)
     (before after : Outputs) (status : ℕ) (err : List ℕ)
     (now : L) (answer : PendingResponse) → before ≡ untold → after.err ≡ Some err → ((said : List ℕ) → after.out ≡ Some said → IsEnded stream said status err now answer)
@@ -95,7 +95,7 @@ tells_asked {L} {S} stream state_of old new files what before after status err n
       end.told,
     )
 
--- a page that is told of a closed office
+-- the page of a closed office
 pub tells_shut : {S : Type 0} (state_of : Held S → State) (office : OfficeValue S) (files : List MessagePartEntry) (what : ServedOrder) (before after : Outputs) (status : ℕ) → office.closed ≡ true
     → Shows before after (shut_page what) status
     → Tells before after status (λ cut page. WhenOpenAt state_of office office (λ s. IsOrderOutcome (state_of office.held) office.closed (state_of office.held) (folder_of files) s what cut page)
@@ -107,7 +107,7 @@ tells_shut {S} state_of office files what before after status closed shows = rec
   is = (λ clean is_open s at. absurd (true≢false (sym closed ∙ is_open)), λ was. refl);
 }
 
--- a page that is told of an open one
+-- the page of an open one
 pub tells_open : {S : Type 0} (state_of : Held S → State) (old new : OfficeValue S) (files : List MessagePartEntry) (what : ServedOrder) (before after : Outputs) (status : ℕ) → old.closed ≡ false
     → Tells before after status (λ cut page. WhenOpenAt state_of old new (λ s. IsOrderOutcome (state_of old.held) new.closed (state_of new.held) (folder_of files) s what cut page))
     → Tells before after status (λ cut page. WhenOpenAt state_of old new (λ s. IsOrderOutcome (state_of old.held) new.closed (state_of new.held) (folder_of files) s what cut page)
@@ -142,7 +142,7 @@ no_text file got h message bad = inr (
       bad (ap (list_all is_utf8) (sym (words_read h)) ∙ subst (λ (x : OrderMessageEntry). list_all is_utf8 (words_in x) ≡ true) (same_order got o (order_message_entry h) is message) text),
 )
 
--- its words weren't read: memory was wanting, or they are no text
+-- its words weren't read: an allocation failed, or they are no text
 pub words_unread : (file : FileNumbers) (got : List ℕ) (h : OrderMessage) (words : List MessagePart) (fault : Fault) → IsMessage got (order_message_entry h) → words ≡ h.words.items
     → (fault ≡ Memory) ⊎ ((fault ≡ Store) × (list_all is_utf8 (map (λ (p : MessagePart). p.name.now) words) ≡ true → ⊥)) → IsUnread file got (asked.Refused (Office fault))
 words_unread file got h words fault message same (inl wanting) = inl (ap (λ (f : Fault). asked.Refused (Office f)) wanting)
@@ -154,7 +154,7 @@ words_unread file got h words fault message same (inr (store, bad)) =
 pub no_order : (file : FileNumbers) (got message : List ℕ) → message ≡ drop 8 got → ((h : OrderMessageEntry) → Fits h → message ≡ encoding_of h → ⊥) → IsUnread file got (asked.Refused (Office Store))
 no_order file got message is none = inr (refl, λ h it for_file text. none h it.fits (is ∙ it.is))
 
--- no order was read: memory was wanting, or its bytes spell none
+-- no order was read: an allocation failed, or its bytes aren't an order
 pub order_unread : (file : FileNumbers) (got message : List ℕ) (fault : Fault) → message ≡ drop 8 got
     → (fault ≡ Memory) ⊎ ((fault ≡ Store) × ((h : OrderMessageEntry) → Fits h → message ≡ encoding_of h → ⊥)) → IsUnread file got (asked.Refused (Office fault))
 order_unread file got message fault is (inl wanting) = inl (ap (λ (f : Fault). asked.Refused (Office f)) wanting)

@@ -337,7 +337,7 @@ fn drop_rest<L: Stream>(client: &mut Client<L>) -> Serviced
 fn send_more<L: Stream>(client: &mut Client<L>) -> Serviced
     ensures is { (start : L) → IsOf (stream_of L.held L.taken L.failed) start client.old → IsOf (stream_of L.held L.taken L.failed) start client.new }
     ensures same { IsSameClient client.old client.new }
-    ensures his { answer_of client.new ≡ answer_of client.old }
+    ensures belongs { answer_of client.new ≡ answer_of client.old }
     ensures leaves { (why : CloseReason) → result ≡ Serviced.Leaves why → EndsFor (stream_of L.held L.taken L.failed) why client.new }
     ensures apart { result ≢ Serviced.Served }
 {
@@ -361,7 +361,7 @@ fn begin_answer<L: Stream>(
     requires { IsSent (stream_of L.held L.taken L.failed) client.stream answer.bytes.items answer.sent }
     ensures is { (start : L) → IsOf (stream_of L.held L.taken L.failed) start result.0 }
     ensures same { IsSameClient client result.0 }
-    ensures his { answer_of result.0 ≡ Some answer.bytes.items }
+    ensures belongs { answer_of result.0 ≡ Some answer.bytes.items }
     ensures leaves { (why : CloseReason) → result.1 ≡ Serviced.Leaves why → EndsFor (stream_of L.held L.taken L.failed) why result.0 }
     ensures apart { result.1 ≢ Serviced.Waits }
 {

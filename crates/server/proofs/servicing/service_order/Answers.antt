@@ -12,7 +12,7 @@ use Rattle.server.specs.Servicing.{HasComeAt}
 use Rattle.server.proofs.ServicingLemmas.{attends_turn, ends_lost, has_turn, left_as}
 use Rattle.server.proofs.servicing.service_order.Goals as goal
 
--- its message came whole
+-- its message arrived completely
 pub answer_order-stream-requires-clause-whole : goal.answer_order-stream-requires-clause-whole
 answer_order-stream-requires-clause-whole g c =
     subst HasCameWhole (sym c.as_slice.ensures.value) (c.receive_message.ensures.come (c.in-Ok-true.is ∙ ap Ok c.in-Ok-true.field-0-test))
@@ -46,7 +46,7 @@ returns-in-Ok-true-clause-turn g c =
         c.empty.ensures,
         refl,
       ),
-      c.begin_answer.ensures.his,
+      c.begin_answer.ensures.belongs,
     ))
 
 pub returns-in-Err-clause-leaves : goal.returns-in-Err-clause-leaves

@@ -6,7 +6,7 @@ use Rattle.server.specs.Settings.{settings_in}
 use Rattle.server.proofs.ServerLemmas.{all_closed, few_closed, hall_serves, nobody_served, serving_clean, serving_closed, sound_empty}
 use Rattle.server.proofs.serving.serve_connections.Goals as goal
 
--- there was no memory for a room
+-- there was no memory for a table
 pub returns-in_default-clause-served : goal.returns-in_default-clause-served
 returns-in_default-clause-served g c =
     nobody_served (settings_in g.A.SideJobs.whole c.args.server_settings) (stream_of g.D.Stream.Stream.held g.D.Stream.Stream.taken g.D.Stream.Stream.failed)

@@ -22,7 +22,7 @@ loop-round-init g c =
       waits = more_by_none known.waits;
     }
 
--- the room is as sound as it was
+-- the table is as sound as it was
 pub service_ready-requires-clause-sound : goal.service_ready-requires-clause-sound
 service_ready-requires-clause-sound g c =
     sound_later (settings_in g.A.SideJobs.whole c.args.serving.server_settings) (stream_of g.D.Stream.Stream.held g.D.Stream.Stream.taken g.D.Stream.Stream.failed)

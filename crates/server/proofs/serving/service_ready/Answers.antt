@@ -48,7 +48,7 @@ loop-preserved-in_default-place_of_number g c =
       called = unfailed_ready c.next_ready.result (known c.args.network.now) (known c.loop.network) (known c.next_ready.new.self) c.loop.invariant.called c.next_ready.ensures;
     }
 
--- whoever is at the place was told nothing, if it has no response
+-- nothing was sent to the connection at the place, if it has no response
 pub service_one-client-requires : goal.service_one-client-requires
 service_one-client-requires g c =
     let settings = settings_in g.A.SideJobs.whole c.args.server_settings in
