@@ -24,7 +24,7 @@ use Rattle.server.specs.ServedOrders.{TellsOrder}
 use Rattle.server.specs.ConsoleOrders.{TellsConsole}
 use Rattle.server.specs.Servers.{ServesConnections}
 use Rattle.server.specs.Settings.{ServerSettingsEntry}
-use Rattle.server.specs.Exchanges.{AnswersInTurn, AreTurnedAway, AsksNoOrder, EndsSo, IsClientAnsweredAt, IsStoredCountOf, IsToldClosed, Exchange}
+use Rattle.server.specs.Exchanges.{AnswersInTurn, AreTurnedAway, AsksNoOrder, EndsSo, IsClientAnsweredAt, KeepsExchanges, IsToldClosed, Exchange}
 use Rattle.server.specs.declared.serve_error.ServeError.{ServeError}
 
 -- ---- one request, next to a clerk's view of the office
@@ -93,7 +93,7 @@ ClerksAreAnsweredAsSeen state_of =
 -- The same of requests to an office that earlier requests led to, by what is kept of them.
 abbrev pub KeptAreAnsweredAsSeen : {S : Type 0} → (Held S → State) → Type 0
 KeptAreAnsweredAsSeen {S} state_of =
-    (settings : ServerSettingsEntry) (earlier : List Request) (exchanges : List Exchange) (closed : Bool) (held : Held S) → IsStoredCountOf state_of settings earlier exchanges closed (state_of held)
+    (settings : ServerSettingsEntry) (earlier : List Request) (exchanges : List Exchange) (closed : Bool) (held : Held S) → KeepsExchanges state_of settings earlier exchanges closed (state_of held)
     → (clerk : ℕ) → is_clerk clerk ≡ true → AnswersAsSeen state_of settings clerk (seen_by clerk (after empty_office earlier)) exchanges
 
 -- The same of a server, for any requests that it processed as it promises.

@@ -25,7 +25,7 @@ use Rattle.server.specs.declared.serve_error.ServeError.TheVariants as ended
 use Rattle.server.specs.Reads.{ServedOffice, MemoryEntry, served_office, with_none_kept}
 use Rattle.server.specs.Settings.{ServerSettingsEntry}
 use Rattle.server.specs.Servicing.{response_at}
-use Rattle.server.specs.Exchanges.{IsStoredCountOf, ServesExchange, Exchange}
+use Rattle.server.specs.Exchanges.{KeepsExchanges, ServesExchange, Exchange}
 
 -- these connections were accepted
 abbrev pub AcceptsMore : {L : Type 0} → Option (List (Accepted L)) → Option (List (Accepted L)) → List (Accepted L) → Type 0
@@ -130,4 +130,4 @@ pub record ServesConnections {L S : Type 0} (settings : ServerSettingsEntry) (st
   pub kept : MemoryEntry
   pub each : FoldsTo (ServesExchange settings state_of) (with_none_kept old) exchanges (served_office new kept)
   pub keeps : HasCleanDisk (state_of new.held) → old.closed ≡ false → (earlier : List Request) → IsAt (after empty_office earlier) (state_of old.held)
-      → IsStoredCountOf state_of settings earlier exchanges new.closed (state_of new.held)
+      → KeepsExchanges state_of settings earlier exchanges new.closed (state_of new.held)
