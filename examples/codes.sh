@@ -1,5 +1,6 @@
 #!/usr/bin/env bash
-# Plays clerks' codes: a new file of them, files that aren't taken, and who is let in over HTTP, beside wrong codes too.
+# Plays clerks' codes, and the office's: a new file of them, files that aren't taken, and who is let in over HTTP, beside wrong codes
+# too; and orders of the officer's console.
 # shellcheck source=examples/play.bash
 source "$(dirname "$(readlink -f "${BASH_SOURCE[0]}")")/play.bash"
 
@@ -24,9 +25,9 @@ look() {
     echo
 }
 
-# Serves with codes, until the commands of a function have been played.
+# Serves with codes, until the commands of these functions have been played.
 serve() {
-    local server tries=0
+    local server tries=0 played
     (cd "$folder" && exec "$office" town.db serve "$port" --codes codes.txt) &
     server=$!
     until (exec 3<>"/dev/tcp/127.0.0.1/$port") 2>/dev/null; do
@@ -34,7 +35,7 @@ serve() {
         [[ $tries -lt 200 ]] || { echo "no office answers on port $port"; return 1; }
         sleep 0.05
     done
-    "$1"
+    for played in "$@"; do "$played"; done
     kill -KILL "$server"
     wait "$server" 2>/dev/null || true
 }
@@ -76,6 +77,37 @@ let_in() {
     for try in {1..40}; do curl --silent -u "9:wrong-$try-code" "http://127.0.0.1:$port/clerks/9/work" >/dev/null; done
     # the right one is accepted all the same
     ask /clerks/9/work -u 9:w3hd-4psn
+}
+
+# Has the office do an order, as its console does.
+order() {
+    ask /office/orders -u office:h4dn-p3cs-kf7m-2wxt -d "$1"
+}
+
+at_console() {
+    ask /office/orders -d '{"files":{},"words":["wards"]}'
+    ask /office/orders -u 4:kf7m-2wxt -d '{"files":{},"words":["wards"]}'
+    order '{"files":{},"words":["batch","13","7","2","4","9","--id","b2"]}'
+    # the same request, repeated, and another under its id
+    order '{"files":{},"words":["batch","13","7","2","4","9","--id","b2"]}'
+    order '{"files":{},"words":["batch","13","7","3","4","9","--id","b2"]}'
+    order '{"files":{},"words":["candidate","7","4","Di","--id","c4"]}'
+    # a script is read from what came with it, and from nothing else
+    order '{"files":{"evening.txt":"batch 14 7 2 4 9 --id b3\nbatch 15 7 2 4 9 --id b4\n"},"words":["replay","evening.txt"]}'
+    order '{"files":{},"words":["replay","codes.txt"]}'
+    order '{"files":{},"words":["no","such","order"]}' | sed 's/"errors":".*","output"/"errors":"..","output"/'
+    order '{"files":{},"words":["codes","more.txt","1-40"]}'
+    # a copy is made next to the database, under a name of its own
+    order '{"files":{},"words":["copy","evening.db"]}'
+    order '{"files":{},"words":["copy","evening.db"]}'
+    order '{"files":{},"words":["copy","../evening.db"]}'
+    order '{"words":["wards"]}'
+    ask /office/orders -u office:h4dn-p3cs-kf7m-2wxt
+    ask /office/nothing -u office:h4dn-p3cs-kf7m-2wxt
+    look /office/
+    look /office/ -u 4:kf7m-2wxt
+    look /office/ -u office:h4dn-p3cs-kf7m-2wxt
+    look /office/leave -u office:h4dn-p3cs-kf7m-2wxt
 }
 
 {
@@ -123,7 +155,9 @@ let_in() {
     play town.db serve "$port" 1 --codes . | sed "s/ $port / PORT /"
 
     (umask 077 && printf '4 kf7m-2wxt\n9 w3hd-4psn\noffice h4dn-p3cs-kf7m-2wxt\n' >"$folder/codes.txt")
-    serve let_in
+    serve let_in at_console
+    play evening.db batches 7
+    (cd "$folder" && printf '%s\n' ./*.db)
 } >"$folder/played" 2>&1
 
 compare codes

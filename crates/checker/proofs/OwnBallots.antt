@@ -7,7 +7,7 @@ use Rattle.sheet.specs.Entries.{SheetEntry}
 use Rattle.sheet.specs.declared.ward.Poll.{Poll}
 use Rattle.checker.specs.Checks.{Hinders, IsChecked, IsProblem, IsWardCheck, IsWardProblem}
 use Rattle.checker.specs.Reading.{ReaderEntry, read}
-use Rattle.checker.specs.ReadingBack.{CanBeReadBack, IsReadBack}
+use Rattle.checker.specs.BallotsRoundTrip.{CanBeReadBack, IsReadBack}
 use Rattle.checker.specs.Wards.{ward_told}
 use Rattle.checker.specs.declared.differences.Checked.{Checked}
 use Rattle.checker.specs.declared.problem.Problem.{Problem}

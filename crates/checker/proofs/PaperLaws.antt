@@ -11,14 +11,14 @@ use Rattle.votes.specs.Units.{max_papers}
 use Rattle.count.specs.Bundles.{Bundle, papers_of, with_papers}
 use Rattle.sheet.specs.Ballots.{bundle_line}
 use Rattle.sheet.specs.Lines.{line, preferences}
-use Rattle.checker.specs.Comments.{Remarks}
+use Rattle.checker.specs.BallotsComments.{Remarks}
 use Rattle.checker.specs.Papers.{PapersEntry, papers_in, with_bundle, with_list}
 use Rattle.checker.specs.Tokens.{Text}
 use Rattle.checker.specs.Ranks.{named_from, without}
 use Rattle.checker.specs.Reading.{Named, ReaderEntry, begins_with_minus, is_withdrawn_line, with_content_at, with_line_of, with_papers_line, words_before_comment}
 use Rattle.checker.specs.declared.ranks.NextWord.TheVariants.{Preference}
-use Rattle.checker.specs.declared.state.NextLine.{NextLine}
-use Rattle.checker.specs.declared.state.NextLine.TheVariants as place
+use Rattle.checker.specs.declared.file_content.NextLine.{NextLine}
+use Rattle.checker.specs.declared.file_content.NextLine.TheVariants as place
 use Rattle.checker.proofs.LineLaws.{AreFigures, IsFigures, Reads, line_content, line_numbers, line_unended, or_both, or_none, reads-line, spaced}
 use Rattle.checker.proofs.NumberLaws.{candidate_back, decimal_alone, decimal_figures, decimal_nonzero, number_back}
 

@@ -7,14 +7,14 @@ use Rattle.std.proofs.lemmas.Bool.{le-ltb, lt-ltb}
 use Rattle.std.proofs.lemmas.List.Folds.{list_any-append}
 use Rattle.sheet.specs.Ballots.{name_at, name_line, name_or_withdrawn}
 use Rattle.sheet.specs.Lines.{escaped, line, quoted}
-use Rattle.checker.specs.Comments.{Remarks}
+use Rattle.checker.specs.BallotsComments.{Remarks}
 use Rattle.checker.specs.Names.{Quoting, max_name, name_in, with_byte}
 use Rattle.checker.specs.Papers.{PapersEntry}
 use Rattle.checker.specs.Tokens.{Text}
-use Rattle.checker.specs.ReadingBack.{IsName}
+use Rattle.checker.specs.BallotsRoundTrip.{IsName}
 use Rattle.checker.specs.Reading.{Named, with_name}
 use Rattle.checker.specs.declared.names.Within.TheVariants.{Inside}
-use Rattle.checker.specs.declared.state.NextLine.TheVariants as place
+use Rattle.checker.specs.declared.file_content.NextLine.TheVariants as place
 use Rattle.checker.proofs.NameLemmas.{ascii_text}
 use Rattle.checker.proofs.LineLaws.{Reads, or_both, or_none, reads-line, reads-nothing, reads-then}
 use Rattle.checker.proofs.PaperLaws.{state}

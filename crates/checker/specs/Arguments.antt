@@ -1,11 +1,14 @@
 -- The request in the program's arguments, and its outcome.
-use Rattle.std.specs.Prelude.{◌≡◌, ◌⊎◌, ◌||◌, if◌then◌else◌, nat_eq, Bool, List, [], ◌∷◌, Result, Ok, Err, codes, string_bytes}
+use Rattle.std.specs.Prelude.{◌≡◌, ◌⊎◌, ◌||◌, if◌then◌else◌, nat_eq, Bool, false, List, [], ◌∷◌, Result, Ok, Err, codes, string_bytes}
 use Rattle.std.specs.Cmp.Lexicographic.{pointwise}
 use Rattle.checker.specs.Checks.{IsChecked, IsProblem}
+use Rattle.checker.specs.Counts.{IsCountedText, IsUncounted}
 use Rattle.checker.specs.Reports.{ReportEntry, hint_of, memory_page, page_of}
+use Rattle.checker.specs.Requests.{CountEntry, count_request}
 use Rattle.checker.specs.Tokens.{Text}
 use Rattle.checker.specs.declared.arguments.ArgumentsFault.{ArgumentsFault}
 use Rattle.checker.specs.declared.arguments.ArgumentsFault.TheVariants as words
+use Rattle.checker.specs.declared.requests.WordsFlaw.{WordsFlaw}
 use Rattle.checker.specs.declared.report.Report.{Report}
 use Rattle.checker.specs.declared.report.Report.TheVariants as report
 use Rattle.checker.specs.declared.problem.Problem.TheVariants as problem
@@ -13,21 +16,47 @@ use Rattle.checker.specs.InputFiles.{InputFiles, Holds, Withholds}
 
 -- ---- the request
 
--- help; or the check of a text against ballots, each by its path; or arguments that aren't understood
-pub data CheckRequest : Type 0 where
-  help : CheckRequest
-  check : Text → Text → CheckRequest
-  nothing : CheckRequest
+-- help about checking; the check of a text against ballots, each by its path; help about counting; a count of ballots; or arguments that aren't
+-- understood
+pub data Request : Type 0 where
+  help : Request
+  check : Text → Text → Request
+  nothing : Request
+  count_help : Request
+  count : CountEntry → Request
+  misread : WordsFlaw → Request
 
 -- an argument that requests help
 abbrev pub is_help : Text → Bool
 is_help word = pointwise nat_eq word (codes "--help") || pointwise nat_eq word (codes "-h")
 
-abbrev pub asked : List Text → CheckRequest
+-- a request to check
+abbrev pub check_asked : List Text → Request
+check_asked [] = nothing
+check_asked (word ∷ []) = if is_help word then help else nothing
+check_asked (ballots ∷ text ∷ []) = check ballots text
+check_asked (ballots ∷ text ∷ other ∷ words) = nothing
+
+-- a request to count
+abbrev pub is_help_alone : List Text → Bool
+is_help_alone [] = false
+is_help_alone (word ∷ []) = is_help word
+is_help_alone (word ∷ other ∷ words) = false
+
+abbrev pub count_told : Result CountEntry WordsFlaw → Request
+count_told (Ok asked) = count asked
+count_told (Err flaw) = misread flaw
+
+abbrev pub count_asked : List Text → Request
+count_asked words = if is_help_alone words then count_help else count_told (count_request words)
+
+-- an argument that requests a count
+abbrev pub is_count : Text → Bool
+is_count word = pointwise nat_eq word (codes "--count")
+
+abbrev pub asked : List Text → Request
 asked [] = nothing
-asked (word ∷ []) = if is_help word then help else nothing
-asked (ballots ∷ text ∷ []) = check ballots text
-asked (ballots ∷ text ∷ other ∷ words) = nothing
+asked (word ∷ words) = if is_count word then count_asked words else check_asked (word ∷ words)
 
 -- the program's arguments, or the reason why they can't be read
 abbrev pub words_told : {V : Type 0} → (V → List Text) → Result V ArgumentsFault → Result (List Text) ArgumentsFault
@@ -56,11 +85,25 @@ IsTextOutcome held ballots path told = IsUnreadFile held path told ⊎ ((text : 
 abbrev pub IsFilesOutcome : InputFiles → Text → Text → Report → Type 0
 IsFilesOutcome held path text_path told = IsUnreadFile held path told ⊎ ((ballots : Text) × Holds held path ballots × IsTextOutcome held ballots text_path told)
 
+-- the outcome of counting ballots
+abbrev pub IsCountOutcome : Text → CountEntry → Report → Type 0
+IsCountOutcome ballots asked (report.Counted counted) = IsCountedText ballots asked.lots asked.text counted
+IsCountOutcome ballots asked (report.NotCounted why) = IsUncounted ballots asked.lots why
+IsCountOutcome ballots asked other = ⊥
+
+-- the outcome of counting a file of ballots
+abbrev pub IsCountFileOutcome : InputFiles → CountEntry → Report → Type 0
+IsCountFileOutcome held asked told =
+    IsUnreadFile held asked.ballots told ⊎ ((ballots : Text) × Holds held asked.ballots ballots × IsCountOutcome ballots asked told)
+
 -- the outcome of a request
-abbrev pub IsAnswer : InputFiles → CheckRequest → Report → Type 0
+abbrev pub IsAnswer : InputFiles → Request → Report → Type 0
 IsAnswer held help told = told ≡ report.Help
 IsAnswer held (check ballots text) told = IsFilesOutcome held ballots text told
-IsAnswer held nothing told = told ≡ report.NotAsked
+IsAnswer held nothing told = told ≡ report.BadArguments
+IsAnswer held count_help told = told ≡ report.CountHelp
+IsAnswer held (count asked) told = IsCountFileOutcome held asked told
+IsAnswer held (misread flaw) told = (told ≡ report.Misread flaw) ⊎ (told ≡ report.Hindered problem.Memory)
 
 -- the outcome of the program's arguments, or of the failure to read them
 abbrev pub IsOutcome : InputFiles → Result (List Text) ArgumentsFault → Report → Type 0

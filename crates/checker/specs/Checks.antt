@@ -9,8 +9,8 @@ use Rattle.count.specs.Law.Count.{stages_to}
 use Rattle.count.specs.Law.Due.{due_after}
 use Rattle.count.specs.Law.Elected.{elected_after}
 use Rattle.count.specs.Law.Right.{IsWholeCount}
-use Rattle.count.specs.declared.run.CountEnd.{CountEnd}
-use Rattle.count.specs.declared.run.CountEnd.TheVariants as end
+use Rattle.count.specs.declared.count_to_end.CountEnd.{CountEnd}
+use Rattle.count.specs.declared.count_to_end.CountEnd.TheVariants as end
 use Rattle.count.specs.declared.stages.Due.{Due}
 use Rattle.count.specs.declared.stages.Due.TheVariants as due
 use Rattle.count.specs.declared.stages.Stage.{Stage}
@@ -71,7 +71,7 @@ abbrev pub IsWardCheck : Option Poll → SheetEntry → List Bundle → List (�
 IsWardCheck None ward bundles lots text checked = IsComparison text (sheet ward []) (declaration ward (numbers_of ward)) checked
 IsWardCheck (Some poll) ward bundles lots text checked = IsCountedCheck ward bundles lots text checked
 
--- the result of checking a text against a file of ballots: the file is understood, and the text is compared with the ward that it describes
+-- the result of checking a text against a file of ballots: no line of the file has a flaw, and the text is compared with the ward in it
 pub record IsChecked (bytes text : Text) (checked : Checked) : Type 0 where
   pub reading : ReaderEntry
   pub understood : read bytes ≡ Ok reading
@@ -98,8 +98,8 @@ pub record Hinders (bytes : Text) (why : Problem) : Type 0 where
   pub understood : read bytes ≡ Ok reading
   pub hinders : IsWardProblem (ward_told reading).poll (ward_told reading) reading.papers.bundles reading.remarks.lots why
 
--- the reason why a text can't be checked against a file of ballots: its line with this number is the first that isn't understood; or the file is
--- understood, and its count can't be finished; or an allocation failed
+-- why a text can't be checked against a file of ballots: the line with this number is the first with a flaw; or no line has one, and the count can't be
+-- finished; or an allocation failed
 abbrev pub IsProblem : Text → Problem → Type 0
 IsProblem bytes (problem.Line line flaw) = read bytes ≡ Err (line, flaw)
 IsProblem bytes problem.NoContest = Hinders bytes problem.NoContest

@@ -7,9 +7,9 @@ use Rattle.checker.specs.declared.problem.BallotsFlaw.{BallotsFlaw}
 use Rattle.checker.specs.declared.problem.BallotsFlaw.TheVariants.{Astray}
 
 -- a text from its first letter or digit on
-abbrev pub behind_signs : Text → Text
-behind_signs [] = []
-behind_signs (byte ∷ bytes) = if is_ascii_alphanumeric byte then byte ∷ bytes else behind_signs bytes
+abbrev pub after_signs : Text → Text
+after_signs [] = []
+after_signs (byte ∷ bytes) = if is_ascii_alphanumeric byte then byte ∷ bytes else after_signs bytes
 
 -- the letters at the beginning of a text
 abbrev pub first_letters : Text → Text
@@ -17,12 +17,12 @@ first_letters [] = []
 first_letters (byte ∷ bytes) = if is_ascii_alphabetic byte then byte ∷ first_letters bytes else []
 
 -- whether a word is one of ours, ignoring case
-abbrev pub is_ours : Text → Bool
-is_ours word = str_eq_ignore_ascii_case word (codes "Ward") || (str_eq_ignore_ascii_case word (codes "Rejected") || str_eq_ignore_ascii_case word (codes "Lot"))
+abbrev pub is_count_office_word : Text → Bool
+is_count_office_word word = str_eq_ignore_ascii_case word (codes "Ward") || (str_eq_ignore_ascii_case word (codes "Rejected") || str_eq_ignore_ascii_case word (codes "Lot"))
 
 -- whether a comment begins with one of our words, after its `#` and any other signs
 abbrev pub begins_as_ours : Text → Bool
-begins_as_ours comment = is_ours (first_letters (behind_signs comment))
+begins_as_ours comment = is_count_office_word (first_letters (after_signs comment))
 
 -- a comment that isn't one of ours is ignored, unless it begins like ours
 abbrev pub skip_foreign : Text → Result (Unit {0}) BallotsFlaw

@@ -58,7 +58,7 @@ abbrev pub Tells : Outputs → Outputs → ReportEntry → ℕ → Type 0
 Tells old new page status = IsWhole old new page status ⊎ (IsOutputBroken old new page status ⊎ IsErrorOutputBroken old new page status)
 
 -- some page with a property was printed
-pub record TellsSome (old new : Outputs) (status : ℕ) (IsPage : ReportEntry → Type 0) : Type 0 where
+pub record PrintsSomeReport (old new : Outputs) (status : ℕ) (IsPage : ReportEntry → Type 0) : Type 0 where
   pub page : ReportEntry
   pub told : Tells old new page status
   pub is : IsPage page

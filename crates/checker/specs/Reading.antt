@@ -6,13 +6,13 @@ use Rattle.checker.specs.Ranks.{is_zero}
 use Rattle.checker.specs.ForeignComments.{behind_number_sign, skip_foreign}
 use Rattle.checker.specs.Papers.{PapersEntry, with_bundle, with_size, with_withdrawn}
 use Rattle.checker.specs.Names.{name_in}
-use Rattle.checker.specs.Comments.{Remarks, with_comment}
+use Rattle.checker.specs.BallotsComments.{Remarks, with_comment}
 use Rattle.checker.specs.declared.tokens.LineKind.{LineKind}
 use Rattle.checker.specs.declared.tokens.LineKind.TheVariants.{Empty, Comment, Content}
 use Rattle.checker.specs.declared.problem.BallotsFlaw.{BallotsFlaw}
 use Rattle.checker.specs.declared.problem.BallotsFlaw.TheVariants.{BehindName, NamesWanting, NoEnd, NoSize}
-use Rattle.checker.specs.declared.state.NextLine.{NextLine}
-use Rattle.checker.specs.declared.state.NextLine.TheVariants as place
+use Rattle.checker.specs.declared.file_content.NextLine.{NextLine}
+use Rattle.checker.specs.declared.file_content.NextLine.TheVariants as place
 
 -- the names of the numbers from 1 on, and the name of the ward
 pub record Named : Type 0 where

@@ -1,18 +1,23 @@
 -- The checker's output and exit status.
-use Rattle.std.specs.Prelude.{ℕ, ◌==◌, ◌||◌, ◌&&◌, nat_le, Bool, false, not, if◌then◌else◌, List, [], ◌∷◌, ◌-◌, length, slice_get, Option, Some, None, codes, string_bytes}
+use Rattle.std.specs.Prelude.{ℕ, ◌==◌, ◌||◌, ◌&&◌, nat_le, Bool, false, not, if◌then◌else◌, List, [], ◌∷◌, ◌++◌, ◌-◌, length, slice_get, Option, Some, None, option_map, codes, string_bytes}
 use Rattle.std.specs.Fmt.{decimal}
 use Rattle.std.specs.List.{flat_map, list_any}
 use Rattle.std.specs.Char.{encode_utf8}
 use Rattle.std.specs.Str.{chars}
+use Rattle.checker.specs.Remedies.{remedy}
 use Rattle.checker.specs.Tokens.{Text}
 use Rattle.checker.specs.Texts.{joined, problem_text}
 use Rattle.checker.specs.declared.differences.Checked.{Checked}
 use Rattle.checker.specs.declared.differences.Checked.TheVariants as checked
-use Rattle.checker.specs.declared.help.TheConstants.{HELP}
+use Rattle.checker.specs.declared.ballot_counts.CountProblem.{CountProblem}
+use Rattle.checker.specs.declared.ballot_counts.CountProblem.TheVariants as uncounted
+use Rattle.checker.specs.declared.help.TheConstants.{COUNT_HELP, HELP}
 use Rattle.checker.specs.declared.hints.Hint.{Hint}
 use Rattle.checker.specs.declared.hints.Hint.TheVariants as hint
 use Rattle.checker.specs.declared.report.Report.{Report}
 use Rattle.checker.specs.declared.report.Report.TheVariants as report
+use Rattle.checker.specs.declared.requests.WordsFlaw.{WordsFlaw}
+use Rattle.checker.specs.declared.requests.WordsFlaw.TheVariants as words
 use Rattle.checker.specs.declared.problem.Problem.{Problem}
 use Rattle.checker.specs.declared.problem.Problem.TheVariants as problem
 
@@ -113,14 +118,29 @@ hindered_text (problem.LotNotAmong stage) = error_line (problem_text (problem.Lo
 hindered_text (problem.LotNotNeeded stage) = error_line (problem_text (problem.LotNotNeeded stage))
 hindered_text problem.Memory = error_line (problem_text problem.Memory)
 
--- the outcome of the program's arguments, in words
-abbrev pub text_of : Report → Text
-text_of report.Help = HELP.now
-text_of report.NotAsked = codes "error: give the path of the ballots, and that of the sheet; --help says more\n"
-text_of report.NotUtf8 = codes "error: a word is not UTF-8\n"
-text_of (report.NotRead path why) = joined (codes "error: " ∷ shown (string_bytes path) ∷ codes " can't be read: " ∷ string_bytes why ∷ codes "\n" ∷ [])
-text_of (report.Checked checked hint) = checked_text checked hint
-text_of (report.Hindered problem) = hindered_text problem
+-- a file that can't be read, and the reason
+abbrev pub unread_text : Text → Text → Text
+unread_text path why = joined (codes "error: " ∷ shown path ∷ codes " can't be read: " ∷ why ∷ codes "\n" ∷ [])
+
+-- the flaw of the words of a request to count ballots, and what to do
+abbrev pub words_text : WordsFlaw → Text
+words_text words.NoBallots = codes "error: give the path of the ballots; --help says more\n"
+words_text words.SecondBallots = codes "error: give one path, that of the ballots; --help says more\n"
+words_text words.UnknownOption = codes "error: there is no such option; --help says more\n"
+words_text words.SecondText = codes "error: give one of --declaration, --page, --table and --ballots; --help says more\n"
+words_text words.NoValue = codes "error: the last option needs a value; --help says more\n"
+words_text words.Lot = codes "error: give a lot as its stage and its candidate, such as --lot 3:4; --help says more\n"
+words_text words.TitleAlone = codes "error: only a page has a title: add --page; --help says more\n"
+words_text words.SecondTitle = codes "error: give one title; --help says more\n"
+
+-- a second lot for a stage, and what to do
+abbrev pub second_lot_text : ℕ → Text
+second_lot_text stage = joined (codes "error: a lot for stage " ∷ decimal stage ∷ codes " is given a second time: give one, in the ballots or by --lot\n" ∷ [])
+
+-- the reason why ballots aren't counted, and what to do
+abbrev pub uncounted_text : CountProblem → Text
+uncounted_text (uncounted.LotTwice stage) = second_lot_text stage
+uncounted_text (uncounted.Ballots problem) = hindered_text problem ++ remedy problem
 
 -- the status for the outcome of a check
 abbrev pub checked_status : Checked → ℕ
@@ -137,16 +157,28 @@ hindered_status (problem.LotNotAmong stage) = 2
 hindered_status (problem.LotNotNeeded stage) = 2
 hindered_status problem.Memory = 3
 
-abbrev pub status_of : Report → ℕ
-status_of report.Help = 0
-status_of report.NotAsked = 2
-status_of report.NotUtf8 = 2
-status_of (report.NotRead path why) = 3
-status_of (report.Checked checked hint) = checked_status checked
-status_of (report.Hindered problem) = hindered_status problem
+-- the status for the reason why ballots aren't counted
+abbrev pub uncounted_status : CountProblem → ℕ
+uncounted_status (uncounted.LotTwice stage) = 2
+uncounted_status (uncounted.Ballots problem) = hindered_status problem
 
+-- a text of a count, with status 0 if the count is finished; if it waits for a lot, the line about that on the error output, with status 1
+abbrev pub counted_page : Text → Option Text → ReportEntry
+counted_page text None = record { out = text; err = []; status = 0 }
+counted_page text (Some line) = record { out = text; err = line; status = 1 }
+
+-- the outcome of the program's arguments
 abbrev pub page_of : Report → ReportEntry
-page_of report = page_with (status_of report) (text_of report)
+page_of report.Help = page_with 0 HELP.now
+page_of report.CountHelp = page_with 0 COUNT_HELP.now
+page_of report.BadArguments = page_with 2 (codes "error: give the path of the ballots, and that of the sheet; --help says more\n")
+page_of (report.Misread flaw) = page_with 2 (words_text flaw)
+page_of report.NotUtf8 = page_with 2 (codes "error: a word is not UTF-8\n")
+page_of (report.NotRead path why) = page_with 3 (unread_text (string_bytes path) (string_bytes why))
+page_of (report.Checked checked hint) = page_with (checked_status checked) (checked_text checked hint)
+page_of (report.Hindered problem) = page_with (hindered_status problem) (hindered_text problem)
+page_of (report.Counted counted) = counted_page (string_bytes counted.text) (option_map string_bytes counted.lot_needed)
+page_of (report.NotCounted why) = page_with (uncounted_status why) (uncounted_text why)
 
 -- the page for a failed allocation
 abbrev pub memory_page : ReportEntry

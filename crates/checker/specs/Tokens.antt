@@ -3,7 +3,7 @@ use Rattle.std.specs.Prelude.{ℕ, ◌==◌, ◌&&◌, ◌||◌, ◌++◌, Bool,
 use Rattle.checker.specs.declared.tokens.LineKind.{LineKind}
 use Rattle.checker.specs.declared.tokens.LineKind.TheVariants.{Empty, Comment, Content}
 use Rattle.checker.specs.declared.tokens.Separator.{Separator}
-use Rattle.checker.specs.declared.tokens.Separator.TheVariants.{LineFeed, Blank, Mark, Equals}
+use Rattle.checker.specs.declared.tokens.Separator.TheVariants.{LineFeed, Blank, Mark, Equals, Colon}
 
 -- some bytes
 abbrev pub Text : Type 0
@@ -14,24 +14,26 @@ abbrev pub is_blank : ℕ → Bool
 is_blank byte = byte == 32 || (byte == 9 || byte == 13)
 
 -- whether a byte separates two pieces: a line feed separates lines, and blanks separate words; in our own comments so do colons and commas; an equals
--- sign separates the candidates who share a rank
+-- sign separates the candidates who share a rank, and a colon the stage of a lot and its candidate
 abbrev pub parts : Separator → ℕ → Bool
 parts LineFeed byte = byte == 10
 parts Blank byte = is_blank byte
 parts Mark byte = is_blank byte || (byte == 58 || byte == 44)
 parts Equals byte = byte == 61
+parts Colon byte = byte == 58
 
 -- a word, if there is one
 abbrev pub word : Text → List Text
 word [] = []
 word (byte ∷ bytes) = (byte ∷ bytes) ∷ []
 
--- a complete piece: a line or one of the candidates who share a rank may be empty, but there is no word between two blanks
+-- a complete piece: a line, one of the candidates who share a rank, or a part of a lot may be empty, but there is no word between two blanks
 abbrev pub piece : Separator → Text → List Text
 piece LineFeed text = text ∷ []
 piece Blank text = word text
 piece Mark text = word text
 piece Equals text = text ∷ []
+piece Colon text = text ∷ []
 
 -- the pieces of a text, given the beginning of the first
 abbrev pub pieces_of : Separator → Text → Text → List Text

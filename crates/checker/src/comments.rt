@@ -1,15 +1,15 @@
 //! Our own comments: the number of the ward, the rejected papers of each code, and the lots.
 
 ghost use Rattle.std.specs.Prelude.{◌≡◌, ◌∷◌, [], map, option_map, IfOk, OnOk, codes};
-ghost use Rattle.checker.specs.Comments.{code_in, codes_in, count_in, is_drawn, is_end, is_word, lot_in, rejected_in, small_in, told_once, ward_in};
-ghost use Rattle.checker.specs.Comments.{with_comment, with_kind, with_lot, with_other, with_rejected, with_ward, with_words};
+ghost use Rattle.checker.specs.BallotsComments.{code_in, codes_in, count_in, is_drawn, is_end, is_word, lot_in, rejected_counts_in, small_in, told_once, ward_in};
+ghost use Rattle.checker.specs.BallotsComments.{with_comment, with_kind, with_lot, with_other, with_rejected, with_ward, with_words};
 ghost use Rattle.checker.specs.Outcomes.{outcome};
-ghost use Rattle.checker.specs.Views.{remarks_of};
+ghost use Rattle.checker.specs.Values.{remarks_of};
 
+use crate::file_content::Comments;
 use crate::foreign_comments::skip_foreign;
 use crate::numbers::number_in;
 use crate::problem::BallotsFlaw;
-use crate::state::Comments;
 use crate::tokens::{Separator, pieces_of};
 use std::alloc::{AllocError, Global};
 
@@ -21,7 +21,7 @@ fn is_word(text: &str, word: &[u8]) -> bool
 }
 
 /// Parses a number that fits in one byte.
-fn small_in(word: &[u8]) -> Option<u8>
+pub(crate) fn small_in(word: &[u8]) -> Option<u8>
     ensures { result ≡ small_in word.now }
 {
     match number_in(255, word) {
@@ -74,8 +74,8 @@ fn code_in<'a, 'b>(code: &str, words: &'b [&'a [u8]]) -> Option<(u32, &'b [&'a [
 }
 
 /// Parses the number of rejected papers for each code.
-fn rejected_in(words: &[&[u8]]) -> Option<[u32; 5]>
-    ensures { result ≡ rejected_in (map (λ w. w.now) words.now) }
+fn rejected_counts_in(words: &[&[u8]]) -> Option<[u32; 5]>
+    ensures { result ≡ rejected_counts_in (map (λ w. w.now) words.now) }
 {
     let (first, words) = code_in("1", words)?;
     let (second, words) = code_in("2", words)?;
@@ -102,7 +102,7 @@ fn lot_in(words: &[&[u8]]) -> Option<(u8, u8)>
 }
 
 /// Returns whether a lot is recorded for a stage.
-fn is_drawn(stage: u8, lots: &[(u8, u8)]) -> bool
+pub(crate) fn is_drawn(stage: u8, lots: &[(u8, u8)]) -> bool
     ensures { result ≡ is_drawn stage lots.now }
 {
     for lot in lots {
@@ -180,7 +180,7 @@ impl Comments {
             return Ok(self.take_ward(ward_in(words)));
         }
         if is_word("Rejected", kind) {
-            return Ok(self.take_rejected(rejected_in(words)));
+            return Ok(self.take_rejected(rejected_counts_in(words)));
         }
         if is_word("Lot", kind) {
             return self.take_lot(lot_in(words));

@@ -1,13 +1,13 @@
 //! Comments that are ignored, and those that are refused because they begin like ours.
 
 ghost use Rattle.std.specs.Prelude.{◌≡◌};
-ghost use Rattle.checker.specs.ForeignComments.{begins_as_ours, behind_number_sign, behind_signs, first_letters, is_ours, skip_foreign};
+ghost use Rattle.checker.specs.ForeignComments.{begins_as_ours, behind_number_sign, after_signs, first_letters, is_count_office_word, skip_foreign};
 
 use crate::problem::BallotsFlaw;
 
 /// Returns a text from its first letter or digit on.
-fn behind_signs(text: &[u8]) -> &[u8]
-    ensures { result.now ≡ behind_signs text.now }
+fn after_signs(text: &[u8]) -> &[u8]
+    ensures { result.now ≡ after_signs text.now }
 {
     for i in 0..text.len() {
         if text[i].is_ascii_alphanumeric() {
@@ -30,8 +30,8 @@ fn first_letters(text: &[u8]) -> &[u8]
 }
 
 /// Returns whether a word is one of ours, ignoring case.
-fn is_ours(word: &[u8]) -> bool
-    ensures { result ≡ is_ours word.now }
+fn is_count_office_word(word: &[u8]) -> bool
+    ensures { result ≡ is_count_office_word word.now }
 {
     word.eq_ignore_ascii_case(b"Ward")
         || (word.eq_ignore_ascii_case(b"Rejected") || word.eq_ignore_ascii_case(b"Lot"))
@@ -41,7 +41,7 @@ fn is_ours(word: &[u8]) -> bool
 fn begins_as_ours(comment: &[u8]) -> bool
     ensures { result ≡ begins_as_ours comment.now }
 {
-    is_ours(first_letters(behind_signs(comment)))
+    is_count_office_word(first_letters(after_signs(comment)))
 }
 
 /// Ignores a comment that isn't one of ours, unless it begins like ours.

@@ -1,10 +1,10 @@
-//! Checks a stage sheet or a declaration against the ballots of its ward: whether the text is exactly the result of these ballots,
-//! rejected papers and lots. Nothing from an office is needed.
+//! Counts the ballots of a ward, and checks a stage sheet or a declaration against them: whether the text is exactly the result of
+//! these ballots, rejected papers and lots. Nothing from an office is needed.
 //!
 //! [`check`] reads the ballots, as printed by `ballots` or written by other counting programs (BLT), counts them to the end with the
-//! recorded lots, and compares. A [`Problem`] is the part of the ballots that isn't understood, or the lot that is missing. [`run`]
-//! executes the request in the checker's arguments: it reads both files through an [`InputFiles`], and prints the outcome on two
-//! outputs.
+//! recorded lots, and compares. A [`Problem`] is the part of the ballots that isn't understood, or the lot that is missing.
+//! [`count_ballots`] counts them in the same way, and returns a [`CountText`] of the count. [`run`] executes the request in the
+//! program's arguments: it reads the files through an [`InputFiles`], and prints the outcome on two outputs.
 //!
 //! ```text
 //! match check(alloc, ballots, text)? {
@@ -23,14 +23,17 @@ mod numbers;
 mod tokens;
 // what a file contains so far, and what each of its lines adds
 mod comments;
+mod file_content;
 mod foreign_comments;
 mod names;
 mod papers;
 mod ranks;
 mod reading;
-mod state;
-// the ward in a file, and the comparison of a text with it
+// the ward in a file, its count by the lots, the texts of the count, and the comparison of a text with them
+mod ballot_counts;
 mod checking;
+mod counting;
+mod lot_lines;
 mod lots;
 mod reading_back;
 mod wards;
@@ -40,10 +43,13 @@ mod help;
 mod hints;
 mod input_files;
 mod printing;
+mod remedies;
 mod report;
-mod shown;
+mod requests;
+mod terminal_escaping;
 
 pub use arguments::{ArgumentsFault, run};
+pub use ballot_counts::{CountProblem, CountText, CountedText, count_ballots};
 pub use checking::check;
 pub use differences::Checked;
 pub use input_files::{InputFiles, NotRead};

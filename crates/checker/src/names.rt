@@ -3,7 +3,7 @@
 ghost use Rattle.std.specs.Prelude.{◌≡◌, [], ◌∷◌, IfOk, OnOk, string_bytes};
 ghost use Rattle.checker.specs.Names.{as_text, name_in, name_of, outside, with_byte, with_bytes};
 ghost use Rattle.checker.specs.Outcomes.{told_as};
-ghost use Rattle.checker.specs.Views.{quoting_of};
+ghost use Rattle.checker.specs.Values.{quoting_of};
 
 use crate::foreign_comments::skip_foreign;
 use crate::problem::BallotsFlaw;

@@ -6,12 +6,12 @@ ghost use Rattle.paper.specs.Columns.{max_candidates};
 ghost use Rattle.votes.specs.Units.{max_papers, max_seats};
 ghost use Rattle.checker.specs.Outcomes.{outcome};
 ghost use Rattle.checker.specs.Papers.{papers_in, seats_in, with_bundle, with_list, with_size, with_withdrawn, withdrawn_from, withdrawn_in};
-ghost use Rattle.checker.specs.Views.{told_of};
+ghost use Rattle.checker.specs.Values.{told_of};
 
+use crate::file_content::PaperTotals;
 use crate::numbers::{candidate_in, number_in};
 use crate::problem::BallotsFlaw;
 use crate::ranks::{named_in, without};
-use crate::state::PaperTotals;
 use paper::{Columns, MAX_CANDIDATES, Prefs};
 use std::alloc::{AllocError, Global};
 use votes::{MAX_PAPERS, MAX_SEATS};

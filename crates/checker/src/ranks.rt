@@ -5,7 +5,7 @@ ghost use Rattle.paper.specs.Columns.{max_candidates};
 ghost use Rattle.paper.specs.Ranking.{IsRanking};
 ghost use Rattle.checker.specs.Outcomes.{outcome, told_as};
 ghost use Rattle.checker.specs.Ranks.{is_zero, named_in, named_of, standing_from, with_candidate, with_each, with_rank, with_word, without};
-ghost use Rattle.checker.specs.Views.{ranks_of};
+ghost use Rattle.checker.specs.Values.{ranks_of};
 
 use crate::numbers::candidate_in;
 use crate::problem::BallotsFlaw;

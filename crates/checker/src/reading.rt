@@ -5,13 +5,13 @@ ghost use Rattle.paper.specs.Columns.{max_candidates};
 ghost use Rattle.checker.specs.Outcomes.{outcome, told_as};
 ghost use Rattle.checker.specs.Reading.{at_end, before_comment, is_end_line, is_withdrawn_line, nothing_told, read, read_from};
 ghost use Rattle.checker.specs.Reading.{words_before_comment, with_content_at, with_line, with_name_line, with_papers_line, with_size_line, with_withdrawn_line};
-ghost use Rattle.checker.specs.Views.{IsFlawOf, reading_of};
+ghost use Rattle.checker.specs.Values.{IsFlawOf, reading_of};
 
+use crate::file_content::{CandidateNames, Comments, NextLine, PaperTotals, Reader};
 use crate::foreign_comments::{behind_number_sign, skip_foreign};
 use crate::names::name_in;
 use crate::problem::{BallotsFlaw, Problem};
 use crate::ranks::is_zero;
-use crate::state::{CandidateNames, Comments, NextLine, PaperTotals, Reader};
 use crate::tokens::{LineKind, Separator, kind_of, lines_of, pieces_of};
 use count::Bundles;
 use paper::Columns;

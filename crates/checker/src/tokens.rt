@@ -16,6 +16,8 @@ pub(crate) enum Separator {
     Mark,
     /// An equals sign: the pieces are the candidates who share a rank.
     Equals,
+    /// A colon: the pieces are the stage and the candidate of a lot.
+    Colon,
 }
 
 /// The kind of a line.
@@ -45,6 +47,7 @@ fn parts(separator: Separator, byte: u8) -> bool
         Separator::Blank => is_blank(byte),
         Separator::Mark => is_blank(byte) || (byte == b':' || byte == b','),
         Separator::Equals => byte == b'=',
+        Separator::Colon => byte == b':',
     }
 }
 
@@ -57,7 +60,7 @@ fn with_piece<'a>(
     ensures { IfOk result (λ all. map (λ p. p.now) all.items ≡ map (λ p. p.now) pieces.entry.items ++ piece separator text.now) }
 {
     match separator {
-        Separator::LineFeed | Separator::Equals => pieces.push(text)?,
+        Separator::LineFeed | Separator::Equals | Separator::Colon => pieces.push(text)?,
         Separator::Blank | Separator::Mark => {
             if !text.is_empty() {
                 pieces.push(text)?;

@@ -23,7 +23,7 @@ most_files = 100
 abbrev pub is_vain : ClerkRange → Bool → List ℕ → Bool
 is_vain clerks office bytes = (length (letters_drawn bytes) == letters_with clerks office) && not (is_file_for clerks office (file_in (text_with clerks office (letters_drawn bytes))))
 
--- A text was made of the bytes drawn: of each letter that they draw, in order, and of no other.
+-- A text was made of the bytes drawn: of all letters that they draw, in order, and of nothing else.
 pub record IsDrawn (clerks : ClerkRange) (office : Bool) (old new : Option (List ℕ)) (text : List ℕ) : Type 0 where
   pub own : List ℕ
   pub drew : new ≡ append_known old own
@@ -84,7 +84,7 @@ IsUnwritten clerks office failed failed_then old new (Fault NoRandom) = failed_t
 IsUnwritten clerks office failed failed_then old new (Fault BadRandom) = (failed_then ≡ failed) × IsShort clerks office old new
 IsUnwritten clerks office failed failed_then old new (Fault other) = ⊥
 
--- Bytes were drawn, but make no codes: too few of the last of them draw a letter, or none of that many texts is a file of codes.
+-- Bytes were drawn, but made no codes: the last of them draw too few letters, or none of as many texts as are tried is a file of codes.
 pub record IsInVain (clerks : ClerkRange) (office : Bool) (old new : Option (List ℕ)) : Type 0 where
   pub earlier : List (List ℕ)
   pub own : List ℕ

@@ -21,7 +21,7 @@ pub struct Codes {
 }
 
 /// The office's name, as its line in a file has it, and as a browser sends it.
-pub(crate) const OFFICE: &str = "office";
+pub(crate) const OFFICE_USER_NAME: &str = "office";
 
 /// Returns the credentials of a name with a code, as a text.
 fn basic_text(alloc: Global, name: &str, code: &[u8]) -> Result<String, AllocError>
@@ -106,7 +106,7 @@ pub(crate) fn office_by(alloc: Global, code: Option<&[u8]>) -> Result<Option<Bas
     let Some(code) = code else {
         return Ok(None);
     };
-    Ok(Some(Basic::new(alloc, OFFICE, code)?))
+    Ok(Some(Basic::new(alloc, OFFICE_USER_NAME, code)?))
 }
 
 impl Codes {

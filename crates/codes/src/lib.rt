@@ -20,8 +20,8 @@ mod fault;
 mod holders;
 // new codes
 mod drawing;
-mod drawn;
 mod making;
+mod random_letters;
 mod range;
 // a file
 mod reading;

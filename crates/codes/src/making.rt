@@ -8,8 +8,8 @@ ghost use Rattle.codes.specs.Making.{IsMadeFor, IsMadeWithOffice, are_from, cler
 ghost use Rattle.codes.specs.declared.fault.CodesError.TheVariants.{Memory};
 
 use crate::drawing::RandomSource;
-use crate::drawn::{LETTERS, draw_lines};
 use crate::fault::{CodesError, CodesFault};
+use crate::random_letters::{LETTERS, draw_lines};
 use crate::range::ClerkRange;
 use crate::reading::{CodeLine, entries_of, lines_of};
 use std::alloc::Global;

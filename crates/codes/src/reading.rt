@@ -11,7 +11,7 @@ ghost use Rattle.codes.specs.declared.fault.CodesFault.TheVariants.{Line};
 ghost use Rattle.codes.specs.declared.fault.CodesError.TheVariants as read_error;
 
 use crate::fault::{CodeFlaw, CodesError, CodesFault};
-use crate::holders::{Codes, OFFICE, credentials_by, office_by};
+use crate::holders::{Codes, OFFICE_USER_NAME, credentials_by, office_by};
 use std::alloc::{AllocError, Global};
 use std::mem;
 
@@ -163,7 +163,7 @@ fn parts_of(line: &[u8]) -> (&[u8], &[u8])
 fn is_office_line(line: &[u8]) -> bool
     ensures { result ≡ is_office_line line.now }
 {
-    parts_of(line).0 == OFFICE.as_bytes()
+    parts_of(line).0 == OFFICE_USER_NAME.as_bytes()
 }
 
 /// Parses a clerk's line: a clerk's number, a blank, and a code.

@@ -7,7 +7,7 @@ use Rattle.count.specs.Law.Due.{drawn, due_after}
 use Rattle.count.specs.Law.Right.{IsNext, IsRightByItself, candidate_of}
 use Rattle.count.specs.Advance.{Adds, Advances, IsDue}
 use Rattle.count.specs.Law.Laws.{IsConserved, IsShort, FillsSeats, OnlyCandidatesHaveVotes, IsAmongSeveral}
-use Rattle.count.specs.Inside.Keeping.{AreHeld, IsBook}
+use Rattle.count.specs.Inside.BookInvariants.{AreHeld, IsBook}
 use Rattle.count.specs.declared.stages.Action.{Action}
 use Rattle.count.specs.declared.stages.Stage.{Stage}
 use Rattle.count.specs.declared.stages.Due.TheVariants.{Finished}

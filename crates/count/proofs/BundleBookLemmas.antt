@@ -14,9 +14,9 @@ use Rattle.count.specs.Law.Due.{drawn, due_after, lot_for}
 use Rattle.count.specs.Law.Figures.{votes_after, non_transferable_after, lost_after}
 use Rattle.count.specs.Law.Laws.{IsConserved, IsShort, FillsSeats, OnlyCandidatesHaveVotes, IsAmongSeveral}
 use Rattle.count.specs.Law.Right.{IsRightBy, IsRightByItself, IsRightForSome, candidate_of}
-use Rattle.count.specs.Inside.Keeping.{with_newly, IsAdded}
+use Rattle.count.specs.Inside.BookInvariants.{with_newly_elected, IsAdded}
 use Rattle.count.specs.Inside.Holdings.{newest_lost}
-use Rattle.count.specs.Kept.{places_after}
+use Rattle.count.specs.StoredCounts.{places_after}
 use Rattle.count.specs.Inside.Placing.{contest_on, IsBundled, IsFigured, IsSound}
 use Rattle.votes.specs.Units.{max_units}
 use Rattle.count.specs.declared.placed.Placed.{Placed}
@@ -28,7 +28,7 @@ use Rattle.count.specs.declared.terms.Terms.{Terms}
 use Rattle.count.proofs.BookLemmas.{adds-advances, adds-right, drawn-due}
 use Rattle.count.proofs.BundleLaws.{same-bundles}
 use Rattle.count.proofs.PlaceLemmas.{sound-places}
-use Rattle.count.proofs.WeightLemmas.{lost-few}
+use Rattle.count.proofs.BundleFigureLemmas.{lost-few}
 use Rattle.count.proofs.Law.ActionLemmas.{stages-bound}
 use Rattle.count.proofs.Law.ConservedLemmas.{all-conserved}
 use Rattle.count.proofs.Law.FinishLemmas.{finished-elected, lots-several}
@@ -85,7 +85,7 @@ pub figured-adds : (terms : Terms) (bundles : List Bundle) (old new : History) (
 figured-adds terms bundles old new action bare figured is_added =
     let contest : Contest = contest_on terms bundles in
     record {
-      stage = with_newly bare is_added.newly;
+      stage = with_newly_elected bare is_added.newly;
       one_more = is_added.one_more;
       of_action = figured.of_action;
       tells = record {

@@ -1,7 +1,7 @@
 -- The test of a contest, paper by paper.
 use Rattle.std.proofs.Common.{◌≡◌, ℕ, suc, zero, ◌+◌, ◌<◌, ◌≤◌, List, [], ◌∷◌, ◌++◌, length, take, get_or, replicate, refl, sym, ◌∙◌, arith, subst, Bool, true}
 use Rattle.std.specs.List.{AllByRecursion}
-use Rattle.paper.specs.Columns.{IsColumnSet}
+use Rattle.paper.specs.Columns.{IsCandidateSet}
 use Rattle.votes.specs.Units.{max_seats, max_papers}
 use Rattle.count.specs.Bundles.{Bundle, IsBundle, papers_of}
 use Rattle.count.specs.Law.Contest.{AreForCandidates, contest_for, IsContest}
@@ -19,7 +19,7 @@ all-at P [] i x within is all = absurd (omega arith)
 all-at P (y ∷ ys) zero x within is all = all.0
 all-at P (y ∷ ys) (suc i) x within is all = all-at P ys i x (omega arith) is all.1
 
-pub contest-is : (candidates : List ℕ) (seats : ℕ) (papers : List (List ℕ)) → IsColumnSet candidates → 1 ≤ seats → seats ≤ max_seats → seats < length candidates → length papers ≤ max_papers →
+pub contest-is : (candidates : List ℕ) (seats : ℕ) (papers : List (List ℕ)) → IsCandidateSet candidates → 1 ≤ seats → seats ≤ max_seats → seats < length candidates → length papers ≤ max_papers →
     AreForCandidates candidates papers →
     IsContest (contest_for candidates seats papers)
 contest-is candidates seats papers set some few contested few_papers of =

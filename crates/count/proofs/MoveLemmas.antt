@@ -7,7 +7,7 @@ use Rattle.count.specs.Law.Contest.{Contest, History, IsContest, In, newest_vote
 use Rattle.count.specs.Law.Right.{IsRightByItself, candidate_of}
 use Rattle.count.specs.Advance.{IsDue}
 use Rattle.count.specs.Books.{AreRankings}
-use Rattle.count.specs.Inside.Keeping.{HoldPapers, IsBook}
+use Rattle.count.specs.Inside.BookInvariants.{HoldPapers, IsBook}
 use Rattle.count.specs.declared.parcel.Holding.{Holding}
 use Rattle.count.specs.declared.stages.Action.{Action}
 use Rattle.count.specs.declared.stages.Action.TheVariants.{First, Surplus, Exclude, ExcludeLast}

@@ -14,7 +14,7 @@ use Rattle.count.specs.Law.Count.{begun}
 use Rattle.count.specs.Law.Elected.{is_continuing, continuing_after}
 use Rattle.count.specs.Law.Places.{Place, place, moved, passed_on, first_of, after, next_available, surplus_of}
 use Rattle.count.specs.Inside.Holdings.{new_value, IsTransferRule, OnlyColumns}
-use Rattle.count.specs.Kept.{places_after}
+use Rattle.count.specs.StoredCounts.{places_after}
 use Rattle.count.specs.Inside.Placing.{IsSound, first_places, passed_at, passed_places}
 use Rattle.count.specs.declared.parcel.TransferRule.{TransferRule}
 use Rattle.count.specs.declared.parcel.TransferRule.TheVariants.{AsReceived, Share}

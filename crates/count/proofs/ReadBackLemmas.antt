@@ -18,7 +18,7 @@ use Rattle.count.specs.declared.stages.Action.TheVariants.{First, Surplus, Exclu
 use Rattle.count.proofs.ColumnLemmas.{reverse-newest}
 use Rattle.count.proofs.FilterLemmas.{filter-cong}
 use Rattle.count.proofs.ReadingLemmas.{stage-made}
-use Rattle.count.proofs.TallyLemmas.{map-numbers}
+use Rattle.count.proofs.ParcelFigureLemmas.{map-numbers}
 use Rattle.count.proofs.Law.NamedLemmas.{none-elected, named-elected, excluded-unelected, surplus-elected}
 use Rattle.count.proofs.Law.NewlyLemmas.{newly-elected}
 use Rattle.count.proofs.Law.StepLemmas.{IsSurplus, IsExclusion, step-is, step-first, told-votes}

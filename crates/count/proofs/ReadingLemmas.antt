@@ -2,7 +2,7 @@
 use Rattle.std.proofs.Common.{◌≡◌, ℕ, suc, ◌+◌, ◌-◌, ◌<◌, ◌||◌, Bool, true, false, cond, nat_eq, List, [], ◌∷◌, ◌++◌, length, map, take, drop, set, get_or, inl, inr, Some, None, refl, sym}
 use Rattle.std.proofs.Common.{ap, ◌∙◌, arith, slice_index, get_or-set_same, get_or-set_other, length-set}
 use Rattle.std.specs.List.{list_any}
-use Rattle.paper.specs.Columns.{IsColumnSet}
+use Rattle.paper.specs.Columns.{IsCandidateSet}
 use Rattle.std.proofs.Math.Seq.{drop-cons, take-append_seam, get_or-append_seam}
 use Rattle.std.proofs.lemmas.Bool.{eq-eqb, ne_eqb, cases_eq}
 use Rattle.std.proofs.lemmas.Grind.{same_number_lists}
@@ -105,9 +105,9 @@ stage-made s a v e n l of votes elected none lost =
     ∙ ap (λ (x : ℕ). let t : Stage = record { action = s.action; votes = s.votes; elected = s.elected; non_transferable = s.non_transferable; lost = x } in t) lost
 
 -- the first candidates that are marked as elected, and one more that is, or isn't
-pub elected-yes : (f : ℕ → Figure) (xs chosen more : List ℕ) (i mark : ℕ) → IsColumnSet xs → i < length xs → mark ≡ (f (slice_index xs i)).mark → is_elected_mark mark ≡ true →
+pub elected-yes : (f : ℕ → Figure) (xs chosen more : List ℕ) (i mark : ℕ) → IsCandidateSet xs → i < length xs → mark ≡ (f (slice_index xs i)).mark → is_elected_mark mark ≡ true →
     chosen ≡ elected_shown f (take i xs) →
-    (IsColumnSet (chosen ++ slice_index xs i ∷ []) → more ≡ chosen ++ slice_index xs i ∷ []) → more ≡ elected_shown f (take (i + 1) xs)
+    (IsCandidateSet (chosen ++ slice_index xs i ∷ []) → more ≡ chosen ++ slice_index xs i ∷ []) → more ≡ elected_shown f (take (i + 1) xs)
 elected-yes f xs chosen more i mark set within is passes so_far last =
     chosen-yes (λ c. is_elected_mark (f c).mark) xs chosen more i set within (ap is_elected_mark (sym is) ∙ passes) so_far last
 

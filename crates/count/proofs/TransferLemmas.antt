@@ -11,7 +11,7 @@ use Rattle.paper.specs.Standing.{from_first}
 use Rattle.count.specs.Law.Places.{Place, place, moved, passed_on, first_of, next_available, surplus_of}
 use Rattle.count.specs.Inside.Holdings.{total, total_of, total_passed, at_passed, new_value, passed_to, passes_on, kept_by}
 use Rattle.count.specs.Books.{AreRankings}
-use Rattle.count.specs.Inside.Keeping.{rest_at, at_place, HoldPapers, IsMovedBy}
+use Rattle.count.specs.Inside.BookInvariants.{rest_at, at_place, HoldPapers, IsMovedBy}
 use Rattle.count.specs.declared.parcel.Parcel.{Parcel}
 use Rattle.count.specs.declared.parcel.Holding.{Holding}
 use Rattle.count.specs.declared.parcel.TransferRule.{TransferRule}

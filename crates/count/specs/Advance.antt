@@ -10,8 +10,8 @@ use Rattle.count.specs.declared.stages.Due.{Due}
 use Rattle.count.specs.declared.stages.Due.TheVariants.{Act, Lot, Finished}
 use Rattle.count.specs.declared.book.AdvanceError.{AdvanceError}
 use Rattle.count.specs.declared.book.AdvanceError.TheVariants.{Finished as is_finished, LotNeeded, LotNotAmong}
-use Rattle.count.specs.declared.run.CountEnd.{CountEnd}
-use Rattle.count.specs.declared.run.CountEnd.TheVariants.{Finished as has_finished, LotNeeded as needs_lot, LotNotAmong as misses_lot}
+use Rattle.count.specs.declared.count_to_end.CountEnd.{CountEnd}
+use Rattle.count.specs.declared.count_to_end.CountEnd.TheVariants.{Finished as has_finished, LotNeeded as needs_lot, LotNotAmong as misses_lot}
 
 -- the reason why a book can't advance, by the lot passed and what is due
 abbrev pub refusal : Option ℕ → Due → Option AdvanceError

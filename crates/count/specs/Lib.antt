@@ -4,6 +4,6 @@ pub mod Actions
 pub mod Advance
 pub mod Bundles
 pub mod Books
-pub mod Kept
+pub mod StoredCounts
 pub mod Marks
 pub mod Inside

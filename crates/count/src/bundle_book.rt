@@ -59,7 +59,7 @@ pub fn bundles_count_alike()
 impl<'a> BundleBook<'a> {
     /// Returns a count without stages; `AllocError` if an allocation fails.
     ///
-    /// Requires more candidates than seats, 1 to `MAX_SEATS` seats, and preferences only for candidates; `is_bundled_contest` is the
+    /// Requires more candidates than seats, 1 to `MAX_SEATS` seats, and preferences only for candidates; `bundles_can_be_counted` is the
     /// test.
     pub fn new(
         alloc: Global,

@@ -63,7 +63,7 @@ fn is_contested(candidates: &Columns, seats: u8) -> bool
 /// Returns whether a count can be held: 1 to `MAX_SEATS` seats, more candidates than seats, at most `MAX_PAPERS` papers, and
 /// preferences only for candidates. The limits are the office's own; within them the "Quota" and all votes are exact.
 #[tactic(auto, using(crate::proofs::ContestLemmas::contests))]
-pub fn is_contest(candidates: &Columns, seats: u8, papers: &[Prefs]) -> bool
+pub fn can_be_counted(candidates: &Columns, seats: u8, papers: &[Prefs]) -> bool
     ensures { IsTrue result ↔ IsContest (contest_for candidates.now seats papers.now) }
 {
     if !is_contested(candidates, seats) || papers.len() > MAX_PAPERS as usize {
@@ -75,7 +75,7 @@ pub fn is_contest(candidates: &Columns, seats: u8, papers: &[Prefs]) -> bool
 
 /// The same for the papers of bundles, which are at most `MAX_PAPERS`: each list is checked once.
 #[tactic(auto, using(crate::proofs::ContestLemmas::contests))]
-pub fn is_bundled_contest(candidates: &Columns, seats: u8, bundles: &Bundles) -> bool
+pub fn bundles_can_be_counted(candidates: &Columns, seats: u8, bundles: &Bundles) -> bool
     ensures { IsTrue result ↔ IsContest (contest_for candidates.now seats (papers_of bundles.now)) }
 {
     if !is_contested(candidates, seats) {

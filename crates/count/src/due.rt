@@ -8,8 +8,8 @@ ghost use Rattle.count.specs.Advance.{refusal};
 ghost use Rattle.count.specs.Books.{contest_of};
 
 use crate::book::AdvanceError;
+use crate::count_to_end::lot_at;
 use crate::elected::{continuing, elected, vacancies, with_surplus};
-use crate::run::lot_at;
 use crate::stages::{Action, Due, Stage, TiedFor};
 use crate::terms::Terms;
 use crate::ties::{highest, lowest};

@@ -6,11 +6,11 @@ ghost use Rattle.votes.specs.Units.{max_units};
 ghost use Rattle.count.specs.Advance.{IsDue};
 ghost use Rattle.count.specs.Inside.Holdings.{total, passes_on as passes_on_of, kept_by, IsTransferRule};
 ghost use Rattle.count.specs.Books.{contest_of, AreRankings};
-ghost use Rattle.count.specs.Inside.Keeping.{IsMovedBy, IsBook};
+ghost use Rattle.count.specs.Inside.BookInvariants.{IsMovedBy, IsBook};
 
 use crate::elected::{newest_votes, standing};
 use crate::parcel::{Holding, TransferRule};
-use crate::sorting::{first_holdings, pass_on};
+use crate::sorting_papers::{first_holdings, pass_on};
 use crate::stages::{Action, Stage};
 use crate::terms::Terms;
 use paper::Prefs;

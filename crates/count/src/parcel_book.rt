@@ -3,10 +3,10 @@
 ghost use Rattle.std.specs.Prelude.{◌≡◌, [], IfOk};
 ghost use Rattle.count.specs.Law.Contest.{contest_for, IsContest};
 
-use crate::act::act;
 use crate::book::{AdvanceError, CountBook};
 use crate::due::{action_by, due, elected_with};
 use crate::parcel::Holding;
+use crate::parcel_act::act;
 use crate::stages::{Action, Due, Stage};
 use crate::terms::Terms;
 use paper::{Columns, Prefs};
@@ -28,7 +28,7 @@ pub struct ParcelBook<'a> {
 impl<'a> Model for ParcelBook<'a> {
     ghost use Rattle.std.specs.Prelude.{reverse};
     ghost use Rattle.count.specs.Books.{Book, contest_of};
-    ghost use Rattle.count.specs.Inside.Keeping.{IsBook};
+    ghost use Rattle.count.specs.Inside.BookInvariants.{IsBook};
 
     ghost Value = { Book };
 
@@ -41,7 +41,7 @@ impl<'a> ParcelBook<'a> {
     /// Returns a count without stages; `AllocError` if an allocation fails.
     ///
     /// Requires more candidates than seats, 1 to `MAX_SEATS` seats, preferences only for candidates, and at most `MAX_PAPERS` papers;
-    /// `is_contest` is the test.
+    /// `can_be_counted` is the test.
     pub fn new(
         alloc: Global,
         candidates: Columns,

@@ -8,7 +8,7 @@ ghost use Rattle.paper.specs.Standing.{is_continuing, from_first};
 ghost use Rattle.count.specs.Law.Count.{begun};
 ghost use Rattle.count.specs.Law.Contest.{newest_votes as newest_votes_of};
 ghost use Rattle.count.specs.Inside.Holdings.{IsTransferRule, OnlyColumns};
-ghost use Rattle.count.specs.Kept.{places_after};
+ghost use Rattle.count.specs.StoredCounts.{places_after};
 ghost use Rattle.count.specs.Inside.Placing.{contest_on, IsDueInBook, IsSound, nowhere, first_places, passed_at, passed_places as passed_places_of};
 
 use crate::bundles::Bundles;
@@ -16,7 +16,7 @@ use crate::elected::{newest_votes, standing};
 use crate::moving::surplus_rule;
 use crate::parcel::TransferRule;
 use crate::placed::Placed;
-use crate::sorting::{first_preference, value_by};
+use crate::sorting_papers::{first_preference, value_by};
 use crate::stages::{Action, Stage};
 use crate::terms::Terms;
 use paper::{MAX_CANDIDATES, Prefs, Standing, available_from};

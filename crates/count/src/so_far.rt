@@ -9,7 +9,7 @@ ghost use Rattle.count.specs.Law.Right.{IsRight, reordered};
 ghost use Rattle.count.specs.Law.Count.{with_next, stages_to, due_by as due_by_lots};
 
 use crate::book::CountBook;
-use crate::run::{lot_at, step};
+use crate::count_to_end::{lot_at, step};
 use crate::stages::Due;
 use std::alloc::{AllocError, Global};
 

@@ -16,8 +16,8 @@ mod source;
 
 use anyhow::{Result, bail};
 use count::{
-    BundleBook, Bundles, CountBook, Due, ParcelBook, Stage, count_to, is_bundled_contest,
-    is_contest,
+    BundleBook, Bundles, CountBook, Due, ParcelBook, Stage, bundles_can_be_counted, can_be_counted,
+    count_to,
 };
 use paper::{Columns, Prefs};
 use source::PaperSource;
@@ -104,14 +104,14 @@ fn main(rt: HostRuntime) -> Result<()> {
     let candidates = candidates();
     if words.get(1).is_some_and(|word| word.as_str() == "bundles") {
         let bundles = bundled(rt.alloc(), &mut source, count)?;
-        if !is_bundled_contest(&candidates, SEATS, &bundles) {
+        if !bundles_can_be_counted(&candidates, SEATS, &bundles) {
             bail!("no contest");
         }
         let mut book = BundleBook::new(rt.alloc(), candidates, SEATS, &bundles)?;
         return count_in(&rt, &mut book, stages);
     }
     let papers = listed(rt.alloc(), &mut source, count)?;
-    if !is_contest(&candidates, SEATS, &papers) {
+    if !can_be_counted(&candidates, SEATS, &papers) {
         bail!("too many papers");
     }
     let mut book = ParcelBook::new(rt.alloc(), candidates, SEATS, &papers)?;

@@ -4,3 +4,4 @@ pub mod Screens
 pub mod Hosts
 pub mod NewCodes
 pub mod Serving
+pub mod CopyPaths

@@ -29,7 +29,7 @@ use Rattle.desk.specs.declared.lines.Failure.{Failure}
 use Rattle.desk.specs.declared.lines.Failure.TheVariants.{Office, Output}
 use Rattle.server.specs.Servers.{IsEndedBy, ServesConnections}
 use Rattle.server.specs.Settings.{ServerSettingsEntry}
-use Rattle.server.specs.Exchanges.{IsKeptOf}
+use Rattle.server.specs.Exchanges.{IsStoredCountOf}
 use Rattle.server.specs.declared.serve_error.ServeError.{ServeError}
 use Rattle.server.specs.declared.serve_error.ServeError.TheVariants as ended
 use Rattle.server.specs.declared.server_settings.FileNumbers.{FileNumbers}
@@ -173,7 +173,7 @@ pub record IsServed {L S : Type 0} (Tells : List ℕ → ℕ → ℕ → Type 0)
   pub at_network : ServesAtNetwork settings stream state_of (before port) (later port) most office (record { held = new; closed = closed }) ends
   pub elsewhere : IsElsewhereSame port before later
   pub keeps : HasCleanDisk (state_of new) → (db : Database) → RestsAt db (state_of old) → (earlier : List Request) → IsLeftAt (after empty_office earlier) db
-      → IsKeptOf state_of settings earlier at_network.serves.exchanges closed (state_of new)
+      → IsStoredCountOf state_of settings earlier at_network.serves.exchanges closed (state_of new)
 
 -- The outcome of the order to serve: the codes couldn't be read, or the office or its network couldn't be opened; or the office was served.
 abbrev pub ServesOrder : {L S : Type 0} → (List ℕ → ℕ → ℕ → Type 0) → Type 0 → ℕ → Serving → CodeFiles → Option FileNumbers → Stream L → (Held S → State)

@@ -15,7 +15,7 @@ use std::alloc::Global;
 use std::fs::{self, File, OpenOptions};
 use std::io::{self, Read, Write};
 use std::os::unix::fs::{MetadataExt, OpenOptionsExt};
-use std::random::RandomSource;
+use std::random::RandomSource as _;
 use store::Fault;
 use streams::Sink;
 

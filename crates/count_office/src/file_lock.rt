@@ -82,9 +82,9 @@ impl FileLock {
 
     /// Removes the file from the path where it was made, if it can now be locked and is empty.
     fn remove_empty(&self, rt: &HostRuntime, path: &str) {
-        let is_empty = self.lock().is_ok()
+        let is_locked_and_empty = self.lock().is_ok()
             && self.file.metadata().is_ok_and(|found| found.len() == 0);
-        if is_empty {
+        if is_locked_and_empty {
             let _ = fs::remove_file(rt, path);
         }
     }

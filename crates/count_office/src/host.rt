@@ -28,7 +28,7 @@ pub trait Host {
 
     type Side: SideJobs;
 
-    /// What is known of its network on each port, before it is opened and after it is closed.
+    /// The network on each port, as far as it is known before it is opened and after it is closed.
     ghost known: { Self → ℕ → NetworkEntry Self.Sockets.Stream };
 
     /// The codes in the file at each path, as far as they are known.

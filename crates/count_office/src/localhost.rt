@@ -122,8 +122,8 @@ impl<'a> Localhost<'a> {
         }
     }
 
-    /// Makes the socket next to the database. If that fails, a line on the error output says so, and no orders can be sent to the
-    /// server.
+    /// Creates the order socket next to the database. If that fails, prints a line to the error output; no order can then be sent
+    /// to the server.
     fn listen_beside(&mut self) -> Option<UnixListener> {
         let rt = self.place.rt;
         match OrderSocket::listen(rt, self.place.found.database()) {

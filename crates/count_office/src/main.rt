@@ -3,6 +3,11 @@
 //! The crate `desk` parses the words and performs the order. This crate supplies the file that DB names, the one that the order names,
 //! those that a script names, and the two standard outputs.
 //!
+//! `main` opens the outputs, [`run`] reads the words, and [`follow`] parses them to an order. `perform_at` of `order_run.rt` attempts
+//! the order, again and again while another program has locked the file. `attempt` checks what is at the path, and `attempt_at` locks
+//! the file, or sends the order to the program that serves it. Under the lock `perform_held` and `perform_in` open the database, and
+//! [`perform_on`] performs the order there.
+//!
 //! ```text
 //! count-office town.db init
 //! count-office town.db ward 7 2 Harbour --id w1
@@ -25,23 +30,29 @@ ghost use Rattle.count_office.specs.Serving.{ServesOrder};
 ghost use Rattle.sqlite_wal.specs.Reads.{AreClean};
 ghost use Rattle.sqlite.specs.Closing.{IsCopied};
 
+// the words of an order, and the files that it names
 mod codes_file;
-mod copies;
+mod order_files;
+// the path of a database, what is there, and its lock
 mod file_lock;
-mod file_watch;
+mod notices;
+mod order_run;
+mod path_state;
+// an order that is sent to the program that serves the database
+mod order_client;
+mod order_socket;
+// the order to serve: on any host, and on this machine
 mod gate;
 mod host;
 mod localhost;
-mod new_file;
-mod notices;
-mod order_client;
-mod order_files;
-mod order_run;
-mod order_socket;
-mod path_state;
-mod screen;
 mod serving;
+// what else is done while the office is served: copies, the journal, and a look at its files
+mod copies;
+mod file_watch;
+mod new_file;
 mod side_jobs;
+// the two outputs
+mod screen;
 
 use codes_file::{NewCodes, make_codes_file};
 use copies::copy;

@@ -109,7 +109,7 @@ fn frame_in(stream: &mut UnixStream) -> io::Result<FrameHead> {
 
 /// Why nothing more is printed.
 #[derive(Clone, Copy)]
-enum Cut {
+enum WhyReplyEnded {
     /// The server closed the connection, or sent something invalid.
     Server,
     /// The output fails.
@@ -140,16 +140,16 @@ fn whole_lines(bytes: &[u8]) -> usize
 
 /// Appends bytes to a line that isn't complete yet, prints the lines that are now complete, and keeps the rest. So a reply that breaks
 /// off prints no partial line.
-fn print_lines<O: Sink>(line: &mut Vec<u8>, bytes: &[u8], out: &mut O) -> Result<(), Cut>
+fn print_lines<O: Sink>(line: &mut Vec<u8>, bytes: &[u8], out: &mut O) -> Result<(), WhyReplyEnded>
     requires { O.failed out.old < 2 ^ 64 - 1 }
-    ensures { result ≢ Err Cut.Output → O.failed out.new ≡ O.failed out.old }
+    ensures { result ≢ Err WhyReplyEnded.Output → O.failed out.new ≡ O.failed out.old }
 {
     if line.extend_from_slice(bytes).is_err() {
-        return Err(Cut::Memory);
+        return Err(WhyReplyEnded::Memory);
     }
     let whole = whole_lines(line.as_slice());
     if put_all(out, &line[..whole]).is_err() {
-        return Err(Cut::Output);
+        return Err(WhyReplyEnded::Output);
     }
     let rest = line.len() - whole;
     line.rotate_left(whole);
@@ -163,16 +163,16 @@ fn print_said<O: Sink>(
     len: u32,
     line: &mut Vec<u8>,
     out: &mut O,
-) -> Result<(), Cut>
+) -> Result<(), WhyReplyEnded>
     requires { O.failed out.old < 2 ^ 64 - 1 }
-    ensures { result ≢ Err Cut.Output → O.failed out.new ≡ O.failed out.old }
+    ensures { result ≢ Err WhyReplyEnded.Output → O.failed out.new ≡ O.failed out.old }
 {
     let mut left = len as usize;
     let mut room = [0; CHUNK];
     while left > 0 {
         let wanted = left.min(CHUNK);
         match stream.read(&mut room[..wanted]) {
-            Ok(0) | Err(_) => return Err(Cut::Server),
+            Ok(0) | Err(_) => return Err(WhyReplyEnded::Server),
             Ok(count) => {
                 print_lines(line, &room[..count], out)?;
                 left -= count;
@@ -188,16 +188,16 @@ fn print_error<E: Sink>(
     len: u32,
     line: &mut Vec<u8>,
     err: &mut E,
-) -> Result<bool, Cut>
+) -> Result<bool, WhyReplyEnded>
     requires { E.failed err.old < 2 ^ 64 - 1 }
     ensures unfailed { result ≡ Ok true → E.failed err.new ≡ E.failed err.old }
     ensures err { OnErr result (E.failed err.new ≡ E.failed err.old) }
 {
     match print_said(stream, len, line, err) {
         Ok(()) => Ok(true),
-        Err(Cut::Output) => Ok(false),
-        Err(Cut::Server) => Err(Cut::Server),
-        Err(Cut::Memory) => Err(Cut::Memory),
+        Err(WhyReplyEnded::Output) => Ok(false),
+        Err(WhyReplyEnded::Server) => Err(WhyReplyEnded::Server),
+        Err(WhyReplyEnded::Memory) => Err(WhyReplyEnded::Memory),
     }
 }
 
@@ -209,17 +209,17 @@ fn print_over<O: Sink, E: Sink>(
     unfinished: &mut Unfinished,
     out: &mut O,
     err: &mut E,
-) -> Result<u8, Cut>
+) -> Result<u8, WhyReplyEnded>
     requires out { O.failed out.old < 2 ^ 64 - 1 }
     requires err { E.failed err.old < 2 ^ 64 - 1 }
     ensures { OnErr result (E.failed err.new ≡ E.failed err.old) }
 {
     let mut status = [0];
     if stream.read_exact(&mut status).is_err() {
-        return Err(Cut::Server);
+        return Err(WhyReplyEnded::Server);
     }
     if put_all(out, unfinished.out.as_slice()).is_err() {
-        return Err(Cut::Output);
+        return Err(WhyReplyEnded::Output);
     }
     if !print_error(stream, len.saturating_sub(1), &mut unfinished.err, err)? {
         return Ok(3);
@@ -237,7 +237,7 @@ fn print_frames<O: Sink, E: Sink>(
     first: FrameHead,
     out: &mut O,
     err: &mut E,
-) -> Result<u8, Cut>
+) -> Result<u8, WhyReplyEnded>
     requires out { O.failed out.old < 2 ^ 64 - 1 }
     requires err { E.failed err.old < 2 ^ 64 - 1 }
     ensures { OnErr result (E.failed err.new ≡ E.failed err.old) }
@@ -259,10 +259,10 @@ fn print_frames<O: Sink, E: Sink>(
         }
         frame = match frame_in(stream) {
             Ok(next) => next,
-            Err(_) => return Err(Cut::Server),
+            Err(_) => return Err(WhyReplyEnded::Server),
         };
     }
-    Err(Cut::Server)
+    Err(WhyReplyEnded::Server)
 }
 
 /// Sends a message, preceded by its length.
@@ -328,8 +328,8 @@ pub fn print_reply<O: Sink, E: Sink>(
     let FrameReader { mut stream, first } = reply;
     match print_frames(alloc, &mut stream, first, out, err) {
         Ok(status) => status,
-        Err(Cut::Memory) => tell_failure(Failure::Office(Fault::Memory), err),
-        Err(Cut::Server) => tell_failure(Failure::Office(Fault::Store), err),
-        Err(Cut::Output) => tell_failure(Failure::Output, err),
+        Err(WhyReplyEnded::Memory) => tell_failure(Failure::Office(Fault::Memory), err),
+        Err(WhyReplyEnded::Server) => tell_failure(Failure::Office(Fault::Store), err),
+        Err(WhyReplyEnded::Output) => tell_failure(Failure::Output, err),
     }
 }

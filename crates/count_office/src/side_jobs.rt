@@ -1,7 +1,9 @@
 //! What an order for a served office needs of this machine in addition to the office: the file of a copy, and memory for replaying a
 //! journal.
 
-ghost use Rattle.std.specs.Prelude.{◌-◌, ◌<◌, None};
+ghost use Rattle.std.specs.Prelude.{◌≡◌, ◌-◌, ◌<◌, IfOk, None};
+ghost use Rattle.std.specs.Path.{path_buf_bytes, path_bytes};
+ghost use Rattle.count_office.specs.CopyPaths.{copy_path, folder_of};
 
 use crate::copies::copy_served;
 use crate::file_watch::FileWatch;
@@ -10,6 +12,7 @@ use office::Office;
 use server::{Destination, SideJobs};
 use sqlite::{Alter, Connection};
 use std::alloc::{AllocError, Global};
+use std::path::{Path, PathBuf};
 use store::Fault;
 use streams::Sink;
 
@@ -20,28 +23,23 @@ pub struct LocalJobs<'a> {
     pub file_watch: FileWatch<'a>,
 }
 
-/// Returns a path as it is seen from a directory.
-fn path_from(alloc: Global, folder: &str, path: &str) -> Result<String, AllocError> {
-    if path.starts_with('/') {
-        return String::from_str(alloc, path);
-    }
-    format!(in alloc; "{folder}/{path}")
-}
-
-/// Returns a path as it is seen from the folder of a file.
-fn path_next_to(alloc: Global, file: &str, path: &str) -> Result<String, AllocError> {
-    match file.rsplit_once('/') {
-        Some((folder, _)) => path_from(alloc, folder, path),
-        None => String::from_str(alloc, path),
-    }
+/// Returns the folder of a file.
+fn folder_of(file: &str) -> Path<'_>
+    ensures { path_bytes result ≡ folder_of file.now }
+{
+    Path::new(file).parent().unwrap_or(Path::new(""))
 }
 
 /// Returns the path of a copy. A copy that the console orders is made next to the database: its folder is empty.
-fn path_of_copy(alloc: Global, database: &str, to: Destination<'_>) -> Result<String, AllocError> {
-    if to.folder.is_empty() {
-        return path_next_to(alloc, database, to.path);
-    }
-    path_from(alloc, to.folder, to.path)
+fn path_of_copy(alloc: Global, database: &str, to: Destination<'_>) -> Result<PathBuf, AllocError>
+    ensures { IfOk result (λ path. path_buf_bytes path ≡ copy_path database.now to.entry.folder.now to.entry.path.now) }
+{
+    let folder = if to.folder.is_empty() {
+        folder_of(database)
+    } else {
+        Path::new(to.folder)
+    };
+    folder.join(alloc, to.path)
 }
 
 impl SideJobs for LocalJobs<'_> {

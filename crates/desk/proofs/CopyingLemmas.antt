@@ -9,7 +9,7 @@ use Rattle.store.specs.Copies.{IsToldInCopying, IsUnbegun, StopsInCopying}
 use Rattle.store.specs.declared.copying.CopyFault.{CopyFault}
 use Rattle.store.specs.declared.copying.CopyFault.TheVariants.{Office, Taken, Copy}
 use Rattle.tables.specs.Reading.{OnlyReads}
-use Rattle.store.specs.Offices.{IsAt, StoresState}
+use Rattle.store.specs.StateTables.{IsAt, StoresState}
 use Rattle.store.specs.Openings.{HoldsNoState, IsBlank}
 use Rattle.desk.specs.Copying.{EndsCopying, HoldsCopy, IsNoneCopied, state_behind}
 use Rattle.desk.specs.declared.copying.CopyState.{CopyState}

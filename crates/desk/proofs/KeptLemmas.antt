@@ -10,13 +10,13 @@ use Rattle.register.specs.Offices.{OfficeState, empty_office}
 use Rattle.register.specs.Machine.{after, after_one}
 use Rattle.register.specs.declared.command.Request.{Request}
 use Rattle.tables.specs.Contents.{Contents, IsOffice, RestsAt, Stores}
-use Rattle.tables.specs.Presence.{has_some_table, has_every_table, form_of, IsOlderSchema}
-use Rattle.tables.specs.declared.presence.Form.TheVariants.{Whole, WithoutThird, WithoutCounts}
+use Rattle.tables.specs.Presence.{has_some_table, has_every_table, tables_present, IsOlderSchema}
+use Rattle.tables.specs.declared.presence.TablesPresent.TheVariants.{Whole, WithoutThird, WithoutCounts}
 use Rattle.tables.specs.Reading.{OnlyReads}
 use Rattle.tables.specs.Schema.{IsOfficeSchema, no_schema}
 use Rattle.tables.specs.declared.fault.Fault.{Fault}
 use Rattle.tables.specs.declared.fault.Fault.TheVariants.{Memory, Store, Damaged, Closed, WrongDatabase, NewerSchema, OlderSchema}
-use Rattle.store.specs.Offices.{LeavesState, tables_of}
+use Rattle.store.specs.StateTables.{LeavesState, tables_of}
 use Rattle.store.specs.Openings.{IsBlank, IsLeftAt}
 use Rattle.store.specs.Migrations.{IsToldInMigration}
 use Rattle.store.proofs.ReopenLemmas.{left_holds, left_told}
@@ -63,10 +63,10 @@ all_there : (s : Schema) → IsOfficeSchema s → has_every_table s ≡ true
 unfolding same_name
 all_there s h = subst (λ (x : Schema). has_every_table x ≡ true) (sym h.is) refl
 
-whole_form : (s : Schema) → has_every_table s ≡ true → form_of s ≡ Whole
+whole_form : (s : Schema) → has_every_table s ≡ true → tables_present s ≡ Whole
 whole_form s every = rw every refl
 
-whole_only : (s : Schema) → form_of s ≡ Whole → IsOlderSchema s
+whole_only : (s : Schema) → tables_present s ≡ Whole → IsOlderSchema s
 whole_only s whole = record {
   without_third = λ is. let bad : Whole ≡ WithoutThird = sym whole ∙ is in absurd (cc bad);
   without_counts = λ is. let bad : Whole ≡ WithoutCounts = sym whole ∙ is in absurd (cc bad);

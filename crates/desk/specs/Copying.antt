@@ -16,7 +16,7 @@ use Rattle.store.specs.Copies.{LeavesNoneOrAll, holdings_of}
 use Rattle.store.specs.declared.copying.Holdings.{Holdings}
 use Rattle.store.specs.declared.copying.CopyFault.{CopyFault}
 use Rattle.store.specs.declared.copying.CopyFault.TheVariants as uncopied
-use Rattle.store.specs.Offices.{IsAt, LeavesState, StoresState}
+use Rattle.store.specs.StateTables.{IsAt, LeavesState, StoresState}
 use Rattle.store.specs.Openings.{HoldsNoState, IsBlank, IsLeftAt, IsToldBy}
 use Rattle.desk.specs.declared.copying.CopyState.{CopyState}
 use Rattle.desk.specs.declared.copying.CopyState.TheVariants.{Whole, Untouched, Unknown}

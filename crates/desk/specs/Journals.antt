@@ -9,7 +9,7 @@ use Rattle.register.specs.declared.command.Request.{Request}
 use Rattle.tables.specs.Contents.{RestsAt}
 use Rattle.tables.specs.Presence.{IsOurs}
 use Rattle.tables.specs.Reading.{FailsToList, OnlyReads}
-use Rattle.store.specs.Offices.{LeavesState}
+use Rattle.store.specs.StateTables.{LeavesState}
 use Rattle.store.specs.Openings.{HoldsNoState, IsBlank, IsLeftAt, IsToldBy}
 use Rattle.office.specs.Answers.{IsMemoryOrStore}
 use Rattle.office.specs.Runs.{LeadTo}

@@ -12,7 +12,7 @@ use Rattle.store.specs.Overviews.{BatchView, DifferencesView, DoubtfulPapersView
 use Rattle.store.specs.declared.overviews.batches.BatchStanding.{BatchStanding}
 use Rattle.store.specs.declared.overviews.batches.BatchStanding.TheVariants.{Taken, Differing, Waiting}
 use Rattle.office.specs.Overviews.{batches_told, differences_told, doubtful_told, papers_told, receipts_told, wards_told}
-use Rattle.desk.specs.Names.{name_in, names_of}
+use Rattle.desk.specs.CandidateNames.{name_in, names_of}
 use Rattle.desk.specs.Pages.{Page, line, page_found, printed, replied}
 use Rattle.desk.specs.WardStatus.{phase_word}
 use Rattle.desk.specs.declared.orders.Question.{Question}

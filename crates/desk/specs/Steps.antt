@@ -10,9 +10,9 @@ use Rattle.count.specs.declared.stages.TiedFor.TheVariants.{Surplus as for_surpl
 use Rattle.count.specs.declared.stages.Due.{Due}
 use Rattle.count.specs.declared.stages.Due.TheVariants.{Act, Lot, Finished}
 use Rattle.register.specs.Offices.{CandidateEntry}
-use Rattle.register.specs.Standings.{StatusEntry}
-use Rattle.desk.specs.Names.{candidate_in}
-use Rattle.register.specs.Steps.{StepEntry, nominations_end, papers_stand, count_goes, nothing_comes}
+use Rattle.register.specs.Status.{StatusEntry}
+use Rattle.desk.specs.CandidateNames.{candidate_in}
+use Rattle.register.specs.NextSteps.{NextStepEntry, nominations_end, papers_stand, count_goes, nothing_comes}
 
 -- ---- candidates
 
@@ -74,12 +74,12 @@ unfoldable pub papers_words : StatusEntry → Text
 papers_words s = taken_words s ++ (codes ", " ++ (decimal s.doubtful_open ++ (codes " doubtful open, " ++ seal_words s)))
 
 -- what comes next, by the phase of the ward
-unfoldable pub step_words : StepEntry → Text
+unfoldable pub step_words : NextStepEntry → Text
 step_words (nominations_end candidates seats) = nominations_words candidates seats
 step_words (papers_stand s) = papers_words s
 step_words (count_goes stage due candidates) = due_words stage candidates due
 step_words nothing_comes = codes "declared, nothing is left to do"
 
 -- the line on a ward's next step
-unfoldable pub step_text : ℕ → StepEntry → Text
+unfoldable pub step_text : ℕ → NextStepEntry → Text
 step_text ward step = codes "ward " ++ (decimal ward ++ (codes ": " ++ step_words step))

@@ -2,7 +2,7 @@
 use Rattle.std.specs.Prelude.{◌++◌, codes}
 use Rattle.std.specs.Fmt.{decimal}
 use Rattle.clap.specs.Words.{Text}
-use Rattle.register.specs.Standings.{StatusEntry}
+use Rattle.register.specs.Status.{StatusEntry}
 use Rattle.register.specs.declared.phase.Phase.{Phase}
 use Rattle.register.specs.declared.phase.Phase.TheVariants.{Nominations, Keying, Sealed, Declared}
 

@@ -5,7 +5,7 @@ ghost use Rattle.sqlite.specs.State.{HasCleanDisk};
 ghost use Rattle.sqlite.specs.Held.{state};
 ghost use Rattle.tables.specs.Reading.{OnlyReads};
 ghost use Rattle.register.specs.Offices.{OfficeState};
-ghost use Rattle.store.specs.Offices.{IsAt, Wears};
+ghost use Rattle.store.specs.StateTables.{IsAt, KeepsConnection};
 ghost use Rattle.store.specs.Openings.{IsBlank};
 ghost use Rattle.office.specs.Answers.{IsReadAt, WhenOpenAt};
 ghost use Rattle.desk.specs.Copying.{HoldsCopy, IsCopied, IsCopiedOpen, copied_text, state_behind};
@@ -62,7 +62,7 @@ fn copied<S: Alter, T: Alter>(
     ensures copied { HasCleanDisk (state S.Store conn.new) → IsCopied (page_of result.0) result.1 (state S.Store conn.old) (state S.Store conn.new) (state T.Store copy.old) (state T.Store copy.new) }
     ensures untouched { result.1 ≡ CopyState.Untouched → copy.new ≡ copy.old }
     ensures reads { OnlyReads (state S.Store conn.old) (state S.Store conn.new) }
-    ensures wears { Wears (state T.Store copy.old) (state T.Store copy.new) }
+    ensures keeps_connection { KeepsConnection (state T.Store copy.old) (state T.Store copy.new) }
     ensures clean { HasCleanDisk (state T.Store copy.new) → HasCleanDisk (state T.Store copy.old) }
 {
     match Office::copy(alloc, conn, copy) {
@@ -87,7 +87,7 @@ fn copied_open<S: Alter, T: Alter>(
     ensures untouched { result.1 ≡ CopyState.Untouched → copy.new ≡ copy.old }
     ensures reads { OnlyReads (state S.Store office.old.held) (state S.Store office.new.held) }
     ensures closed { office.old.closed ≡ true → (page_of result.0 ≡ closed_page) × (office.new ≡ office.old) }
-    ensures wears { Wears (state T.Store copy.old) (state T.Store copy.new) }
+    ensures keeps_connection { KeepsConnection (state T.Store copy.old) (state T.Store copy.new) }
     ensures clean { HasCleanDisk (state T.Store copy.new) → HasCleanDisk (state T.Store copy.old) }
 {
     match office.copy_open(copy) {
@@ -124,7 +124,7 @@ pub fn copy_open<S: Alter, T: Alter, O: Sink, E: Sink>(
     ensures untouched { result.1 ≡ CopyState.Untouched → copy.new ≡ copy.old }
     ensures reads { OnlyReads (state S.Store office.old.held) (state S.Store office.new.held) }
     ensures closed { office.old.closed ≡ true → office.new ≡ office.old }
-    ensures wears { Wears (state T.Store copy.old) (state T.Store copy.new) }
+    ensures keeps_connection { KeepsConnection (state T.Store copy.old) (state T.Store copy.new) }
     ensures clean { HasCleanDisk (state T.Store copy.new) → HasCleanDisk (state T.Store copy.old) }
 {
     let (outcome, state) = copied_open(alloc, office, copy);
@@ -157,7 +157,7 @@ pub fn copy_office<S: Alter, T: Alter, O: Sink, E: Sink>(
         × (HasCleanDisk (state T.Store copy.new) → IsBlank (state T.Store copy.old) → (s : OfficeState) × IsAt s (state T.Store copy.new)) }
     ensures untouched { result.1 ≡ CopyState.Untouched → copy.new ≡ copy.old }
     ensures reads { OnlyReads (state S.Store conn.old) (state S.Store conn.new) }
-    ensures wears { Wears (state T.Store copy.old) (state T.Store copy.new) }
+    ensures keeps_connection { KeepsConnection (state T.Store copy.old) (state T.Store copy.new) }
     ensures clean { HasCleanDisk (state T.Store copy.new) → HasCleanDisk (state T.Store copy.old) }
 {
     let (outcome, state) = copied(alloc, conn, copy);

@@ -4,7 +4,7 @@ ghost use Rattle.std.specs.Prelude.{◌≡◌, ◌-◌, ◌^◌, ◌<◌, ℕ, B
 ghost use Rattle.sqlite.specs.State.{HasCleanDisk};
 ghost use Rattle.sqlite.specs.Held.{state};
 ghost use Rattle.clap.specs.Words.{Text};
-ghost use Rattle.store.specs.Offices.{Wears};
+ghost use Rattle.store.specs.StateTables.{KeepsConnection};
 ghost use Rattle.office.specs.Answers.{WhenOpenAt};
 ghost use Rattle.desk.specs.Orders.{sent_as};
 ghost use Rattle.desk.specs.Pages.{Tells, outputs_of, page_at_rest, page_of};
@@ -39,7 +39,7 @@ fn stage_of<S: Alter>(
 ) -> (LineOutcome, bool)
     ensures told { WhenOpenAt (state S.Store) office.old office.new
         (λ s. IsStage (state S.Store office.old.held) office.new.closed (state S.Store office.new.held) is_first s request.now (page_of result.0) result.1) }
-    ensures wears { Wears (state S.Store office.old.held) (state S.Store office.new.held) }
+    ensures keeps_connection { KeepsConnection (state S.Store office.old.held) (state S.Store office.new.held) }
     ensures clean { HasCleanDisk (state S.Store office.new.held) → HasCleanDisk (state S.Store office.old.held) }
 {
     match office.handle(request.actor, request.id.as_str(), &request.command) {
@@ -76,7 +76,7 @@ pub(crate) fn count_stages<S: Alter, O: Sink, E: Sink>(
     ensures counted { let outputs = outputs_of O.taken O.failed E.taken E.failed in Tells (outputs out.old err.old) (outputs out.new err.new) result
         (λ cut page. WhenOpenAt (state S.Store) office.old office.new (λ s. (keep : Bool) (ward : ℕ) (id : Text) → map sent_as requests.now ≡ advances ward id most_advances
         → ComesTo cut page (IsCounted (state S.Store office.old.held) office.new.closed (state S.Store office.new.held) keep line s ward id))) }
-    ensures wears { Wears (state S.Store office.old.held) (state S.Store office.new.held) }
+    ensures keeps_connection { KeepsConnection (state S.Store office.old.held) (state S.Store office.new.held) }
     ensures clean { HasCleanDisk (state S.Store office.new.held) → HasCleanDisk (state S.Store office.old.held) }
 {
     let first = first_id(requests);

@@ -6,7 +6,7 @@
 //!
 //! No contract describes the text. The caller that prints it first reads it back, and checks what it makes of an empty office.
 
-ghost use Rattle.register.specs.Offices.{MapsRise};
+ghost use Rattle.register.specs.Offices.{MapsAreSorted};
 ghost use Rattle.rowcheck.specs.States.{state_of};
 
 mod counts;
@@ -33,7 +33,7 @@ fn put_all_nominations(
     text: &mut String,
     kept: &KeptReceipts<'_>,
 ) -> Result<(), AllocError>
-    requires { MapsRise (state_of kept.now.rows.now) }
+    requires { MapsAreSorted (state_of kept.now.rows.now) }
 {
     for ward in &kept.rows.wards {
         put_nominations(alloc, text, kept, ward)?;
@@ -47,7 +47,7 @@ fn put_all_batches(
     text: &mut String,
     kept: &KeptReceipts<'_>,
 ) -> Result<(), AllocError>
-    requires { MapsRise (state_of kept.now.rows.now) }
+    requires { MapsAreSorted (state_of kept.now.rows.now) }
 {
     for batch in &kept.rows.batches {
         put_batch(alloc, text, kept, batch)?;
@@ -61,7 +61,7 @@ fn put_all_counts(
     text: &mut String,
     kept: &KeptReceipts<'_>,
 ) -> Result<(), AllocError>
-    requires { MapsRise (state_of kept.now.rows.now) }
+    requires { MapsAreSorted (state_of kept.now.rows.now) }
 {
     for ward in &kept.rows.wards {
         put_count(alloc, text, kept, ward)?;
@@ -77,7 +77,7 @@ fn put_end(alloc: Global, text: &mut String, orders: usize) -> Result<(), AllocE
 
 /// Returns the text of the journal of the office of these rows.
 pub(crate) fn journal_text(alloc: Global, rows: &Rows) -> Result<String, AllocError>
-    requires { MapsRise (state_of rows.now) }
+    requires { MapsAreSorted (state_of rows.now) }
 {
     let places = places_of(alloc, &rows.receipts)?;
     let kept = KeptReceipts {

@@ -5,7 +5,7 @@ ghost use Rattle.std.specs.Prelude.{◌≡◌, ◌-◌, ◌^◌, ◌<◌, true, 
 ghost use Rattle.sqlite.specs.State.{HasCleanDisk};
 ghost use Rattle.sqlite.specs.Held.{state};
 ghost use Rattle.tables.specs.Reading.{OnlyReads};
-ghost use Rattle.register.specs.Offices.{MapsRise};
+ghost use Rattle.register.specs.Offices.{MapsAreSorted};
 ghost use Rattle.rowcheck.specs.States.{state_of};
 ghost use Rattle.store.specs.Openings.{IsBlank};
 ghost use Rattle.office.specs.Answers.{IsReadAt, WhenOpenAt};
@@ -64,7 +64,7 @@ fn requests_in(alloc: Global, text: &str) -> Result<Option<Vec<Request>>, AllocE
 
 /// Returns the text of the journal of the office of these rows, and its requests as they are read back.
 fn draft_of(alloc: Global, rows: &Rows) -> Result<Draft, AllocError>
-    requires { MapsRise (state_of rows.now) }
+    requires { MapsAreSorted (state_of rows.now) }
     ensures { IfOk result (λ draft. IfSome draft.requests (λ requests. IsScriptOf (string_bytes draft.text) requests.items)) }
 {
     let text = journal_text(alloc, rows)?;
@@ -79,7 +79,7 @@ fn journal_of<T: Alter>(
     rows: &Rows,
     blank: Connection<T>,
 ) -> (LineOutcome, Connection<T>)
-    requires { MapsRise (state_of rows.now) }
+    requires { MapsAreSorted (state_of rows.now) }
     ensures { HasCleanDisk (state T.Store result.1) → IsBlank (state T.Store blank) → IsJournalTold (state_of rows.now) (page_of result.0) }
 {
     let Draft { text, requests } = match draft_of(alloc, rows) {

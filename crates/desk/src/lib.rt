@@ -5,7 +5,7 @@
 //! its script names. [`lines`](lines) prints what is wrong with words that aren't an order, and other failures.
 //! [`copy_office`](copying) performs an order to copy, and [`journal_office`](journal_check) one for the journal, each on two
 //! connections; the crate `server` performs one to serve. In an office that is open already, such as a served one,
-//! [`follow`](replaying) does a job, and `copy_open` and `journal_open` copy it and print its journal.
+//! [`follow`](order_running) does a job, and `copy_open` and `journal_open` copy it and print its journal.
 //! [`files_named_in`](script_files) returns which files a script names, for a client that sends it. The program decides which files,
 //! outputs and sockets these are.
 //!
@@ -33,20 +33,20 @@ mod scripts;
 // From an order to requests,
 mod requests;
 // and from those to lines and a status.
+mod candidate_names;
 pub mod copying;
 mod counting;
 mod import;
 mod journal;
 pub mod journal_check;
 pub mod lines;
-mod names;
+pub mod order_running;
 mod overviews;
 mod papers;
 pub mod perform;
 pub mod plain;
 mod printing;
 pub mod progress;
-pub mod replaying;
 mod sending;
 mod steps;
 mod ward_status;
@@ -58,8 +58,8 @@ pub use lines::{
     Failure, tell_codes_and_office_made, tell_codes_fault, tell_codes_made, tell_failure,
     tell_words,
 };
+pub use order_running::follow;
 pub use orders::{Errand, Job, KeyingFile, Order, Question, Task};
 pub use progress::ProgressSink;
-pub use replaying::follow;
 pub use script_files::files_named_in;
 pub use words::{WordsFault, order};

@@ -3,11 +3,11 @@
 ghost use Rattle.std.specs.Prelude.{◌≡◌, ◌++◌, map, option_map, IfOk, string_bytes};
 ghost use Rattle.register.specs.Offices.{judged_entry};
 ghost use Rattle.store.specs.Overviews.{doubtful_papers_view, doubtful_view, paper_view, papers_view};
-ghost use Rattle.desk.specs.Names.{names_told};
+ghost use Rattle.desk.specs.CandidateNames.{names_told};
 ghost use Rattle.desk.specs.Overviews.{doubtful_line, doubtful_lines, judgement_words, lines_of, paper_line, paper_lines, parting, preference_words, preferences_from, rejection_words, verdict_words};
 ghost use Rattle.desk.specs.Pages.{line};
 
-use crate::names::NamesByNumber;
+use crate::candidate_names::NamesByNumber;
 use register::{JudgedPaper, Judgement};
 use std::alloc::{AllocError, Global};
 use store::{CountedPaper, CountedPapers, DoubtfulPaper, DoubtfulPapers};

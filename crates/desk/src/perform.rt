@@ -9,8 +9,8 @@ ghost use Rattle.desk.specs.Pages.{Tells, outputs_of};
 
 use crate::folders::Folder;
 use crate::lines::{LineOutcome, tell};
+use crate::order_running::follow;
 use crate::orders::{Job, Task};
-use crate::replaying::follow;
 use office::Office;
 use sqlite::{Alter, Connection};
 use std::alloc::Global;

@@ -5,7 +5,7 @@ ghost use Rattle.sqlite.specs.State.{HasCleanDisk};
 ghost use Rattle.sqlite.specs.Held.{state};
 ghost use Rattle.register.specs.Repeats.{is_kept_otherwise};
 ghost use Rattle.tables.specs.Reading.{OnlyReads};
-ghost use Rattle.store.specs.Offices.{Wears};
+ghost use Rattle.store.specs.StateTables.{KeepsConnection};
 ghost use Rattle.office.specs.Answers.{WhenOpenAt};
 ghost use Rattle.desk.specs.Headline.{IsAnswered, IsSent};
 ghost use Rattle.desk.specs.Pages.{Tells, goes_on, outputs_of, page_for, page_kept, page_of, status_behind};
@@ -55,7 +55,7 @@ fn kept_before<S: Alter>(office: &mut Office<S>, request: &Request, reply: Reply
 fn outcome_of<S: Alter>(office: &mut Office<S>, request: &Request) -> LineOutcome
     ensures told { WhenOpenAt (state S.Store) office.old office.new
         (λ s. (answered : ℕ) × IsAnswered (state S.Store office.old.held) office.new.closed (state S.Store office.new.held) page_for s request.now answered (page_of result)) }
-    ensures wears { Wears (state S.Store office.old.held) (state S.Store office.new.held) }
+    ensures keeps_connection { KeepsConnection (state S.Store office.old.held) (state S.Store office.new.held) }
     ensures clean { HasCleanDisk (state S.Store office.new.held) → HasCleanDisk (state S.Store office.old.held) }
 {
     match office.handle(request.actor, request.id.as_str(), &request.command) {
@@ -84,7 +84,7 @@ pub(crate) fn send_all<S: Alter, O: Sink, E: Sink>(
         (λ cut page. WhenOpenAt (state S.Store) office.old office.new (λ s. ComesTo cut page (λ course.
         IsSent (state S.Store office.old.held) office.new.closed (state S.Store office.new.held) keep_going line page_for (IsOver office.new.closed
         (state S.Store office.new.held)) s requests.now course))) }
-    ensures wears { Wears (state S.Store office.old.held) (state S.Store office.new.held) }
+    ensures keeps_connection { KeepsConnection (state S.Store office.old.held) (state S.Store office.new.held) }
     ensures clean { HasCleanDisk (state S.Store office.new.held) → HasCleanDisk (state S.Store office.old.held) }
 {
     let mut ends = 0;

@@ -3,8 +3,8 @@
 ghost use Rattle.std.specs.Prelude.{◌≡◌, ◌++◌, IfOk, map, string_bytes};
 ghost use Rattle.sqlite.specs.Held.{state};
 ghost use Rattle.register.specs.Offices.{candidate_entry};
-ghost use Rattle.register.specs.Standings.{status_entry};
-ghost use Rattle.register.specs.Steps.{step_entry};
+ghost use Rattle.register.specs.Status.{status_entry};
+ghost use Rattle.register.specs.NextSteps.{step_entry};
 ghost use Rattle.tables.specs.Reading.{OnlyReads};
 ghost use Rattle.office.specs.Reads.{next_told};
 ghost use Rattle.office.specs.Answers.{WhenOpenAt};
@@ -12,8 +12,8 @@ ghost use Rattle.desk.specs.Parts.{IsFound};
 ghost use Rattle.desk.specs.Pages.{page_of, replied};
 ghost use Rattle.desk.specs.Steps.{action_words, all_named, due_words, lot_words, named, named_behind, nominations_words, papers_words, seal_words, step_text, step_words, taken_words};
 
+use crate::candidate_names::candidate_in;
 use crate::lines::LineOutcome;
-use crate::names::candidate_in;
 use count::{Action, Due, TiedFor};
 use office::{Office, Stop};
 use paper::Columns;

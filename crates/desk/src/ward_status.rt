@@ -2,7 +2,7 @@
 
 ghost use Rattle.std.specs.Prelude.{◌≡◌, IfOk, string_bytes};
 ghost use Rattle.sqlite.specs.Held.{state};
-ghost use Rattle.register.specs.Standings.{status_entry};
+ghost use Rattle.register.specs.Status.{status_entry};
 ghost use Rattle.tables.specs.Reading.{OnlyReads};
 ghost use Rattle.office.specs.Reads.{status_told};
 ghost use Rattle.office.specs.Answers.{WhenOpenAt};

@@ -35,7 +35,7 @@ pub(crate) trait FileFormat {
         ensures is { result ≡ (format self.now).most }
         ensures few { result < 2 ^ 32 - 1 };
 
-    /// Returns what is wrong with the fields of the first record as a header, if anything is.
+    /// Returns the flaw of the first record if it isn't a header of this format.
     fn header_flaw(&self, fields: &[&str]) -> Option<Flaw>
         ensures is { result ≡ (format self.now).header_flaw (map (λ f. f.now) fields.now) }
         ensures file { IfSome result (λ flaw. is_failed_read flaw ≡ false) };

@@ -7,11 +7,11 @@ use Rattle.std.proofs.lemmas.Bool.{and_parts, and_from, or_right, not-true, both
 use Rattle.register.specs.Offices.{BatchEntry, CandidateEntry, JudgedEntry, KeyedEntry, OfficeState, ThirdEntry, batch_at}
 use Rattle.register.specs.Offices.{batch_cmp, batch_compared, candidate_cmp, candidate_compared, candidates_of, changed}
 use Rattle.register.specs.Offices.{judged_cmp, keyed_cmp, keying_of, third_at, third_cmp, third_compared}
-use Rattle.register.specs.Keyed.{is_given_out}
+use Rattle.register.specs.BatchConditions.{is_given_out}
 use Rattle.register.specs.Keyings.{papers_from}
-use Rattle.register.specs.Papers.{clerks, clerks_of, is_keyed}
+use Rattle.register.specs.Agreement.{clerks, clerks_of, is_keyed}
 use Rattle.register.specs.Polls.{Pile, pile_of, piles_of}
-use Rattle.register.specs.Items.{IsState}
+use Rattle.register.specs.StateConditions.{IsState}
 use Rattle.register.specs.Effects.{EffectEntry, batch_added, batch_reopened, candidate_added, candidate_withdrawn, in_round, paper_judged, papers_keyed, third_set, with_effect}
 use Rattle.register.proofs.KeyedLemmas.{HasSameFile, pile_kept}
 use Rattle.register.proofs.MapLemmas.{all_but_number, both_equal, filter_put, filter_put_each, filter_without, found_put_other, list_all_weaker, same_number}

@@ -7,7 +7,7 @@ use Rattle.register.specs.Phases.{phase_number}
 use Rattle.register.specs.Reasons.{first_reason, objection}
 use Rattle.register.specs.Offices.{BatchEntry, OfficeState, WardEntry, batch_at}
 use Rattle.register.specs.Offices.{ward_at}
-use Rattle.register.specs.Parts.{is_in_phase}
+use Rattle.register.specs.CommandInputs.{is_in_phase}
 use Rattle.register.specs.Batches.{ward_for}
 
 -- if there is no first objection, there is none in any place

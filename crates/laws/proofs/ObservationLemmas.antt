@@ -17,15 +17,15 @@ use Rattle.register.specs.declared.counts.CountCommand.TheVariants as count_comm
 use Rattle.register.specs.Reasons.{first_reason}
 use Rattle.register.specs.Ranges.{is_clerk, is_id, is_office}
 use Rattle.register.specs.Offices.{KeyedEntry, OfficeState, ReceiptEntry, WardEntry, changed, put, receipt_at, receipt_cmp, ward_cmp, ward_compared}
-use Rattle.register.specs.Items.{IsState}
+use Rattle.register.specs.StateConditions.{IsState}
 use Rattle.register.specs.Effects.{ChangeEntry, EffectEntry, at_stage, batch_added, batch_reopened, candidate_added, candidate_withdrawn, in_phase, lot_drawn, paper_judged, papers_keyed}
 use Rattle.register.specs.Effects.{stage_counted, third_set, ward_added, ward_moved, with_change, with_effect}
 use Rattle.register.specs.Machine.{Ruling, accepts, keeps, refuses, after_one, answered, decided, effect_of, judged, objections, outcome_at, part_of, ruling_at, state_after, step, subject_of}
-use Rattle.register.specs.Parts.{PartEntries}
+use Rattle.register.specs.CommandInputs.{CommandInputEntries}
 use Rattle.register.specs.Seen.{seen_by}
 use Rattle.register.proofs.MachineLemmas.{step_stays}
 use Rattle.register.proofs.MapLemmas.{filter_put}
-use Rattle.register.specs.Standings.{paper_at, work_of}
+use Rattle.register.specs.Status.{paper_at, work_of}
 use Rattle.register.proofs.SeenLemmas.{paper_seen, ruling_on_seen, stands_alone, unseen_by, work_seen}
 use Rattle.laws.specs.Blindness.{AlikeOfficesAnswerAlike, ClerksAreBlind, DecidedByObserved, Observation, IsUnobserved, OwnAreObserved, SeenIsAlike, SeenIsObserved, asked, decided_alone}
 use Rattle.laws.specs.Blindness.{observed_at, observed_by, observed_of, is_shown, is_shown_command, made, own_rulings, ruling_on, seen_after}
@@ -142,14 +142,14 @@ no_clerk : (actor : ℕ) → is_office actor ≡ true → is_clerk actor ≡ fal
 no_clerk actor office = ap is_clerk (eqb-true actor 0 office)
 
 module _ (clerk actor : ℕ) (id : List ℕ) (other : (actor == clerk) ≡ false) (office : is_office actor ≡ true) where
-  by_office : (c : Command) (part : PartEntries) → IsNoKeying (effect_of actor c part) → IsByOffice clerk (judged actor id c part (first_reason (objections actor c part)))
+  by_office : (c : Command) (part : CommandInputEntries) → IsNoKeying (effect_of actor c part) → IsByOffice clerk (judged actor id c part (first_reason (objections actor c part)))
   by_office c part none = go (first_reason (objections actor c part))
     where
       go : (o : Option Reason) → IsByOffice clerk (judged actor id c part o)
       go (Some why) = tt
       go None = (other, none)
 
-  judged_so : (c : Command) (part : PartEntries) → IsByOffice clerk (judged actor id c part (first_reason (objections actor c part)))
+  judged_so : (c : Command) (part : CommandInputEntries) → IsByOffice clerk (judged actor id c part (first_reason (objections actor c part)))
   judged_so (Ward (ward_command.Add ward seats name)) part = by_office (Ward (ward_command.Add ward seats name)) part tt
   judged_so (Ward (ward_command.Close ward)) part = by_office (Ward (ward_command.Close ward)) part tt
   judged_so (Candidate (candidate_command.Add ward candidate name)) part = by_office (Candidate (candidate_command.Add ward candidate name)) part tt
@@ -175,7 +175,7 @@ module _ (clerk actor : ℕ) (id : List ℕ) (other : (actor == clerk) ≡ false
 
 -- nothing is observed of a command whose change clerks don't see
 module _ (actor : ℕ) (id : List ℕ) (office : is_office actor ≡ true) where
-  judged_unobserved : (s : OfficeState) (c : Command) (part : PartEntries) → is_shown_command c ≡ false → observed_of (judged actor id c part (first_reason (objections actor c part))) ≡ []
+  judged_unobserved : (s : OfficeState) (c : Command) (part : CommandInputEntries) → is_shown_command c ≡ false → observed_of (judged actor id c part (first_reason (objections actor c part))) ≡ []
   judged_unobserved s (Keying c) part unshown = rw (no_clerk actor office) refl
   judged_unobserved s (Verdict c) part unshown = nothing (first_reason (objections actor (Verdict c) part))
     where

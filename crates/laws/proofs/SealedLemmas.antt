@@ -31,7 +31,7 @@ use Rattle.register.specs.Offices.{receipt_at, ward_at, ward_compared}
 use Rattle.register.specs.Marks.{columns_of}
 use Rattle.register.specs.Polls.{Pile, ballots_in, piles_of}
 use Rattle.register.specs.Elections.{ElectionEntry, contest_of, election_of, is_counted, is_declared, lot_pair, stages_of}
-use Rattle.register.specs.Items.{IsState}
+use Rattle.register.specs.StateConditions.{IsState}
 use Rattle.register.specs.Effects.{EffectEntry, at_stage, in_phase, lot_drawn, paper_judged, papers_keyed, stage_counted, third_set, ward_moved, with_effect, with_receipt}
 use Rattle.register.specs.Batches.{next_round, ward_for}
 use Rattle.register.specs.Keyings.{papers_from, texts_of}

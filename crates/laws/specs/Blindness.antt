@@ -7,11 +7,11 @@ use Rattle.register.specs.declared.counts.CountCommand.TheVariants as count
 use Rattle.register.specs.declared.command.Request.{Request}
 use Rattle.register.specs.Ranges.{is_office}
 use Rattle.register.specs.Offices.{OfficeState}
-use Rattle.register.specs.Items.{IsState}
+use Rattle.register.specs.StateConditions.{IsState}
 use Rattle.register.specs.Effects.{EffectEntry, papers_keyed, paper_judged, stage_counted, lot_drawn, with_effect}
 use Rattle.register.specs.Machine.{Ruling, accepts, keeps, refuses, ruling_at, after_one, after}
 use Rattle.register.specs.Seen.{seen_by}
-use Rattle.register.specs.Standings.{paper_at, work_of}
+use Rattle.register.specs.Status.{paper_at, work_of}
 
 -- the ruling on a request in a state: its change and reply, the reply of its receipt, or the reason for refusing it
 abbrev pub ruling_on : OfficeState → Request → Ruling

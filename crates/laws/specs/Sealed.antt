@@ -7,7 +7,7 @@ use Rattle.register.specs.declared.command.Request.{Request}
 use Rattle.register.specs.Offices.{OfficeState, WardEntry, candidates_of, empty_office, ward_at}
 use Rattle.register.specs.Polls.{piles_of}
 use Rattle.register.specs.Elections.{election_of, is_counted, is_declared, stages_of}
-use Rattle.register.specs.Items.{IsState}
+use Rattle.register.specs.StateConditions.{IsState}
 use Rattle.register.specs.Machine.{after}
 
 -- a ward of a state, past its keying

@@ -1,7 +1,9 @@
-//! Clerks' codes, and the office's: their file, who is let in, how many wrong codes reach the limit, and which codes are made.
+//! Codes of clerks and of the office: their file, which requests are authenticated, how many wrong codes reach the limit, and which
+//! codes are made.
 
 ghost use Rattle.std.specs.Prelude.{Some, take};
 
+use super::console_targets::asks_reads;
 use super::wire_requests::asks_of;
 use crate::sheet_outputs::is_text;
 use codes::{
@@ -27,8 +29,9 @@ const WITH_OFFICE: &str = "4 kf7m-2wxt\noffice abcd-efgh-jkmn-prst\r\n9 w3hd-4ps
 /// What the office sends with that code.
 const OFFICE: &str = "Basic b2ZmaWNlOmFiY2QtZWZnaC1qa21uLXByc3Q=";
 
-/// What may be sent to the office, and whether it is the office's: a clerk's own, nothing, the office's code under clerk 4's name,
-/// clerk 4's under the office's, the office's name in a capital, its code cut, and under another scheme.
+/// What may be sent to the office, and whether it is the office's. After its own come two clerks', nothing, the office's code under
+/// clerk 4's name, and clerk 4's code under the office's. Then the office's name has a capital, its code is cut, and another scheme
+/// is named.
 const TO_OFFICE: [(&str, bool); 9] = [
     (OFFICE, true),
     (FOUR, false),
@@ -78,7 +81,7 @@ const FAULTS: [(&str, &str); 24] = [
     ),
 ];
 
-/// What is asked under a clerk's number, by the values of `Authorization`.
+/// Requests under a clerk's number, by the values of `Authorization`.
 const SENT: [(&str, &str, &str); 19] = [
     ("GET /clerks/4/work", FOUR, "Work { clerk: 4 }"),
     ("GET /clerks/9/work", NINE, "Work { clerk: 9 }"),
@@ -134,7 +137,7 @@ const SENT: [(&str, &str, &str); 19] = [
     ),
 ];
 
-/// What is asked by whoever isn't a clerk, by a code that comes twice, and by a page from elsewhere.
+/// Requests for no clerk's number, with two codes, and from a page from elsewhere.
 const BESIDE: [(&str, &str, &str); 5] = [
     ("GET /wards/7/sheet", "", "Sheet { ward: 7 }"),
     ("GET /clerks//work", "", "NotFound"),
@@ -151,7 +154,7 @@ const BESIDE: [(&str, &str, &str); 5] = [
     ),
 ];
 
-/// What is knocked with under clerk 4's number, how often, and when; and whether the limit is reached then.
+/// Codes sent under clerk 4's number, how often, and when; and whether the limit is then reached.
 const KNOCKS: [(&str, u32, u64, bool); 9] = [
     (FOUR, 6_001, 0, false),
     (NINE, 5_999, 100_000, false),
@@ -179,7 +182,7 @@ const DRAWN_FOR_OFFICE: [u8; 16] = [0, 1, 2, 3, 4, 5, 6, 7, 8, 9, 10, 11, 12, 13
 /// The codes that the bytes for the clerks draw, and then these.
 const MADE_WITH_OFFICE: &str = "4 abcd-a7fg-2347\n5 jkmn-prst-uwxy\noffice abcd-efgh-jkmn-prst\n";
 
-/// What is reported of a text that is a file of codes, or isn't.
+/// Returns the report on a text as a file of codes.
 fn fault_in(alloc: Global, text: &str) -> Result<String, AllocError> {
     match Codes::read(alloc, text.as_bytes()) {
         Ok(_) => String::from_str(alloc, "none"),
@@ -203,7 +206,8 @@ fn asks_at(
     asks_of(rt, given, request.as_bytes(), asked)
 }
 
-/// Knocks under clerk 4's number, with this value of `Authorization`, as often, at this time; whether the limit is reached then.
+/// Sends requests under clerk 4's number, with this value of `Authorization`, so often, at this time; returns whether the limit is
+/// then reached.
 fn is_reached_after(
     alloc: Global,
     given: HttpSettings<'_>,
@@ -278,7 +282,7 @@ fn faults_are_told(rt: &(impl Abort + AllocGlobal)) -> Result<(), Fail> {
     Ok(())
 }
 
-/// What is asked with one value of `Authorization`, or with none where it is empty.
+/// Asserts the request with one value of `Authorization`, or with none if it is empty.
 fn asks_sent(
     rt: &(impl Abort + AllocGlobal),
     given: HttpSettings<'_>,
@@ -301,7 +305,7 @@ fn asks_all(rt: &(impl Abort + AllocGlobal), given: HttpSettings<'_>) -> Result<
     Ok(())
 }
 
-/// A code is wanted once, and of nobody but a clerk; and a page from elsewhere is refused first.
+/// Asserts that one code is required, of a clerk only, and that a page from elsewhere is rejected first.
 fn asks_beside(rt: &(impl Abort + AllocGlobal), given: HttpSettings<'_>) -> Result<(), Fail> {
     for (line, headers, asked) in &BESIDE {
         asks_at(rt, given, *line, *headers, *asked)?;
@@ -309,8 +313,8 @@ fn asks_beside(rt: &(impl Abort + AllocGlobal), given: HttpSettings<'_>) -> Resu
     Ok(())
 }
 
-/// What is asked of the console with this value of `Authorization`, or with none where it is empty.
-const OF_CONSOLE: [(&str, &str, &str); 10] = [
+/// Requests for the console with this value of `Authorization`, or with none if it is empty.
+const OF_CONSOLE: [(&str, &str, &str); 13] = [
     (
         "GET /office/",
         OFFICE,
@@ -321,6 +325,9 @@ const OF_CONSOLE: [(&str, &str, &str); 10] = [
     ("GET /office/orders", OFFICE, "only Post"),
     ("GET /office/nothing", OFFICE, "NotFound"),
     ("GET /office", OFFICE, "NotFound"),
+    ("POST /office/wards", OFFICE, "only Get"),
+    ("GET /office/wards", "", "Unauthorized(Office)"),
+    ("GET /office/wards", FOUR, "WrongCode(Office)"),
     ("GET /office/", "", "Unauthorized(Office)"),
     ("GET /office/nothing", "", "Unauthorized(Office)"),
     ("GET /office/", FOUR, "WrongCode(Office)"),
@@ -379,7 +386,7 @@ fn limits_wrong_codes(
     Ok(())
 }
 
-/// Whom the codes of a file with a code of the office let in.
+/// Asserts which requests a file with a code of the office authenticates.
 fn office_is_let_in(rt: &(impl Abort + AllocGlobal), held: &Codes) -> Result<(), Fail> {
     assert!(rt; held.has_office());
     for (sent, is_its) in &TO_OFFICE {
@@ -413,12 +420,14 @@ fn codes_of_clerks(rt: HostRuntime) -> Result<(), Fail> {
     assert!(rt; !held.admits_office(OFFICE.as_bytes()));
     asks_sent(&rt, gate_of(&held), "GET /office/", OFFICE, "NotFound")?;
     asks_sent(&rt, gate_of(&held), "GET /office/", "", "NotFound")?;
+    asks_sent(&rt, gate_of(&held), "GET /office/wards", OFFICE, "NotFound")?;
     let with_office = codes_of(rt.alloc(), WITH_OFFICE)?;
     asks_console(&rt, gate_of(&with_office))?;
+    asks_reads(&rt, gate_of(&with_office), OFFICE)?;
     office_is_let_in(&rt, &with_office)
 }
 
-/// What is made for clerks 4 and 5, and for the office or not, of these bytes: the text, or why there is none.
+/// Returns the codes for clerks 4 and 5, and for the office or not, made of these bytes: the text, or the reason why there is none.
 fn made_of(alloc: Global, bytes: &[u8], office: bool) -> Result<String, AllocError> {
     let clerks = ClerkRange { first: 4, last: 5 };
     let mut known = Known {
@@ -439,7 +448,7 @@ fn made_of(alloc: Global, bytes: &[u8], office: bool) -> Result<String, AllocErr
     }
 }
 
-/// Codes are made of just the bytes that are drawn; behind such a file there is none with the same code twice.
+/// Asserts that codes are made of just the bytes drawn, and that no file with the same code twice is made.
 fn makes_codes(rt: &(impl Abort + AllocGlobal)) -> Result<(), Fail> {
     let alloc = rt.alloc();
     is_text(rt, made_of(alloc, &DRAWN, false)?.as_str(), MADE);
@@ -466,7 +475,7 @@ fn makes_codes(rt: &(impl Abort + AllocGlobal)) -> Result<(), Fail> {
     Ok(())
 }
 
-/// The office's code is made of the bytes behind those of the clerks' codes.
+/// Asserts that the office's code is made of the bytes after those of the clerks' codes.
 fn makes_with_office(rt: &(impl Abort + AllocGlobal)) -> Result<(), Fail> {
     let alloc = rt.alloc();
     let mut bytes = vec![in alloc; 0; 40]?;

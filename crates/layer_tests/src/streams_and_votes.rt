@@ -1,4 +1,4 @@
-//! Votes, their text, and the streams that it goes to.
+//! Votes, their text, and the streams to which it is written.
 
 use crate::sheet_outputs::{is_text, is_told};
 use std::alloc::{AllocError, Global};
@@ -9,7 +9,7 @@ use std::test::Fail;
 use streams::{Broken, Counted, Sink, Source, put_all};
 use votes::{Votes, quota, transfer_value};
 
-/// Writes three bytes at a time, and fails once it has room no more.
+/// A writer that accepts three bytes at a time, and fails once it is full.
 #[derive(Drop)]
 struct Narrow {
     page: Vec<u8>,
@@ -32,7 +32,7 @@ impl Write for Narrow {
     }
 }
 
-/// Takes no byte of anything.
+/// A writer that accepts no byte.
 #[derive(Drop)]
 struct Full;
 
@@ -46,8 +46,7 @@ impl Write for Full {
     }
 }
 
-/// Fails at the first call and at every second one after it; in between it takes all bytes, and gives
-/// one.
+/// A stream that fails at the first call and at every second one after it; in between it accepts all bytes, and returns one.
 #[derive(Drop)]
 struct TornStream {
     page: Vec<u8>,
@@ -88,7 +87,7 @@ fn text_of(alloc: Global, votes: Votes) -> Result<String, AllocError> {
     format!(in alloc; "{votes}")
 }
 
-/// What a sink in memory takes of a value.
+/// Returns the bytes of a value that a sink in memory accepts.
 fn written(alloc: Global, votes: Votes) -> Result<Vec<u8>, Broken> {
     let mut page = Vec::new(alloc);
     votes.write(&mut Counted::new(&mut page))?;
@@ -137,8 +136,7 @@ fn values_and_their_text(rt: HostRuntime) -> Result<(), Fail> {
     Ok(())
 }
 
-/// Writes a value where there is so much room: whether there was enough, how many failures were counted, and what was
-/// taken.
+/// Writes a value to a writer with so much room. Returns whether it was enough, the number of failures, and the accepted bytes.
 fn writes_narrowly(alloc: Global, room: usize) -> (bool, u64, Vec<u8>) {
     let mut narrow = Narrow {
         page: Vec::new(alloc),
@@ -151,7 +149,7 @@ fn writes_narrowly(alloc: Global, room: usize) -> (bool, u64, Vec<u8>) {
     (is_whole, failures, page)
 }
 
-/// Whether a beginning is taken, and one failure counted, where there is less room than for all of its text.
+/// Returns whether a prefix is accepted and one failure counted, if there isn't room for the whole text.
 fn keeps_a_beginning(alloc: Global, text: &[u8], room: usize) -> bool {
     let whole = room == text.len();
     let (is_whole, failures, page) = writes_narrowly(alloc, room);
@@ -168,7 +166,7 @@ fn a_sink_that_fails_keeps_a_beginning(rt: HostRuntime) {
     }
 }
 
-/// How many of some bytes a sink takes, which has failed a few times at most.
+/// Returns how many of some bytes a sink accepts; it has failed at most a few times.
 fn put<S: Sink>(sink: &mut S, bytes: &[u8]) -> Option<usize> {
     if sink.failures() > 9 {
         return None;
@@ -176,7 +174,7 @@ fn put<S: Sink>(sink: &mut S, bytes: &[u8]) -> Option<usize> {
     sink.put(bytes).ok()
 }
 
-/// How many bytes a source gives, which has failed a few times at most.
+/// Returns how many bytes a source returns; it has failed at most a few times.
 fn fetch<S: Source>(source: &mut S, room: &mut [u8]) -> Option<usize> {
     if source.failures() > 9 {
         return None;
@@ -184,18 +182,18 @@ fn fetch<S: Source>(source: &mut S, room: &mut [u8]) -> Option<usize> {
     source.fetch(room).ok()
 }
 
-/// Whether a sink, which has failed a few times at most, takes all of some bytes.
+/// Returns whether a sink accepts all of some bytes; it has failed at most a few times.
 fn takes_all<S: Sink>(sink: &mut S, bytes: &[u8]) -> bool {
     sink.failures() <= 9 && put_all(sink, bytes).is_ok()
 }
 
-/// A sink that takes nothing is broken.
+/// Asserts that a sink that accepts nothing is broken.
 fn is_full<S: Sink>(rt: &impl Abort, sink: &mut S) {
     assert!(rt; takes_all(sink, b"") && sink.failures() == 0);
     assert!(rt; !takes_all(sink, b"x") && sink.failures() == 1);
 }
 
-/// A source gives so many bytes, and the room has these then.
+/// Asserts that a source returns so many bytes, and that the buffer then has these.
 fn gives<S: Source>(
     rt: &impl Abort,
     source: &mut S,
@@ -208,7 +206,7 @@ fn gives<S: Source>(
     );
 }
 
-/// A source that holds `ballot` gives it by four bytes.
+/// Asserts that a source of `ballot` returns it four bytes at a time.
 fn gives_ballot<S: Source>(rt: &impl Abort, source: &mut S) {
     let mut room = [0; 4];
     gives(rt, source, &mut room, (4, b"ball"));
@@ -217,17 +215,17 @@ fn gives_ballot<S: Source>(rt: &impl Abort, source: &mut S) {
     assert_eq!(rt; source.failures(), 0);
 }
 
-/// So many bytes are taken, or none where the call fails.
+/// Asserts how many bytes are accepted; none if the call fails.
 fn puts<S: Sink>(rt: &impl Abort, sink: &mut S, bytes: &[u8], taken: Option<usize>) {
     assert!(rt; put(sink, bytes) == taken, "{taken:?} taken");
 }
 
-/// So many bytes are given, or none where the call fails.
+/// Asserts how many bytes are read; none if the call fails.
 fn fetches<S: Source>(rt: &impl Abort, source: &mut S, room: &mut [u8], given: Option<usize>) {
     assert!(rt; fetch(source, room) == given, "{given:?} given");
 }
 
-/// A failure is of one call.
+/// Asserts that a failure concerns one call alone.
 fn fails_call_by_call<S: Sink + Source>(
     rt: &impl Abort,
     torn: &mut S,

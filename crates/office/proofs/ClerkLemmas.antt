@@ -7,13 +7,13 @@ use Rattle.register.specs.declared.command.Command.{Command}
 use Rattle.register.specs.declared.command.Request.{Request}
 use Rattle.register.specs.Ranges.{is_office}
 use Rattle.register.specs.Offices.{OfficeState}
-use Rattle.register.specs.Items.{IsState}
+use Rattle.register.specs.StateConditions.{IsState}
 use Rattle.register.specs.Seen.{seen_by}
 use Rattle.register.specs.Machine.{Ruling, accepts, keeps, refuses, ruling_at, outcome_at, step, step_of, after_one}
 use Rattle.register.proofs.MachineLemmas.{step_stays}
 use Rattle.register.proofs.SeenLemmas.{ruling_on_seen, unseen_by, stands_alone}
 use Rattle.tables.specs.declared.fault.Fault.{Fault}
-use Rattle.store.specs.Offices.{LeavesState}
+use Rattle.store.specs.StateTables.{LeavesState}
 use Rattle.office.specs.declared.answers.Answer.{Answer}
 use Rattle.office.specs.Answers.{told, told_of, Handled}
 use Rattle.office.specs.Runs.{outcomes}

@@ -3,10 +3,10 @@ use Rattle.std.proofs.Common.{◌≡◌, ◌⊎◌, inl, inr, ℕ, List, [], Boo
 use Rattle.sqlite.specs.State.{State}
 use Rattle.register.specs.Offices.{OfficeState}
 use Rattle.register.specs.declared.command.Command.{Command}
-use Rattle.register.specs.Machine.{Outcome, accepted, kept, refused, state_after, is_accepted, step, IsKeptAgain}
+use Rattle.register.specs.Machine.{Outcome, accepted, kept, refused, state_after, is_accepted, step, RepeatGetsSameReply}
 use Rattle.tables.specs.declared.fault.Fault.{Fault}
 use Rattle.tables.specs.declared.fault.Fault.TheVariants.{Memory, Store}
-use Rattle.store.specs.Offices.{IsAt, LeavesState}
+use Rattle.store.specs.StateTables.{IsAt, LeavesState}
 use Rattle.office.specs.declared.answers.Answer.{Answer}
 use Rattle.office.specs.Answers.{told, told_of, reply_of, IsOpenAt, Handled, HandledAgain}
 
@@ -31,7 +31,7 @@ handled_err s o x f closed st same is_closed cause inside leaves = inr (record {
 })
 
 -- a request that was accepted is kept at the state that it led to
-kept_there : (s : OfficeState) (actor : ℕ) (id : List ℕ) (command : Command) (o : Outcome) → is_accepted o ≡ true → IsKeptAgain actor id command o
+kept_there : (s : OfficeState) (actor : ℕ) (id : List ℕ) (command : Command) (o : Outcome) → is_accepted o ≡ true → RepeatGetsSameReply actor id command o
     → step (state_after s o) actor id command ≡ kept (reply_of o)
 kept_there s actor id command (accepted next reply) h again = again []
 kept_there s actor id command (kept reply) h again = absurd (true≢false (sym h))
@@ -40,10 +40,10 @@ kept_there s actor id command (refused why) h again = absurd (true≢false (sym 
 -- so the answer at that state repeats the reply, and the state does not change
 pub handled_again : (s : OfficeState) (actor : ℕ) (id : List ℕ) (command : Command) (o : Outcome) → step s actor id command ≡ o → is_accepted o ≡ true
     → (r : Result Answer Fault) (closed : Bool) (st : State)
-    → OnOk r ((x : OfficeState) → IsKeptAgain actor id command (step x actor id command)) → Handled (state_after s o) (step (state_after s o) actor id command) r closed st
+    → OnOk r ((x : OfficeState) → RepeatGetsSameReply actor id command (step x actor id command)) → Handled (state_after s o) (step (state_after s o) actor id command) r closed st
     → HandledAgain s o r closed st
 handled_again s actor id command o is accepted_o (Ok answer) closed st again handled =
-    let kept_o = kept_there s actor id command o accepted_o (subst (IsKeptAgain actor id command) is (again s)) in
+    let kept_o = kept_there s actor id command o accepted_o (subst (RepeatGetsSameReply actor id command) is (again s)) in
     let there = subst (λ (x : Outcome). (told answer ≡ told_of x) × IsOpenAt (state_after (state_after s o) x) closed st) kept_o handled in
     (there.0, there.1)
 handled_again s actor id command o is accepted_o (Err f) closed st again handled = elim handled [ inl open_at ↦ inl open_at | inr shut ↦ inr shut.is_closed ]

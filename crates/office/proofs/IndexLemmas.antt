@@ -6,7 +6,7 @@ use Rattle.register.specs.declared.refusal.Reason.{Reason}
 use Rattle.register.specs.Offices.{OfficeState}
 use Rattle.sheet.specs.Index.{index}
 use Rattle.store.specs.declared.overviews.wards.WardOverview.{WardOverview}
-use Rattle.store.specs.Offices.{IsAt}
+use Rattle.store.specs.StateTables.{IsAt}
 use Rattle.store.specs.Overviews.{WardView, ward_view, ward_views}
 use Rattle.tables.specs.declared.fault.Fault.{Fault}
 use Rattle.tables.specs.declared.fault.Fault.TheVariants.{Memory}

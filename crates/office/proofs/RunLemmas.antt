@@ -8,7 +8,7 @@ use Rattle.register.specs.Offices.{OfficeState, empty_office}
 use Rattle.register.specs.Machine.{step_of, after_one, after}
 use Rattle.register.proofs.ListLaws.{after-more, after-accepted_of}
 use Rattle.tables.specs.declared.fault.Fault.{Fault}
-use Rattle.store.specs.Offices.{IsAt, LeavesState}
+use Rattle.store.specs.StateTables.{IsAt, LeavesState}
 use Rattle.office.specs.declared.answers.Answer.{Answer}
 use Rattle.office.specs.Answers.{told, told_of, Handled}
 use Rattle.office.specs.Runs.{outcomes, IsAfterBeginning, StopsAfter}

@@ -3,7 +3,7 @@ use Rattle.std.proofs.Common.{inl, inr, Bool, true, false, Result, Ok, Err, IfEr
 use Rattle.sqlite.specs.State.{State, HasCleanDisk}
 use Rattle.register.specs.Offices.{OfficeState}
 use Rattle.tables.specs.Reading.{OnlyReads}
-use Rattle.store.specs.Offices.{IsAt}
+use Rattle.store.specs.StateTables.{IsAt}
 use Rattle.store.proofs.KeepLemmas.{is_at_read}
 use Rattle.office.specs.Answers.{IsReadAt}
 use Rattle.office.specs.declared.answers.Stop.{Stop}

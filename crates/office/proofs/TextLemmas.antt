@@ -13,7 +13,7 @@ use Rattle.register.specs.Elections.{ElectionEntry, election_of}
 use Rattle.register.specs.Tabulated.{IsCountedWard, IsSheetOf}
 use Rattle.register.proofs.MapLemmas.{found_number}
 use Rattle.store.specs.Elections.{IsCountedInFor, IsSheetFor}
-use Rattle.store.specs.Offices.{IsAt}
+use Rattle.store.specs.StateTables.{IsAt}
 use Rattle.office.specs.declared.answers.Stop.{Stop}
 use Rattle.office.specs.declared.answers.Stop.TheVariants.{Refused, Fault as Failed}
 use Rattle.office.specs.declared.sheets.Text.{Text}

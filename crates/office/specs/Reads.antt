@@ -6,12 +6,12 @@ use Rattle.register.specs.declared.refusal.Reason.{Reason}
 use Rattle.register.specs.declared.refusal.Reason.TheVariants.{NotItsClerk, NumberOutOfRange, NoSuchWard, NoSuchBatch}
 use Rattle.register.specs.Ranges.{is_clerk, is_ward_number, is_batch_number}
 use Rattle.register.specs.Offices.{OfficeState}
-use Rattle.register.specs.Standings.{BallotPaperEntry, StatusEntry, WorkEntry, status_at, columns_at, work_of, paper_at}
-use Rattle.register.specs.Steps.{StepEntry, next_at}
+use Rattle.register.specs.Status.{BallotPaperEntry, StatusEntry, WorkEntry, status_at, columns_at, work_of, paper_at}
+use Rattle.register.specs.NextSteps.{NextStepEntry, next_at}
 use Rattle.tables.specs.declared.fault.Fault.{Fault}
 use Rattle.tables.specs.declared.fault.Fault.TheVariants.{Memory, Store}
 use Rattle.tables.specs.Reading.{FailsBy}
-use Rattle.store.specs.Offices.{LeavesState}
+use Rattle.store.specs.StateTables.{LeavesState}
 use Rattle.office.specs.declared.answers.Stop.{Stop}
 use Rattle.office.specs.declared.answers.Stop.TheVariants.{Refused, Fault as Failed}
 use Rattle.office.specs.Answers.{IsOpenAt, IsKeptOpen, WhenOpenAt}
@@ -27,7 +27,7 @@ abbrev pub status_told : OfficeState → ℕ → Result StatusEntry Reason
 status_told s ward = if is_ward_number ward then found_or NoSuchWard (status_at s ward) else Err NumberOutOfRange
 
 -- the answer for the next step in a ward
-abbrev pub next_told : OfficeState → ℕ → Result StepEntry Reason
+abbrev pub next_told : OfficeState → ℕ → Result NextStepEntry Reason
 next_told s ward = if is_ward_number ward then found_or NoSuchWard (next_at s ward) else Err NumberOutOfRange
 
 -- the answer for the columns of a batch's papers

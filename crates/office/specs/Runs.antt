@@ -7,7 +7,7 @@ use Rattle.register.specs.Offices.{OfficeState, empty_office}
 use Rattle.register.specs.Machine.{Outcome, step_of, after_one, after, accepted_of, is_accepted}
 use Rattle.tables.specs.declared.fault.Fault.{Fault}
 use Rattle.tables.specs.declared.fault.Fault.TheVariants.{Memory}
-use Rattle.store.specs.Offices.{LeavesState}
+use Rattle.store.specs.StateTables.{LeavesState}
 use Rattle.office.specs.declared.answers.Answer.{Answer}
 use Rattle.office.specs.Answers.{told, told_of, IsOpenAt, Handled}
 

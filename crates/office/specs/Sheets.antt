@@ -2,7 +2,7 @@
 use Rattle.std.specs.Prelude.{◌≡◌, ◌≤◌, ◌⊎◌, ⊤, ℕ, Bool, false, true, if◌then◌else◌, List, [], map, length, reverse, Option, Some, None, Result, Ok, Err}
 use Rattle.std.specs.List.{list_all}
 use Rattle.votes.specs.Units.{max_seats, max_papers}
-use Rattle.paper.specs.Columns.{IsColumnSet}
+use Rattle.paper.specs.Columns.{IsCandidateSet}
 use Rattle.count.specs.Law.Contest.{IsContest}
 use Rattle.sheet.specs.declared.ward.Poll.{Poll}
 use Rattle.sheet.specs.Entries.{SheetEntry}
@@ -57,7 +57,7 @@ pub record IsTextual (e : ElectionEntry) : Type 0 where
   pub few_seats : e.ward.seats ≤ max_seats
   pub few_papers : length e.ballots.papers ≤ max_papers
   pub numbered : list_all is_numbered e.candidates ≡ true
-  pub ascending : IsColumnSet (map (λ c. c.number) e.candidates)
+  pub ascending : IsCandidateSet (map (λ c. c.number) e.candidates)
   pub counted : CanBeCounted e
 
 -- the stage sheet: the stages that are done, from the first

@@ -7,11 +7,11 @@ ghost use Rattle.sqlite.specs.Tree.{Trees};
 ghost use Rattle.register.specs.Offices.{OfficeState};
 ghost use Rattle.tables.specs.Reading.{OnlyReads};
 ghost use Rattle.store.specs.Copies.{CopiesAt, CopiesTo, IsUnbegun, StopsInCopying, holdings_of};
-ghost use Rattle.store.specs.Offices.{IsAt, StoresState, Wears};
+ghost use Rattle.store.specs.StateTables.{IsAt, StoresState, KeepsConnection};
 ghost use Rattle.store.specs.Openings.{IsBlank};
 ghost use Rattle.office.specs.Answers.{ClosedInCopying, IsReadAt, WhenOpenAt};
 
-use crate::offices::Office;
+use crate::open_office::Office;
 use sqlite::{Alter, Connection};
 use std::alloc::Global;
 use store::{CopyFault, Fault, Holdings};
@@ -50,7 +50,7 @@ impl<S: Alter> Office<S> {
             → (trees : Trees) → (state T.Store copy.new).may_leave trees → (state T.Store copy.old).may_leave trees ⊎ ((x : OfficeState) × StoresState x trees) }
         ensures untouched { IfErr result (λ e. IsUnbegun e → copy.new ≡ copy.old) }
         ensures reads { OnlyReads (state S.Store self.old.held) (state S.Store self.new.held) }
-        ensures wears { Wears (state T.Store copy.old) (state T.Store copy.new) }
+        ensures keeps_connection { KeepsConnection (state T.Store copy.old) (state T.Store copy.new) }
         ensures clean { HasCleanDisk (state T.Store copy.new) → HasCleanDisk (state T.Store copy.old) }
         ensures opens { OnOk result (self.new.closed ≡ false) }
         ensures closes { IfErr result (ClosedInCopying self.new.closed) }

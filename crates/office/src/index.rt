@@ -14,7 +14,7 @@ ghost use Rattle.office.specs.Reads.{ReadWhenOpen, StopsBy, ClosesAt};
 ghost use Rattle.office.specs.Sheets.{candidate_shown};
 
 use crate::answers::Stop;
-use crate::offices::Office;
+use crate::open_office::Office;
 use paper::Columns;
 use register::{Candidate, Phase};
 use sheet::{ListedWard, WardStanding, index_text};

@@ -24,7 +24,7 @@ pub mod answers;
 mod copying;
 mod deciding;
 mod migration;
-pub mod offices;
+pub mod open_office;
 mod playing;
 // What is read of the state.
 mod index;
@@ -33,7 +33,7 @@ mod reads;
 mod sheets;
 
 pub use answers::{Answer, Run, Stop};
-pub use offices::Office;
+pub use open_office::Office;
 pub use register::{BallotPaper, NextStep, Receipt, Status, Work};
 pub use sheets::{Text, texts_are_there};
 pub use store::{CopyFault, Holdings, Migrated, Rows};

@@ -2,7 +2,7 @@
 
 ghost use Rattle.store.specs.Migrations.{Migrates};
 
-use crate::offices::Office;
+use crate::open_office::Office;
 use sqlite::{Alter, Connection};
 use std::alloc::Global;
 use store::{Fault, Migrated};

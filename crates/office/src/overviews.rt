@@ -12,7 +12,7 @@ ghost use Rattle.office.specs.Reads.{ReadWhenOpen, StopsBy, ClosesAt};
 ghost use Rattle.office.specs.Overviews.{wards_told, batches_told, doubtful_told, differences_told, papers_told, receipts_told, may_have_receipts};
 
 use crate::answers::Stop;
-use crate::offices::Office;
+use crate::open_office::Office;
 use crate::reads::{read, refused};
 use register::ranges::{is_batch_number, is_clerk, is_ward_number};
 use register::{Reason, Receipt};

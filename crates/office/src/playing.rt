@@ -4,18 +4,18 @@ ghost use Rattle.std.specs.Prelude.{◌≡◌, true, false, Err, IfOk, IfErr, On
 ghost use Rattle.std.specs.List.{list_all};
 ghost use Rattle.sqlite.specs.Held.{state};
 ghost use Rattle.sqlite.specs.State.{HasCleanDisk};
-ghost use Rattle.register.specs.Offices.{MapsRise, OfficeState};
+ghost use Rattle.register.specs.Offices.{MapsAreSorted, OfficeState};
 ghost use Rattle.register.specs.Machine.{after};
 ghost use Rattle.rowcheck.specs.States.{state_of};
 ghost use Rattle.tables.specs.Reading.{OnlyReads};
-ghost use Rattle.store.specs.Offices.{IsAt};
+ghost use Rattle.store.specs.StateTables.{IsAt};
 ghost use Rattle.store.specs.Openings.{IsBlank};
 ghost use Rattle.store.specs.Whole.{ReadsOffice};
 ghost use Rattle.office.specs.Answers.{ClosedBy, IsMemoryOrStore, IsOpenAt, IsReadAt, WhenOpenAt, is_done, told};
 ghost use Rattle.office.specs.Runs.{LeadTo, are_accepted};
 
 use crate::answers::Answer;
-use crate::offices::Office;
+use crate::open_office::Office;
 use register::Request;
 use rowcheck::{Rows, are_same};
 use sqlite::{Alter, Connection};
@@ -80,7 +80,7 @@ impl<S: Alter> Office<S> {
     pub fn rows_open(&mut self) -> Result<Rows, Fault>
         ensures kept { WhenOpenAt (state S.Store) self.old self.new
             (λ s. IfOk result (λ rows. state_of rows ≡ s) × IfErr result IsMemoryOrStore × IsReadAt s self.new.closed (state S.Store self.new.held)) }
-        ensures rise { IfOk result (λ rows. MapsRise (state_of rows)) }
+        ensures rise { IfOk result (λ rows. MapsAreSorted (state_of rows)) }
         ensures reads { OnlyReads (state S.Store self.old.held) (state S.Store self.new.held) }
         ensures opens { OnOk result (self.new.closed ≡ false) }
         ensures closes { IfErr result (ClosedBy self.new.closed) }

@@ -3,8 +3,8 @@
 
 ghost use Rattle.std.specs.Prelude.{◌≡◌, ◌⊎◌, Bool, true, false, map, IfOk, IfErr, IfSome, IfNone, IsSome, OnOk, Some, None, Ok, Err, string_bytes};
 ghost use Rattle.sqlite.specs.Held.{state};
-ghost use Rattle.register.specs.Standings.{paper_at, paper_entry, status_entry, work_entry, work_of};
-ghost use Rattle.register.specs.Steps.{step_entry};
+ghost use Rattle.register.specs.Status.{paper_at, paper_entry, status_entry, work_entry, work_of};
+ghost use Rattle.register.specs.NextSteps.{step_entry};
 ghost use Rattle.register.specs.Seen.{seen_by};
 ghost use Rattle.register.specs.Repeats.{is_kept_otherwise};
 ghost use Rattle.register.specs.declared.refusal.Reason.{Reason};
@@ -16,7 +16,7 @@ ghost use Rattle.office.specs.Reads.{ReadWhenOpen, status_told, next_told, colum
 ghost use Rattle.office.specs.Sheets.{is_told_in, text_shown, text_told, StopsText, StopsWriting, IsTextual, IsOfMemory};
 
 use crate::answers::Stop;
-use crate::offices::Office;
+use crate::open_office::Office;
 use crate::sheets::{Text, declaration, text_of, texts_are_there};
 use paper::Columns;
 use register::ranges::{is_batch_number, is_clerk, is_ward_number};

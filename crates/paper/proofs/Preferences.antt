@@ -5,7 +5,7 @@ use Rattle.std.specs.List.{filter, list_any}
 use Rattle.std.proofs.lemmas.Bool.{eq-eqb, ne_eqb, eqb-true, cases_eq, or_left, or_right, or_from}
 use Rattle.std.proofs.lemmas.List.{take_more_set, take-append-drop, length-take-le}
 use Rattle.paper.specs.Bearers.{bearers_of}
-use Rattle.paper.specs.Columns.{max_candidates, IsColumnSet}
+use Rattle.paper.specs.Columns.{max_candidates, IsCandidateSet}
 use Rattle.paper.specs.Marking.{Marking, candidates_of, marked_with}
 use Rattle.paper.specs.Padded.{padded}
 use Rattle.paper.specs.Preferences.{StandAlone, IsPreferences, if_alone, preferences_from, preferences, LowerMarksDecide}
@@ -96,11 +96,11 @@ alone_ranking n ms (c ∷ cs) up alone =
     let column = in_ascending c 0 (candidates_of ms) up (in_candidates c n ms here) in
     (omega (arith, column.0), column.1, absent_later c n (n + 1) ms cs up (mark_is c n 0 ms up here) (omega arith) alone.1, alone_ranking (n + 1) ms cs up alone.1)
 
-pub preferences-IsRanking : (ms : Marking) → IsColumnSet (candidates_of ms) → IsRanking (preferences ms)
+pub preferences-IsRanking : (ms : Marking) → IsCandidateSet (candidates_of ms) → IsRanking (preferences ms)
 preferences-IsRanking ms set = alone_ranking 1 ms (preferences ms) (ascends_from_columns (candidates_of ms) set) (alone_from max_candidates 1 ms)
 
 -- the computed list is the preferences
-pub preferences-IsPreferences : (ms : Marking) → IsColumnSet (candidates_of ms) → IsPreferences ms (preferences ms)
+pub preferences-IsPreferences : (ms : Marking) → IsCandidateSet (candidates_of ms) → IsPreferences ms (preferences ms)
 preferences-IsPreferences ms set = record {
   alone = alone_from max_candidates 1 ms;
   longest = λ others alone. longest_from max_candidates 1 ms others alone (length_ranking others (alone_ranking 1 ms others (ascends_from_columns (candidates_of ms) set) alone));

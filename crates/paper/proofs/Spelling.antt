@@ -7,7 +7,7 @@ use Rattle.std.proofs.lemmas.Bool.{not-false, ltb-false}
 use Rattle.std.proofs.lemmas.Fmt.{decimal_digit, decimal_step}
 use Rattle.std.proofs.lemmas.List.{length-take, length-map, take_more, map-append}
 use Rattle.std.proofs.lemmas.List.Splits.{slice_split_none, slice_split_at, join_with_byte-slice_split}
-use Rattle.paper.specs.Columns.{IsColumnSet}
+use Rattle.paper.specs.Columns.{IsCandidateSet}
 use Rattle.paper.specs.Marking.{Marking, IsMarking, candidates_of, marks_of}
 use Rattle.paper.specs.MarksText.{fields, is_digit, number_in, mark_in, marks_in, and_marks, beside, reading, mark_text, field_text, spelling, ReadsBack}
 use Rattle.paper.specs.Padded.{padded}
@@ -163,7 +163,7 @@ pub record IsRead (columns text marks : List ℕ) : Type 0 where
   pub reads : reading columns text ≡ Ok (Marked (zip columns marks))
   pub spells : spelling (Marked (zip columns marks)) ≡ text
 
-pub text_read : (columns text marks : List ℕ) → IsColumnSet columns → bytes_eq text (codes "D") ≡ false → length (fields text) ≡ length columns →
+pub text_read : (columns text marks : List ℕ) → IsCandidateSet columns → bytes_eq text (codes "D") ≡ false → length (fields text) ≡ length columns →
     marks_in (fields text) ≡ Ok (take (length columns) marks) → padded (take (length columns) marks) ≡ marks → IsRead columns text marks
 text_read columns text marks set plain count read behind =
     let are = marks_read (fields text) (take (length columns) marks) read in
@@ -174,7 +174,7 @@ text_read columns text marks set plain count read behind =
       columns_are = cs;
       marks_are = ap padded ms ∙ behind;
       marking = record {
-        columns = subst IsColumnSet (sym cs) set;
+        columns = subst IsCandidateSet (sym cs) set;
         small = subst (AllByRecursion (λ mark. mark ≤ 99)) (sym ms) are.small;
         some = omega (arith, ap length cs, count, fields-some text, length-map (zip columns marks) (λ (m : ℕ × ℕ). m.0));
       };

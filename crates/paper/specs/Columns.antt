@@ -12,7 +12,7 @@ abbrev pub IsColumn : ℕ → Type 0
 IsColumn c = (1 ≤ c) × (c ≤ max_candidates)
 
 -- a set of candidate numbers, as the list of them in ascending order
-pub record IsColumnSet (columns : List ℕ) : Type 0 where
+pub record IsCandidateSet (columns : List ℕ) : Type 0 where
   pub ascending : IsStrictlyIncreasing columns
   pub within : EachIndex columns (λ k. IsColumn (slice_index columns k))
 

@@ -1,7 +1,7 @@
 -- The marks on a ballot paper.
 use Rattle.std.specs.Prelude.{ℕ, ◌≤◌, ◌==◌, List, length, map}
 use Rattle.std.specs.List.{filter, AllByRecursion}
-use Rattle.paper.specs.Columns.{IsColumnSet}
+use Rattle.paper.specs.Columns.{IsCandidateSet}
 
 -- the marks on a paper, in ascending order of the candidates: each candidate's number with the number in the candidate's
 -- field, 0 if that is empty
@@ -22,6 +22,6 @@ marked_with n marking = map (λ m. m.0) (filter (λ m. m.1 == n) marking)
 
 -- what holds of the marks on every paper
 pub record IsMarking (marking : Marking) : Type 0 where
-  pub columns : IsColumnSet (candidates_of marking)
+  pub columns : IsCandidateSet (candidates_of marking)
   pub small : AllByRecursion (λ mark. mark ≤ 99) (marks_of marking)
   pub some : 1 ≤ length marking

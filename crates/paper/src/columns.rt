@@ -2,7 +2,7 @@
 
 ghost use Rattle.std.specs.Prelude.{◌≡◌, ℕ, ◌+◌, ◌<◌, ◌≤◌, [], ◌∷◌, ◌++◌, length, nat_eq, nat_lt};
 ghost use Rattle.std.specs.List.{list_any, prefix_len};
-ghost use Rattle.paper.specs.Columns.{max_candidates, IsColumnSet, with_column};
+ghost use Rattle.paper.specs.Columns.{max_candidates, IsCandidateSet, with_column};
 ghost use Rattle.paper.specs.Padded.{padded};
 
 use crate::padded::{list_in, padded_numbers};
@@ -20,14 +20,14 @@ pub struct Columns {
 
 impl Model for Columns {
     ghost use Rattle.std.specs.Prelude.{◌≡◌, List, ℕ};
-    ghost use Rattle.paper.specs.Columns.{IsColumnSet};
+    ghost use Rattle.paper.specs.Columns.{IsCandidateSet};
     ghost use Rattle.paper.specs.Padded.{listed, padded};
 
     ghost Value = { List ℕ };
 
     ghost view = { λ a. listed a.numbers };
 
-    ghost invariant = { λ a. (padded (listed a.numbers) ≡ a.numbers) × IsColumnSet (listed a.numbers) };
+    ghost invariant = { λ a. (padded (listed a.numbers) ≡ a.numbers) × IsCandidateSet (listed a.numbers) };
 
     ghost inverse = { λ d. record { numbers = padded d } };
 
@@ -49,9 +49,9 @@ impl Columns {
         requires some { 1 ≤ c }
         requires few { c ≤ max_candidates }
         ensures is { result ≡ with_column self c }
-        ensures set { IsColumnSet result }
+        ensures set { IsCandidateSet result }
         // a number above all others is appended
-        ensures last { IsColumnSet (self ++ c ∷ []) → result ≡ self ++ c ∷ [] }
+        ensures last { IsCandidateSet (self ++ c ∷ []) → result ≡ self ++ c ∷ [] }
     {
         let list = self.as_slice();
         if self.has(c) {
@@ -89,7 +89,7 @@ impl Columns {
     /// Returns the numbers in ascending order.
     pub fn as_slice(&self) -> &[u8]
         ensures is { result.now ≡ self.now }
-        ensures set { IsColumnSet self.now }
+        ensures set { IsCandidateSet self.now }
     {
         list_in(&self.numbers)
     }

@@ -16,7 +16,7 @@ use Rattle.register.specs.Offices.{WardEntry, OfficeState, ward_at}
 use Rattle.register.specs.Marks.{columns_of}
 use Rattle.register.specs.Effects.{at_stage, stage_counted, with_effect}
 use Rattle.register.specs.Elections.{ElectionEntry, election_of, has_count, contest_of, stages_of}
-use Rattle.register.specs.Items.{IsState}
+use Rattle.register.specs.StateConditions.{IsState}
 use Rattle.register.specs.Tabulated.{PlacedEntry, FigureEntry, has_stages, bundles_in, figures_to, figures_in, tabulation_of, with_addition, SameTabulation, placed_after}
 use Rattle.register.specs.Additions.{moved_between, figures_added, addition_by, addition_at}
 use Rattle.register.proofs.SplitLemmas.{are_others, IsSplit, changed_split, flat_split}

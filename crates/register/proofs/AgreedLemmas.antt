@@ -4,7 +4,7 @@ use Rattle.std.specs.List.{list_all, list_any}
 use Rattle.std.specs.Ordering.{nat_cmp, is_lt}
 use Rattle.std.proofs.lemmas.Bool.{and_parts}
 use Rattle.register.specs.Offices.{BatchEntry, ThirdEntry, KeyedEntry, OfficeState, third_at, keying_of}
-use Rattle.register.specs.Papers.{is_keyed, of_three, same_marks, agreed, are_taken, clerks, taken_papers, is_taken}
+use Rattle.register.specs.Agreement.{is_keyed, of_three, same_marks, agreed, are_taken, clerks, taken_papers, is_taken}
 use Rattle.register.specs.Polls.{settled_with, settled_papers}
 
 -- ---- of two and of three keyings

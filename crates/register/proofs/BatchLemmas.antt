@@ -19,12 +19,12 @@ use Rattle.register.specs.Subjects.{is_office_subject}
 use Rattle.register.specs.Offices.{WardEntry, BatchEntry, ThirdEntry, KeyedEntry, JudgedEntry, OfficeState, changed, batch_cmp, third_cmp, ward_compared, batch_compared, third_compared}
 use Rattle.register.specs.Offices.{ward_at, candidates_of, batch_at, third_at, keying_of, verdicts_of}
 use Rattle.register.specs.Nominations.{are_enough}
-use Rattle.register.specs.Papers.{are_taken, differ, is_taken, is_its_clerk, two_clerks, clerks, clerks_of, keyings_in, keyings_now}
+use Rattle.register.specs.Agreement.{are_taken, differ, is_taken, is_its_clerk, two_clerks, clerks, clerks_of, keyings_in, keyings_now}
 use Rattle.register.specs.Marks.{is_readable}
-use Rattle.register.specs.Keyed.{columns_for, is_polled, is_given_out, is_third_for, is_keyed_for, is_round_of, are_rounds_to, is_judged}
-use Rattle.register.specs.Items.{is_batch, is_third, IsState}
+use Rattle.register.specs.BatchConditions.{columns_for, is_polled, is_given_out, is_third_for, is_keyed_for, is_round_of, are_rounds_to, is_judged}
+use Rattle.register.specs.StateConditions.{is_batch, is_third, IsState}
 use Rattle.register.specs.Effects.{batch_added, batch_reopened, third_set, in_round, with_effect}
-use Rattle.register.specs.Parts.{passes}
+use Rattle.register.specs.CommandInputs.{passes}
 use Rattle.register.specs.Batches.{ward_for, third_for, keyings_for, part_of, is_in_last_round, is_in_range, objections, next_round, subject_of, reply_to, effect_of}
 use Rattle.register.proofs.LineLemmas.{lower, is_plain-decimal, words, line_append, line_number, line_reply, line_text}
 use Rattle.register.proofs.ObjectionLemmas.{no_objection, asked, unasked, absent, present, there}

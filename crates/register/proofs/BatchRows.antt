@@ -15,15 +15,15 @@ use Rattle.register.specs.declared.refusal.Reason.TheVariants.{NumberOutOfRange,
 use Rattle.register.specs.declared.refusal.Reason.TheVariants.{BadMarks, NoDifference, NotTaken, AlreadyJudged, BadVerdict}
 use Rattle.register.specs.Ranges.{is_id}
 use Rattle.register.specs.Offices.{BatchEntry, KeyedEntry, JudgedEntry, ReceiptEntry, OfficeState}
-use Rattle.register.specs.Papers.{same_marks}
-use Rattle.register.specs.Keyed.{are_numbered, are_rounds_to}
-use Rattle.register.specs.Items.{all_given_out, all_keyed, all_judged}
+use Rattle.register.specs.Agreement.{same_marks}
+use Rattle.register.specs.BatchConditions.{are_numbered, are_rounds_to}
+use Rattle.register.specs.StateConditions.{all_given_out, all_keyed, all_judged}
 use Rattle.register.specs.Marks.{first_bad_marks}
 use Rattle.register.specs.Batches as batches
 use Rattle.register.specs.Keyings as keyings
 use Rattle.register.specs.Verdicts as verdicts
 use Rattle.register.specs.Machine.{accepted, refused, step, decided}
-use Rattle.register.specs.Standings.{status_at}
+use Rattle.register.specs.Status.{status_at}
 
 -- the batch of two papers of the ward Harbour that the clerks 4 and 9 key, in this round; and another batch
 abbrev batch_in : ℕ → BatchEntry

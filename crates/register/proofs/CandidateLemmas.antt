@@ -11,7 +11,7 @@ use Rattle.register.specs.Reasons.{first_reason}
 use Rattle.register.specs.Ranges.{last_ward, is_office, is_ward_number, is_candidate_number, is_name, is_reply}
 use Rattle.register.specs.Subjects.{is_office_subject}
 use Rattle.register.specs.Offices.{OfficeState, ward_at, candidate_at}
-use Rattle.register.specs.Items.{is_candidate, IsState}
+use Rattle.register.specs.StateConditions.{is_candidate, IsState}
 use Rattle.register.specs.Candidates.{part_of, is_in_range, objections, subject_of, reply_to, effect_of}
 use Rattle.register.proofs.LineLemmas.{are_plain-decimals, IsLine, words, line_append, line_number, line_reply, line_text}
 use Rattle.register.proofs.ObjectionLemmas.{no_objection, asked, absent, there}

@@ -9,7 +9,7 @@ use Rattle.std.proofs.lemmas.Bool.{and_parts, leb-true, ltb-true, eqb-true, eq-e
 use Rattle.std.proofs.lemmas.Cmp.{ranked}
 use Rattle.std.proofs.lemmas.List.Kept.{IsStrictlySortedBy-filter}
 use Rattle.votes.specs.Units.{max_seats, max_papers}
-use Rattle.paper.specs.Columns.{IsColumnSet, with_column}
+use Rattle.paper.specs.Columns.{IsCandidateSet, with_column}
 use Rattle.paper.specs.Ranking.{IsRanking}
 use Rattle.paper.specs.Marking.{Marking, marked_with}
 use Rattle.paper.specs.Marking as marking
@@ -19,7 +19,7 @@ use Rattle.paper.specs.declared.marked.Keyed.TheVariants.{Doubtful}
 use Rattle.paper.specs.declared.marks.MarkFault.TheVariants.{FieldCount}
 use Rattle.paper.specs.declared.marks.MarkFault.{MarkFault}
 use Rattle.paper.specs.declared.validity.Rejection.{Rejection}
-use Rattle.paper.proofs.ColumnSets.{Ascends, columns_from_ascends, ascends_from_columns, with_column-IsColumnSet}
+use Rattle.paper.proofs.ColumnSets.{Ascends, columns_from_ascends, ascends_from_columns, with_column-IsCandidateSet}
 use Rattle.paper.proofs.Preferences.{preferences-IsRanking}
 use Rattle.count.specs.Law.Contest.{In, AreForCandidates, IsContest}
 use Rattle.count.specs.Books.{AreRankings}
@@ -27,12 +27,12 @@ use Rattle.count.proofs.ContestLemmas.{contest-is}
 use Rattle.register.specs.declared.polls.Judgement.{Judgement}
 use Rattle.register.specs.declared.polls.Judgement.TheVariants.{Valid, Rejected, Open}
 use Rattle.register.specs.Ranges.{is_ward_number, is_seat_number, is_candidate_number, is_name}
-use Rattle.register.specs.Offices.{WardEntry, CandidateEntry, BatchEntry, KeyedEntry, JudgedEntry, OfficeState, MapsRise, batch_cmp, ward_compared, ward_at, candidates_of}
+use Rattle.register.specs.Offices.{WardEntry, CandidateEntry, BatchEntry, KeyedEntry, JudgedEntry, OfficeState, MapsAreSorted, batch_cmp, ward_compared, ward_at, candidates_of}
 use Rattle.register.specs.Nominations.{is_contested}
 use Rattle.register.specs.Marks.{and_column, columns_of}
-use Rattle.register.specs.Papers.{same_marks, agreed, keyings_now, batches_of}
-use Rattle.register.specs.Keyed.{is_whole, is_round_of, are_rounds_to}
-use Rattle.register.specs.Items.{is_ward, is_candidate, is_batch, all_in_range, all_given_out, all_keyed}
+use Rattle.register.specs.Agreement.{same_marks, agreed, keyings_now, batches_of}
+use Rattle.register.specs.BatchConditions.{is_whole, is_round_of, are_rounds_to}
+use Rattle.register.specs.StateConditions.{is_ward, is_candidate, is_batch, all_in_range, all_given_out, all_keyed}
 use Rattle.register.specs.Polls.{Pile, pile_of, piles_of, by_rejection, by_reading, by_verdict, judgement_on, judgements_in, judgements, preferences_by, ballots_in}
 use Rattle.register.specs.Elections.{election_of, contest_of}
 use Rattle.register.proofs.MapLemmas.{kept_all, found_passes}
@@ -42,18 +42,18 @@ use Rattle.register.proofs.WardColumnLemmas.{columns_at}
 
 -- ---- the candidates
 
-columns_set : (columns : List ℕ) (cs : List CandidateEntry) → IsColumnSet columns → IsColumnSet (fold and_column columns cs)
+columns_set : (columns : List ℕ) (cs : List CandidateEntry) → IsCandidateSet columns → IsCandidateSet (fold and_column columns cs)
 columns_set columns [] set = set
 columns_set columns (c ∷ cs) set = columns_set (and_column columns c) cs (go (is_candidate_number c.number) refl)
   where
-    go : (b : Bool) → is_candidate_number c.number ≡ b → IsColumnSet (cond b (with_column columns c.number) columns)
+    go : (b : Bool) → is_candidate_number c.number ≡ b → IsCandidateSet (cond b (with_column columns c.number) columns)
     go true is =
         let parts = and_parts _ _ is in
-        with_column-IsColumnSet columns c.number (leb-true 1 c.number parts.0) (leb-true c.number 30 parts.1) set
+        with_column-IsCandidateSet columns c.number (leb-true 1 c.number parts.0) (leb-true c.number 30 parts.1) set
     go false is = set
 
 -- the columns of any candidates are a set of candidate numbers
-pub columns_are_set : (cs : List CandidateEntry) → IsColumnSet (columns_of cs)
+pub columns_are_set : (cs : List CandidateEntry) → IsCandidateSet (columns_of cs)
 columns_are_set cs = columns_set [] cs (columns_from_ascends 0 [] tt)
 
 -- ---- every preference is for a candidate
@@ -150,7 +150,7 @@ first_columns low (column ∷ columns) [] up = tt
 first_columns low (column ∷ columns) (mark ∷ marks) up = (up.0, up.1, first_columns column columns marks up.2)
 
 -- and each paper ranks candidates without repetition
-pub papers_are_rankings : (columns : List ℕ) (piles : List Pile) → IsColumnSet columns → AreRankings (ballots_in columns piles).papers
+pub papers_are_rankings : (columns : List ℕ) (piles : List Pile) → IsCandidateSet columns → AreRankings (ballots_in columns piles).papers
 papers_are_rankings columns piles set =
     go (ballots_in columns piles).papers (papers_given columns IsRanking
     (λ marks valid. preferences-IsRanking (zip columns marks) (columns_from_ascends 0 _ (first_columns 0 columns marks (ascends_from_columns columns set)))) piles)
@@ -263,7 +263,7 @@ papers_are_few s columns ward fine rounds up =
 -- ---- the contest
 
 -- the limits of a ward: at least one seat, and at most the limits of seats and papers
-pub seats_and_papers_are_few : (s : OfficeState) (w : WardEntry) → all_in_range s ≡ true → all_keyed s ≡ true → MapsRise s → ward_at s w.number ≡ Some w
+pub seats_and_papers_are_few : (s : OfficeState) (w : WardEntry) → all_in_range s ≡ true → all_keyed s ≡ true → MapsAreSorted s → ward_at s w.number ≡ Some w
     → (1 ≤ w.seats) × (w.seats ≤ max_seats) × (length (election_of s w).ballots.papers ≤ max_papers)
 unfolding is_ward
 seats_and_papers_are_few s w first fourth rise there =
@@ -280,7 +280,7 @@ candidates_are : (s : OfficeState) → all_in_range s ≡ true → list_all is_c
 candidates_are s first = (and_parts _ _ (and_parts _ _ first).1).0
 
 -- If numbers are in range, keyings are whole and entries are in key order, the contests are ones that the rules apply to.
-pub contest_is_fair : (s : OfficeState) (w : WardEntry) → all_in_range s ≡ true → all_keyed s ≡ true → MapsRise s → ward_at s w.number ≡ Some w → is_contested w (candidates_of s w.number) ≡ true
+pub contest_is_fair : (s : OfficeState) (w : WardEntry) → all_in_range s ≡ true → all_keyed s ≡ true → MapsAreSorted s → ward_at s w.number ≡ Some w → is_contested w (candidates_of s w.number) ≡ true
     → IsContest (contest_of (election_of s w))
 contest_is_fair s w first fourth rise there contested =
     let cs = candidates_of s w.number in
@@ -298,6 +298,6 @@ contest_is_fair s w first fourth rise there contested =
     few.2
     (papers_are_fair columns (piles_of s w.number))
 
-pub fair_contest : (s : OfficeState) (w : WardEntry) → all_in_range s ≡ true → all_given_out s ≡ true → all_keyed s ≡ true → MapsRise s → ward_at s w.number ≡ Some w
+pub fair_contest : (s : OfficeState) (w : WardEntry) → all_in_range s ≡ true → all_given_out s ≡ true → all_keyed s ≡ true → MapsAreSorted s → ward_at s w.number ≡ Some w
     → is_contested w (candidates_of s w.number) ≡ true → IsContest (contest_of (election_of s w))
 fair_contest s w first third fourth rise there contested = contest_is_fair s w first fourth rise there contested

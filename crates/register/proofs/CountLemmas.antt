@@ -32,7 +32,7 @@ use Rattle.register.specs.Nominations.{are_enough}
 use Rattle.register.specs.Marks.{columns_of}
 use Rattle.register.specs.Polls.{piles_of}
 use Rattle.register.specs.Elections.{ElectionEntry, election_of, has_count, contest_of, stages_of, due_of, is_finished, has_finished, is_among}
-use Rattle.register.specs.Items.{is_lot, IsState}
+use Rattle.register.specs.StateConditions.{is_lot, IsState}
 use Rattle.register.specs.Effects.{in_phase, at_stage, stage_counted, lot_drawn, with_effect, with_receipt}
 use Rattle.register.specs.Views.{HasStageMore, HasSameStages}
 use Rattle.register.specs.Tabulated.{bundles_in, figures_in, tabulation_of}

@@ -14,7 +14,7 @@ use Rattle.votes.specs.Units.{max_papers, one_vote}
 use Rattle.paper.specs.Columns.{max_candidates}
 use Rattle.count.specs.Books.{AreRankings}
 use Rattle.count.specs.Bundles.{Bundle, list_cmp, papers_of, with_papers, bundled, IsBundle, AreBundles}
-use Rattle.count.specs.Kept.{IsKeptOf, places_after}
+use Rattle.count.specs.StoredCounts.{IsStoredCountOf, places_after}
 use Rattle.count.specs.Law.Contest.{History}
 use Rattle.count.specs.Law.Right.{IsRightForSome}
 use Rattle.count.specs.Marks.{figures_at, all_figures}
@@ -29,7 +29,7 @@ use Rattle.register.specs.Offices.{WardEntry, OfficeState, ward_at, candidates_o
 use Rattle.register.specs.Marks.{columns_of}
 use Rattle.register.specs.Polls.{piles_of}
 use Rattle.register.specs.Elections.{ElectionEntry, election_of, has_count, contest_of, stages_of}
-use Rattle.register.specs.Items.{IsState}
+use Rattle.register.specs.StateConditions.{IsState}
 use Rattle.register.specs.Tabulated.{PlacedEntry, FigureEntry, AreOfCount, bundle_of, placed_of, shown_of, placed_after, bundles_in, figure_at, figures_to, figures_in, has_stages}
 use Rattle.register.proofs.MapLemmas.{each_weaker}
 use Rattle.register.proofs.ContestLemmas.{columns_are_set, papers_are_rankings, papers_have_some, contest_is_fair}
@@ -125,7 +125,7 @@ module _ (e : ElectionEntry) (candidates : List ℕ) (seats : ℕ) (bundles : Li
 
   -- what is read back is what was stored of the count
   pub kept_again : (kept : List Bundle) (places : List Placed) (stages : List Stage) → kept ≡ map bundle_of bundles → places ≡ map placed_of bundles → stages ≡ reverse (stages_of e)
-      → IsKeptOf (contest_of e) (stages_of e) (record { candidates = candidates; seats = seats; bundles = kept; places = places; stages = stages })
+      → IsStoredCountOf (contest_of e) (stages_of e) (record { candidates = candidates; seats = seats; bundles = kept; places = places; stages = stages })
   kept_again kept places stages same lie done = record {
     fair = of.fair;
     right = right_so_far;

@@ -16,10 +16,10 @@ use Rattle.register.specs.declared.refusal.Reason.TheVariants.{NumberOutOfRange,
 use Rattle.register.specs.Ranges.{is_id}
 use Rattle.register.specs.Texts.{listed}
 use Rattle.register.specs.Offices.{WardEntry, KeyedEntry, JudgedEntry, LotEntry, ReceiptEntry, OfficeState}
-use Rattle.register.specs.Papers.{same_marks}
+use Rattle.register.specs.Agreement.{same_marks}
 use Rattle.register.specs.Polls.{piles_of, judgements, poll_of}
 use Rattle.register.specs.Elections.{election_of, due_of}
-use Rattle.register.specs.Items.{all_agreed, all_counted}
+use Rattle.register.specs.StateConditions.{all_agreed, all_counted}
 use Rattle.register.specs.Counts as counts
 use Rattle.register.specs.Machine.{accepted, refused, step, decided}
 

@@ -14,7 +14,7 @@ use Rattle.register.specs.declared.candidates.CandidateCommand.TheVariants.{With
 use Rattle.register.specs.declared.batches.BatchCommand.TheVariants.{Again}
 use Rattle.register.specs.declared.counts.CountCommand.TheVariants.{Advance}
 use Rattle.register.specs.declared.elections.Count.{Count as CountValue}
-use Rattle.register.specs.declared.tabulated.Addition.{Addition}
+use Rattle.register.specs.declared.tabulations.Addition.{Addition}
 use Rattle.register.specs.declared.decision.Change.{Change}
 use Rattle.register.specs.declared.decision.Decision.{Decision}
 use Rattle.register.specs.declared.decision.Decision.TheVariants.{Accepted, Kept, Refused}
@@ -22,11 +22,11 @@ use Rattle.register.specs.declared.view.View.{View}
 use Rattle.register.specs.Reasons.{first_reason}
 use Rattle.register.specs.Ranges.{is_id}
 use Rattle.register.specs.Offices.{WardEntry, ReceiptEntry, OfficeState, ward_at, receipt_at, receipt_entry}
-use Rattle.register.specs.Items.{IsState}
+use Rattle.register.specs.StateConditions.{IsState}
 use Rattle.register.specs.Effects.{EffectEntry, ChangeEntry, stage_counted, with_effect, with_receipt, with_change, change_entry}
 use Rattle.register.specs.Counts.{next_stage}
 use Rattle.register.specs.Elections.{election_of}
-use Rattle.register.specs.Parts.{part_entries}
+use Rattle.register.specs.CommandInputs.{input_entries}
 use Rattle.register.specs.Machine.{accepts, keeps, refuses, part_of, objections, subject_of, reply_to, effect_of, receipt_for, judged, answered, decided, ruling_at}
 use Rattle.register.specs.Tabulated.{AdditionEntries, no_addition, addition_entries, with_addition, tabulation_of, SameTabulation, IsCountFor, AddsWhatIsCounted}
 use Rattle.register.specs.Additions.{addition_at, addition_due, IsAddedBy, IsAddedFor, DecidesAddition, IsAddedAt, AddsNoMore}
@@ -137,7 +137,7 @@ module _ (s : OfficeState) (view : View) (command : Command) where
       → IsAccepted s view.actor view.id.now command (change_entry change)
   decided_there change reply shows same =
       is_accepted s view.actor view.id.now command (change_entry change) (string_bytes reply)
-      (sym (same ∙ ruling_on s view.actor view.id.now command (option_map receipt_entry view.receipt) (part_entries view.part) shows.receipt shows.part))
+      (sym (same ∙ ruling_on s view.actor view.id.now command (option_map receipt_entry view.receipt) (input_entries view.part) shows.receipt shows.part))
 
   -- a decision on a view of a state adds what is counted to the tabulation,
   pub adds_counted : (decision : Decision) → IsState s → IsViewOf s command view → ruling_of decision ≡ decided_on view command → DecidesAddition command view.part.count decision

@@ -8,7 +8,7 @@ use Rattle.register.specs.Marks.{columns_of}
 use Rattle.register.specs.Polls.{Pile, ballots_in}
 use Rattle.register.specs.Elections.{ElectionEntry, lot_pair, election_of, has_count, stages_of, is_counted, is_drawn_for, is_declared, is_right_so_far, is_in_count, is_uncounted, is_agreed}
 use Rattle.register.specs.Elections.{is_counted_right}
-use Rattle.register.specs.Items.{all_agreed, all_counted, IsState}
+use Rattle.register.specs.StateConditions.{all_agreed, all_counted, IsState}
 use Rattle.register.proofs.MapLemmas.{list_all_weaker, list_all_both, filter_none, found_passes}
 
 -- ---- the sixth and the seventh condition, for a ward

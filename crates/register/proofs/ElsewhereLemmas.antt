@@ -8,11 +8,11 @@ use Rattle.register.specs.Offices.{WardEntry, CandidateEntry, BatchEntry, ThirdE
 use Rattle.register.specs.Offices.{judged_cmp, lot_cmp, ward_compared, candidate_compared, batch_compared, third_compared, ward_at, candidates_of, batch_at, third_at, keying_of, verdicts_of, lots_of}
 use Rattle.register.specs.declared.phase.Phase.TheVariants.{Keying}
 use Rattle.register.specs.Batches.{ward_for}
-use Rattle.register.specs.Papers.{batches_of, clerks, clerks_of}
+use Rattle.register.specs.Agreement.{batches_of, clerks, clerks_of}
 use Rattle.register.specs.Polls.{Pile, pile_of, piles_of}
-use Rattle.register.specs.Keyed.{is_given_out, are_rounds_to, is_judged}
+use Rattle.register.specs.BatchConditions.{is_given_out, are_rounds_to, is_judged}
 use Rattle.register.specs.Elections.{lot_pair, election_of, is_counted}
-use Rattle.register.specs.Items.{IsState}
+use Rattle.register.specs.StateConditions.{IsState}
 use Rattle.register.specs.Effects.{EffectEntry, ward_added, ward_moved, candidate_added, candidate_withdrawn, batch_added, batch_reopened, third_set, papers_keyed, paper_judged}
 use Rattle.register.specs.Effects.{stage_counted, lot_drawn, in_round, with_effect}
 use Rattle.register.proofs.MapLemmas.{list_all_weaker, filter_put, filter_put_each, filter_without, found_put_other, found_passes, same_number, both_equal, all_but_number}

@@ -11,8 +11,9 @@ use Rattle.register.specs.declared.phase.Phase.TheVariants.{Nominations}
 use Rattle.register.specs.Nominations.{are_enough}
 use Rattle.register.specs.Offices.{put, WardEntry, CandidateEntry, BatchEntry, ThirdEntry, KeyedEntry, JudgedEntry, LotEntry, ReceiptEntry, OfficeState, ward_cmp, candidate_cmp, batch_cmp}
 use Rattle.register.specs.Offices.{third_cmp, keyed_cmp, judged_cmp, lot_cmp, receipt_cmp, ward_compared, ward_at, candidates_of, receipt_at}
-use Rattle.register.specs.Keyed.{is_polled, is_given_out, is_round_of, are_rounds_to}
-use Rattle.register.specs.Items.{is_ward, is_candidate, is_batch, is_third, is_keyed_paper, is_judged_paper, is_lot, is_about, is_receipt, all_nominated, all_given_out, all_keyed, all_judged, IsState}
+use Rattle.register.specs.BatchConditions.{is_polled, is_given_out, is_round_of, are_rounds_to}
+use Rattle.register.specs.StateConditions.{is_ward, is_candidate, is_batch, is_third, is_keyed_paper, is_judged_paper, is_lot}
+use Rattle.register.specs.StateConditions.{is_about, is_receipt, all_nominated, all_given_out, all_keyed, all_judged, IsState}
 use Rattle.register.specs.Elections.{election_of, is_uncounted}
 use Rattle.register.specs.Effects.{EffectEntry, ward_added, with_effect, with_receipt}
 use Rattle.register.proofs.MapLemmas.{IsMap, list_all_weaker, put_all, put_is_map, found_put_too, found_put_still}

@@ -5,11 +5,11 @@ use Rattle.std.proofs.lemmas.List.Folds.{list_all-append}
 use Rattle.std.proofs.lemmas.Bool.{and_parts, and_from}
 use Rattle.register.specs.Offices.{WardEntry, CandidateEntry, BatchEntry, KeyedEntry, JudgedEntry, OfficeState, batch_compared, candidates_of, batch_at, third_at, verdicts_of}
 use Rattle.register.specs.Marks.{columns_of, is_readable}
-use Rattle.register.specs.Papers.{agreed, differ, has_doubtful, is_its_clerk, is_taken, keyings_in, keyings_now, taken_papers}
+use Rattle.register.specs.Agreement.{agreed, differ, has_doubtful, is_its_clerk, is_taken, keyings_in, keyings_now, taken_papers}
 use Rattle.register.specs.Polls.{Pile, pile_of}
-use Rattle.register.specs.Keyed.{is_given_out, is_keyed_for, is_whole, is_round_of, are_rounds_to, is_verdict_on, is_judged}
+use Rattle.register.specs.BatchConditions.{is_given_out, is_keyed_for, is_whole, is_round_of, are_rounds_to, is_verdict_on, is_judged}
 use Rattle.register.specs.Ranges.{is_clerk, is_ward_number, is_batch_number, is_paper_number, is_round}
-use Rattle.register.specs.Items.{is_batch, all_given_out, all_keyed, all_judged, IsState}
+use Rattle.register.specs.StateConditions.{is_batch, all_given_out, all_keyed, all_judged, IsState}
 use Rattle.register.proofs.ThreeKeyingsLemmas.{not_keyed}
 use Rattle.register.proofs.MapLemmas.{list_all_weaker, list_all_both, found_passes}
 

@@ -23,14 +23,14 @@ use Rattle.register.specs.declared.keyings.KeyingCommand.{KeyingCommand}
 use Rattle.register.specs.Reasons.{first_reason}
 use Rattle.register.specs.Subjects.{is_clerk_subject}
 use Rattle.register.specs.Batches.{ward_for, candidates_for, third_for}
-use Rattle.register.specs.Parts.{passes}
+use Rattle.register.specs.CommandInputs.{passes}
 use Rattle.register.specs.Verdicts.{is_rejection_code}
 use Rattle.register.specs.Marks.{columns_of, is_read, is_readable, is_valid, fault_told, marks_objection, first_bad_marks, or_reason}
 use Rattle.register.specs.Ranges.{last_batch, last_round, most_papers, is_clerk, is_batch_number, is_paper_number, is_round}
 use Rattle.register.specs.Offices.{BatchEntry, KeyedEntry, JudgedEntry, OfficeState, put, put_each, entry_at, keyed_cmp, batch_compared, batch_at, third_at, keying_of, verdicts_of}
-use Rattle.register.specs.Papers.{is_keyed, of_three, agreed, differ, has_doubtful, is_its_clerk, clerks_of, keyings_in, keyings_now, taken_papers}
-use Rattle.register.specs.Keyed.{columns_for, is_keyed_for, are_numbered, is_whole, is_round_of, are_rounds_to, is_verdict_for, is_judged}
-use Rattle.register.specs.Items.{is_keyed_paper, IsState}
+use Rattle.register.specs.Agreement.{is_keyed, of_three, agreed, differ, has_doubtful, is_its_clerk, clerks_of, keyings_in, keyings_now, taken_papers}
+use Rattle.register.specs.BatchConditions.{columns_for, is_keyed_for, are_numbered, is_whole, is_round_of, are_rounds_to, is_verdict_for, is_judged}
+use Rattle.register.specs.StateConditions.{is_keyed_paper, IsState}
 use Rattle.register.specs.Effects.{papers_keyed, with_effect}
 use Rattle.register.specs.Tabulated.{tabulation_of}
 use Rattle.register.specs.Keyings.{texts_of, part_of, is_in_range, objections, subject_of, reply_to, papers_from, effect_of}

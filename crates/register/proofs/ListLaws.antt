@@ -6,7 +6,7 @@ use Rattle.std.proofs.lemmas.Bool.{true≢false}
 use Rattle.register.specs.declared.command.Request.{Request}
 use Rattle.std.specs.List.Sorted.{IsStrictlySortedBy}
 use Rattle.register.specs.Offices.{OfficeState, empty_office}
-use Rattle.register.specs.Items.{all_agreed, all_counted, IsState}
+use Rattle.register.specs.StateConditions.{all_agreed, all_counted, IsState}
 use Rattle.register.specs.Machine.{Outcome, accepted, kept, refused, step_of, state_after, is_accepted, after_one, after, accepted_of}
 use Rattle.register.proofs.MachineLemmas.{step_stays}
 use Rattle.std.specs.Prelude.{string_bytes}

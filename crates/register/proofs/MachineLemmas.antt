@@ -14,11 +14,11 @@ use Rattle.register.specs.declared.counts.CountCommand.TheVariants.{Advance, Lot
 use Rattle.register.specs.Reasons.{first_reason}
 use Rattle.register.specs.Ranges.{is_id}
 use Rattle.register.specs.Offices.{OfficeState, ReceiptEntry, receipt_at, entry_at}
-use Rattle.register.specs.Items.{is_receipt, IsState}
+use Rattle.register.specs.StateConditions.{is_receipt, IsState}
 use Rattle.register.specs.Effects.{EffectEntry, with_effect, with_receipt}
-use Rattle.register.specs.Parts.{PartEntries}
+use Rattle.register.specs.CommandInputs.{CommandInputEntries}
 use Rattle.register.specs.Machine.{keeps, refuses, kept, refused, part_of, objections, subject_of, reply_to, effect_of, receipt_for, judged, answered, decided, ruling_at, outcome_at, step}
-use Rattle.register.specs.Machine.{state_after, after, after_one, IsKeptAgain}
+use Rattle.register.specs.Machine.{state_after, after, after_one, RepeatGetsSameReply}
 use Rattle.register.specs.Views.{IsToldAlike, IsAdvanced}
 use Rattle.register.proofs.MapLemmas.{found_put, found_put_new}
 use Rattle.register.proofs.ItemLemmas.{IsFit, receipt_total, receipt_stays, same_receipts}
@@ -43,20 +43,20 @@ fits s actor (Count command) is none = count_fits s actor command is none
 -- ---- a request in a state
 
 -- if there is a receipt, it decides without the part
-alike : (actor : ℕ) (id : List ℕ) (command : Command) (receipt : Option ReceiptEntry) (part other : PartEntries) → (receipt ≡ None → part ≡ other)
+alike : (actor : ℕ) (id : List ℕ) (command : Command) (receipt : Option ReceiptEntry) (part other : CommandInputEntries) → (receipt ≡ None → part ≡ other)
     → decided actor id command receipt part ≡ decided actor id command receipt other
 unfolding decided
 alike actor id command None part other same = ap (decided actor id command None) (same refl)
 alike actor id command (Some receipt) part other same = refl
 
 -- the decision on the receipt of a state, and without one on the state's part, is the decision in that state,
-pub ruling_on : (s : OfficeState) (actor : ℕ) (id : List ℕ) (command : Command) (receipt : Option ReceiptEntry) (part : PartEntries) → receipt ≡ receipt_at s actor id
+pub ruling_on : (s : OfficeState) (actor : ℕ) (id : List ℕ) (command : Command) (receipt : Option ReceiptEntry) (part : CommandInputEntries) → receipt ≡ receipt_at s actor id
     → (receipt_at s actor id ≡ None → part ≡ part_of s actor command)
     → decided actor id command receipt part ≡ ruling_at s actor id command
 ruling_on s actor id command receipt part same_receipt same_part = rw same_receipt (alike actor id command (receipt_at s actor id) part (part_of s actor command) same_part)
 
 -- and makes its step
-pub step_on : (s : OfficeState) (actor : ℕ) (id : List ℕ) (command : Command) (receipt : Option ReceiptEntry) (part : PartEntries) → receipt ≡ receipt_at s actor id
+pub step_on : (s : OfficeState) (actor : ℕ) (id : List ℕ) (command : Command) (receipt : Option ReceiptEntry) (part : CommandInputEntries) → receipt ≡ receipt_at s actor id
     → (receipt_at s actor id ≡ None → part ≡ part_of s actor command)
     → outcome_at s (decided actor id command receipt part) ≡ step s actor id command
 unfolding step
@@ -117,7 +117,7 @@ module _ (s : OfficeState) (actor : ℕ) (id : List ℕ) (command : Command) whe
       go true good (Some r) found = elim (bytes_eq r.subject (subject_of command)) as (λ b. IsState (state_after s (outcome_at s (cond b (keeps r.reply) (refuses IdUsed))))) [ true ↦ is | false ↦ is ]
       go true good None found = judged_stays is good found (first_reason (objections actor command (part_of s actor command))) refl
 
-  judged_again : is_id id ≡ true → receipt_at s actor id ≡ None → (o : Option Reason) → IsKeptAgain actor id command (outcome_at s (judged actor id command (part_of s actor command) o))
+  judged_again : is_id id ≡ true → receipt_at s actor id ≡ None → (o : Option Reason) → RepeatGetsSameReply actor id command (outcome_at s (judged actor id command (part_of s actor command) o))
   unfolding step decided
   judged_again good new (Some why) = tt
   judged_again good new None = λ others.
@@ -130,15 +130,15 @@ module _ (s : OfficeState) (actor : ℕ) (id : List ℕ) (command : Command) whe
       rw good (rw found (rw same refl))
 
   -- an accepted request, repeated, gets the same reply
-  pub accepted_is_kept : IsKeptAgain actor id command (step s actor id command)
+  pub accepted_is_kept : RepeatGetsSameReply actor id command (step s actor id command)
   unfolding step decided
   accepted_is_kept = go (is_id id) refl (receipt_at s actor id) refl
     where
       go : (b : Bool) → is_id id ≡ b → (o : Option ReceiptEntry) → receipt_at s actor id ≡ o
-          → IsKeptAgain actor id command (outcome_at s (cond b (answered actor id command o (part_of s actor command)) (refuses BadId)))
+          → RepeatGetsSameReply actor id command (outcome_at s (cond b (answered actor id command o (part_of s actor command)) (refuses BadId)))
       go false good o found = tt
       go true good (Some r) found =
-          elim (bytes_eq r.subject (subject_of command)) as (λ b. IsKeptAgain actor id command (outcome_at s (cond b (keeps r.reply) (refuses IdUsed)))) [ true ↦ tt | false ↦ tt ]
+          elim (bytes_eq r.subject (subject_of command)) as (λ b. RepeatGetsSameReply actor id command (outcome_at s (cond b (keeps r.reply) (refuses IdUsed)))) [ true ↦ tt | false ↦ tt ]
       go true good None found = judged_again good found (first_reason (objections actor command (part_of s actor command)))
 
 -- ---- the stages of a count
@@ -175,7 +175,7 @@ module _ (s : OfficeState) (actor : ℕ) (id : List ℕ) where
 -- ---- replies to a clerk
 
 -- the reply to an accepted keying is made from the command alone
-pub told_alike : (actor : ℕ) (id : List ℕ) (command : Command) (receipt : Option ReceiptEntry) (part : PartEntries) → IsToldAlike command (decided actor id command receipt part)
+pub told_alike : (actor : ℕ) (id : List ℕ) (command : Command) (receipt : Option ReceiptEntry) (part : CommandInputEntries) → IsToldAlike command (decided actor id command receipt part)
 unfolding decided
 told_alike actor id (Keying command) receipt part = go (is_id id) receipt
   where

@@ -5,7 +5,7 @@ use Rattle.std.proofs.lemmas.Bool.{both_ways, eqb-true, eq-eqb}
 use Rattle.std.proofs.lemmas.List.{reverse-reverse, length-reverse}
 use Rattle.count.specs.Books.{placed}
 use Rattle.count.specs.Bundles.{Bundle, bundled}
-use Rattle.count.specs.Kept.{CountKept, IsKeptOf, places_after}
+use Rattle.count.specs.StoredCounts.{StoredCountEntry, IsStoredCountOf, places_after}
 use Rattle.count.specs.Marks.{figures_at}
 use Rattle.count.specs.Law.Contest.{Contest, History}
 use Rattle.count.specs.Law.Count.{stage_of, with_stage, with_next}
@@ -27,11 +27,11 @@ some_due e None added some each = absurd (cc)
 some_due e (Some action) added some each = each action refl
 
 -- how one more stage changes what was stored: places and stages
-abbrev pub IsNext : Contest → List (ℕ × ℕ) → History → CountKept → List Placed → List Stage → Type 0
+abbrev pub IsNext : Contest → List (ℕ × ℕ) → History → StoredCountEntry → List Placed → List Stage → Type 0
 IsNext contest lots history kept places stages = (places ≡ places_after contest (with_next contest lots history) kept.bundles) × (stages ≡ reverse (with_next contest lots history))
 
-module _ (e : ElectionEntry) (action : Action) (ward : ℕ) (kept : CountKept) (lots : List (ℕ × ℕ)) (places : List Placed) (stages : List Stage)
-    (of : IsKeptOf (contest_of e) (stages_of e) kept) (drawn : lots ≡ e.lots) (own : ward ≡ e.ward.number)
+module _ (e : ElectionEntry) (action : Action) (ward : ℕ) (kept : StoredCountEntry) (lots : List (ℕ × ℕ)) (places : List Placed) (stages : List Stage)
+    (of : IsStoredCountOf (contest_of e) (stages_of e) kept) (drawn : lots ≡ e.lots) (own : ward ≡ e.ward.number)
     (due : next_action (contest_of e) e.lots (stages_of e) ≡ Some action) (next : IsNext (contest_of e) lots (stages_of e) kept places stages) where
   abbrev new : Stage
   new = stage_of (contest_of e) (stages_of e) action

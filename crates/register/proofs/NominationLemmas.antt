@@ -11,8 +11,8 @@ use Rattle.register.specs.declared.phase.Phase.TheVariants.{Nominations}
 use Rattle.register.specs.Phases.{phase_number}
 use Rattle.register.specs.Offices.{changed, WardEntry, CandidateEntry, BatchEntry, OfficeState, ward_cmp, candidate_cmp, ward_compared, candidate_compared, ward_at, candidate_at, candidates_of}
 use Rattle.register.specs.Elections.{election_of, is_counted}
-use Rattle.register.specs.Keyed.{is_polled, is_given_out}
-use Rattle.register.specs.Items.{is_ward, is_candidate, IsState}
+use Rattle.register.specs.BatchConditions.{is_polled, is_given_out}
+use Rattle.register.specs.StateConditions.{is_ward, is_candidate, IsState}
 use Rattle.register.specs.Effects.{candidate_added, candidate_withdrawn, in_phase, at_stage, with_effect}
 use Rattle.register.proofs.MapLemmas.{Keeps, list_all_weaker, put_all, put_is_map, without_all, without_is_map, changed_is_map, changed_at, found_changed, found_key, all_but_number}
 use Rattle.register.proofs.KeyedLemmas.{with_nominations, IsStill, given_out_still, keyed_still, judged_still}

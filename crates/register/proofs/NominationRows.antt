@@ -11,7 +11,7 @@ use Rattle.register.specs.declared.candidates.CandidateCommand.TheVariants.{Add,
 use Rattle.register.specs.declared.refusal.Reason.TheVariants.{NumberOutOfRange, BadName, NoSuchWard, WrongPhase, CandidateExists, NoSuchCandidate, NoCandidates}
 use Rattle.register.specs.Ranges.{is_id}
 use Rattle.register.specs.Offices.{CandidateEntry, ReceiptEntry, OfficeState, empty_office}
-use Rattle.register.specs.Items.{all_nominated, all_counted}
+use Rattle.register.specs.StateConditions.{all_nominated, all_counted}
 use Rattle.count.specs.Law.Count.{stages_to}
 use Rattle.register.specs.Wards as wards
 use Rattle.register.specs.Candidates as candidates

@@ -6,7 +6,7 @@ use Rattle.register.specs.declared.refusal.Reason.{Reason}
 use Rattle.register.specs.Phases.{phase_number}
 use Rattle.register.specs.Reasons.{objection, first_reason}
 use Rattle.register.specs.Offices.{WardEntry}
-use Rattle.register.specs.Parts.{is_in_phase}
+use Rattle.register.specs.CommandInputs.{is_in_phase}
 
 -- if there is no first objection, there is none in any place
 pub no_objection : (os : List (Option Reason)) → first_reason os ≡ None → (place : ℕ) → get_or os place None ≡ None

@@ -2,7 +2,7 @@
 use Rattle.std.proofs.Common.{◌≡◌, ◌≢◌, ◌&&◌, ℕ, Bool, true, false, suc, length, List, [], ◌∷◌, refl, ap}
 use Rattle.std.specs.Str.{bytes_eq}
 use Rattle.register.specs.Offices.{KeyedEntry}
-use Rattle.register.specs.Papers.{same_marks}
+use Rattle.register.specs.Agreement.{same_marks}
 use Rattle.register.specs.Repeats.{has_texts}
 
 -- keyings of different lengths don't have the same marks

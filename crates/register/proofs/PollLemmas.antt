@@ -6,7 +6,7 @@ use Rattle.std.proofs.lemmas.List.Concat.{flat_map-append}
 use Rattle.std.proofs.lemmas.List.Folds.{list_all-append}
 use Rattle.register.specs.declared.polls.Judgement.{Judgement}
 use Rattle.register.specs.declared.polls.Ballots.{Ballots}
-use Rattle.register.specs.Papers.{are_taken}
+use Rattle.register.specs.Agreement.{are_taken}
 use Rattle.register.specs.Offices.{BatchEntry, OfficeState, verdicts_of}
 use Rattle.register.specs.Polls.{Pile, pile_of, BallotsEntry, is_settled, judgements_on, judgements_in, judgements, settled_papers, settled_judgements, preferences_by, is_rejected}
 use Rattle.register.specs.Polls.{rejected_with, ballots_in, ballots_by, StandFor}

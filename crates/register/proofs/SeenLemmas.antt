@@ -20,14 +20,14 @@ use Rattle.register.specs.Ranges.{is_id, is_office}
 use Rattle.register.specs.Offices.{WardEntry, BatchEntry, KeyedEntry, ReceiptEntry, OfficeState, put, put_each, entry_at, keyed_cmp, receipt_cmp, ward_compared, ward_at, batch_at, third_at}
 use Rattle.register.specs.Offices.{keying_of, receipt_at}
 use Rattle.register.specs.Seen.{seen_by}
-use Rattle.register.specs.Items.{IsState}
+use Rattle.register.specs.StateConditions.{IsState}
 use Rattle.register.specs.Effects.{at_stage, with_change}
 use Rattle.register.specs.Batches.{ward_for}
 use Rattle.register.specs.Keyings as keyings
 use Rattle.register.specs.Keyings.{texts_of, papers_from}
-use Rattle.register.specs.Parts.{PartEntries, is_in_phase}
-use Rattle.register.specs.Papers.{is_keyed, is_its_clerk}
-use Rattle.register.specs.Standings.{BallotPaperEntry, WorkEntry, is_work, work_on, work_of, paper_of, paper_for, paper_at}
+use Rattle.register.specs.CommandInputs.{CommandInputEntries, is_in_phase}
+use Rattle.register.specs.Agreement.{is_keyed, is_its_clerk}
+use Rattle.register.specs.Status.{BallotPaperEntry, WorkEntry, is_work, work_on, work_of, paper_of, paper_for, paper_at}
 use Rattle.register.specs.Machine.{Ruling, keeps, refuses, part_of, objections, subject_of, receipt_for, judged, answered, decided, ruling_at, outcome_at, step, state_after}
 use Rattle.register.proofs.MapLemmas.{filter_put, filter_put_in, filter_put_each, found_filter, same_number, both_equal}
 use Rattle.register.proofs.ItemLemmas.{receipt_total}
@@ -38,7 +38,7 @@ use Rattle.register.proofs.KeyingLemmas.{keyed_among}
 -- commands other than a keying are refused to anyone but the office, in any state
 data IsOwn : Command → Type 0 where
   key : (command : KeyingCommand) → IsOwn (Key command)
-  not_his : (command : Command) → ((part : PartEntries) (actor : ℕ) → is_office actor ≡ false → first_reason (objections actor command part) ≡ Some NumberOutOfRange) → IsOwn command
+  not_his : (command : Command) → ((part : CommandInputEntries) (actor : ℕ) → is_office actor ≡ false → first_reason (objections actor command part) ≡ Some NumberOutOfRange) → IsOwn command
 
 kind_of : (command : Command) → IsOwn command
 kind_of (Key command) = key command
@@ -90,7 +90,7 @@ module _ (s : OfficeState) (actor : ℕ) where
       by_batch (Some b) = ward_seen b.ward
 
 -- the stages done don't affect the objections to a keying
-objections_alike : (actor : ℕ) (command : KeyingCommand) (part : PartEntries) (ward : Option WardEntry)
+objections_alike : (actor : ℕ) (command : KeyingCommand) (part : CommandInputEntries) (ward : Option WardEntry)
     → keyings.objections actor command (record part { ward = option_map (at_stage 0) ward }) ≡ keyings.objections actor command (record part { ward = ward })
 objections_alike actor command part None = refl
 objections_alike actor command part (Some w) = refl
@@ -107,7 +107,7 @@ judged_alike s actor id command other_actor = go command (kind_of command)
     go command (not_his _ refused) = rw (refused (part_of (seen_by actor s) actor command) actor other_actor) (rw (refused (part_of s actor command) actor other_actor) refl)
     go (Key command) (key _) =
         let part = keyings.part_of s actor command in
-        ap (λ (p : PartEntries). judged actor id (Key command) p (first_reason (keyings.objections actor command p))) (part_seen s actor command)
+        ap (λ (p : CommandInputEntries). judged actor id (Key command) p (first_reason (keyings.objections actor command p))) (part_seen s actor command)
         ∙ ap (λ (os : List (Option Reason)). judged actor id (Key command) part (first_reason os)) (objections_alike actor command part (ward_for s (batch_at s command.batch)))
 
 -- the decision for a clerk depends only on what they see

@@ -21,7 +21,7 @@ use Rattle.count.proofs.BundleLemmas.{rise-with_papers}
 use Rattle.register.specs.Offices.{WardEntry, OfficeState, entry_at, ward_at}
 use Rattle.register.specs.Marks.{columns_of}
 use Rattle.register.specs.Elections.{ElectionEntry, election_of, stages_of}
-use Rattle.register.specs.Items.{IsState}
+use Rattle.register.specs.StateConditions.{IsState}
 use Rattle.register.specs.Tabulated.{PlacedEntry, FigureEntry, TabulationRises, placed_cmp, figure_cmp, has_stages, placed_after, bundles_in, figure_at, figures_to, figures_in, tabulation_of}
 use Rattle.register.proofs.MapLemmas.{each_weaker, same_number, other_number}
 use Rattle.register.proofs.ContestLemmas.{columns_are_set}

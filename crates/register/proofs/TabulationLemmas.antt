@@ -12,7 +12,7 @@ use Rattle.register.specs.Offices.{WardEntry, LotEntry, OfficeState, ward_cmp, w
 use Rattle.register.specs.Marks.{columns_of}
 use Rattle.register.specs.Elections.{ElectionEntry, election_of, has_count, contest_of, stages_of, is_uncounted}
 use Rattle.register.specs.Effects.{EffectEntry, ward_added, ward_moved, stage_counted, in_phase, with_effect}
-use Rattle.register.specs.Items.{IsState}
+use Rattle.register.specs.StateConditions.{IsState}
 use Rattle.register.specs.Tabulated.{PlacedEntry, FigureEntry, TabulationEntries, has_stages, placed_at, bundles_in, figures_to, figures_in, tabulation_of}
 use Rattle.register.proofs.MapLemmas.{found_passes}
 use Rattle.register.proofs.SplitLemmas.{flat_put, flat_changed, are_others, IsSplit, split_at}

@@ -6,8 +6,8 @@ use Rattle.std.specs.Str.{bytes_eq}
 use Rattle.std.proofs.lemmas.Bool.{and_parts, and_from, eqb-true}
 use Rattle.std.proofs.lemmas.Slice.Eq.{bytes_eq-Decides}
 use Rattle.register.specs.Offices.{BatchEntry, ThirdEntry, KeyedEntry, put}
-use Rattle.register.specs.Papers.{is_keyed, of_three, same_marks, agreed, is_doubtful, is_found_doubtful, has_doubtful, clerks}
-use Rattle.register.specs.Keyed.{are_numbered, is_whole}
+use Rattle.register.specs.Agreement.{is_keyed, of_three, same_marks, agreed, is_doubtful, is_found_doubtful, has_doubtful, clerks}
+use Rattle.register.specs.BatchConditions.{are_numbered, is_whole}
 use Rattle.register.proofs.AgreedLemmas.{agreed_three}
 
 -- the keyings of some clerks that exist, given what each keyed

@@ -10,7 +10,7 @@ use Rattle.std.proofs.lemmas.List.Kept.{IsStrictlySortedBy-filter}
 use Rattle.std.proofs.lemmas.Str.Ascii.{IsAscii-cons}
 use Rattle.votes.specs.Text.{last_digit, fraction_text, votes_text}
 use Rattle.votes.specs.Units.{max_papers, quota_of}
-use Rattle.paper.specs.Columns.{IsColumn, IsColumnSet, with_column, max_candidates}
+use Rattle.paper.specs.Columns.{IsColumn, IsCandidateSet, with_column, max_candidates}
 use Rattle.count.specs.Law.Contest.{Contest, History}
 use Rattle.count.specs.Law.Due.{due_after, drawn}
 use Rattle.count.specs.declared.stages.Action.{Action}
@@ -24,11 +24,11 @@ use Rattle.count.specs.Actions.{action_text}
 use Rattle.register.specs.Texts.{behind, listed}
 use Rattle.register.specs.Offices.{CandidateEntry, OfficeState, batch_cmp, batch_at}
 use Rattle.register.specs.Marks.{and_column, columns_of}
-use Rattle.register.specs.Papers.{batches_of}
+use Rattle.register.specs.Agreement.{batches_of}
 use Rattle.register.specs.Polls.{Pile, piles_of, judgements, preferences_by, is_rejected, rejected_with, ballots_in, poll_of, all_rejected}
 use Rattle.register.specs.Counts.{poll_told}
-use Rattle.register.specs.Keyed.{is_keyed_for, are_rounds_to}
-use Rattle.register.specs.Items.{is_batch, IsState}
+use Rattle.register.specs.BatchConditions.{is_keyed_for, are_rounds_to}
+use Rattle.register.specs.StateConditions.{is_batch, IsState}
 use Rattle.register.proofs.LineLemmas.{IsLine, given, line_append, line_decimal, line_number, line_within, not_equal}
 use Rattle.register.proofs.MapLemmas.{kept_all}
 use Rattle.register.proofs.ItemLemmas.{batch_map, maps_of}
@@ -91,7 +91,7 @@ exclusion_line contest stages c column true =
 exclusion_line contest stages c column false = line_within (line_append (given (codes "exclusion of ") refl) (candidate_line c column)) (omega arith)
 
 -- the next action
-pub action_line : (contest : Contest) (stages : History) (lot : Option ℕ) (action : Action) → IsColumnSet contest.candidates → drawn contest stages lot (due_after contest stages) ≡ Some action
+pub action_line : (contest : Contest) (stages : History) (lot : Option ℕ) (action : Action) → IsCandidateSet contest.candidates → drawn contest stages lot (due_after contest stages) ≡ Some action
     → IsLine 40 (action_text action)
 action_line contest [] lot action set next =
     subst (λ (a : Action). IsLine 40 (action_text a)) (sym (step-first contest lot action next)) (line_within (given (codes "first preferences") refl) (omega arith))

@@ -25,9 +25,9 @@ use Rattle.register.specs.Ranges.{is_between}
 use Rattle.register.specs.Offices.{WardEntry, BatchEntry, KeyedEntry, JudgedEntry, OfficeState, batch_cmp, batch_compared, batch_at, candidates_of, third_at, keying_of, verdicts_of}
 use Rattle.register.specs.Marks.{columns_of, is_read, is_readable, is_judged_valid, is_valid}
 use Rattle.register.specs.Verdicts.{is_rejection_code}
-use Rattle.register.specs.Papers.{is_keyed, is_doubtful, has_verdict, is_open, is_its_clerk, has_doubtful, are_taken, clerks_of, keyings_now, taken_papers, batches_of}
-use Rattle.register.specs.Keyed.{columns_for, is_keyed_for, is_whole, are_rounds_to, is_verdict_on, is_judged}
-use Rattle.register.specs.Items.{is_batch, IsState}
+use Rattle.register.specs.Agreement.{is_keyed, is_doubtful, has_verdict, is_open, is_its_clerk, has_doubtful, are_taken, clerks_of, keyings_now, taken_papers, batches_of}
+use Rattle.register.specs.BatchConditions.{columns_for, is_keyed_for, is_whole, are_rounds_to, is_verdict_on, is_judged}
+use Rattle.register.specs.StateConditions.{is_batch, IsState}
 use Rattle.register.specs.Polls.{Pile, pile_of, piles_of, is_settled, by_rejection, by_reading, by_verdict, judgement_on, judgements_on, judgements_in, judgements, preferences_by}
 use Rattle.register.specs.Polls.{is_rejected, rejected_with, all_rejected}
 use Rattle.register.specs.Elections.{election_of}

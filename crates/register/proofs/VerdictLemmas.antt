@@ -16,9 +16,9 @@ use Rattle.register.specs.Ranges.{last_batch, most_papers, is_office, is_batch_n
 use Rattle.register.specs.Subjects.{is_office_subject}
 use Rattle.register.specs.Offices.{BatchEntry, JudgedEntry, OfficeState, put, judged_cmp, batch_at, verdict_at}
 use Rattle.register.specs.Marks.{columns_of, is_valid}
-use Rattle.register.specs.Papers.{agreed, has_doubtful, taken_papers}
-use Rattle.register.specs.Keyed.{columns_for, is_verdict_for}
-use Rattle.register.specs.Items.{is_judged_paper, IsState}
+use Rattle.register.specs.Agreement.{agreed, has_doubtful, taken_papers}
+use Rattle.register.specs.BatchConditions.{columns_for, is_verdict_for}
+use Rattle.register.specs.StateConditions.{is_judged_paper, IsState}
 use Rattle.register.specs.Effects.{paper_judged, with_effect}
 use Rattle.register.specs.Batches.{ward_for, candidates_for, keyings_for}
 use Rattle.register.specs.Verdicts.{part_of, is_in_range, is_verdict, objections, subject_of, verdict_word, reply_to, judged_as, effect_of}

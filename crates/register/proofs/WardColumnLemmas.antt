@@ -13,7 +13,7 @@ use Rattle.paper.specs.Columns.{with_column}
 use Rattle.register.specs.Ranges.{is_ward_number, is_candidate_number, is_name}
 use Rattle.register.specs.Offices.{CandidateEntry, OfficeState, candidate_cmp, candidates_of}
 use Rattle.register.specs.Marks.{and_column, columns_of}
-use Rattle.register.specs.Items.{is_candidate, IsState}
+use Rattle.register.specs.StateConditions.{is_candidate, IsState}
 use Rattle.register.proofs.MapLemmas.{kept_all}
 use Rattle.register.proofs.ItemLemmas.{candidate_map, maps_of}
 

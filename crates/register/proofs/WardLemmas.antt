@@ -12,7 +12,7 @@ use Rattle.register.specs.Ranges.{last_ward, is_office, is_ward_number, is_seat_
 use Rattle.register.specs.Subjects.{is_office_subject}
 use Rattle.register.specs.Offices.{WardEntry, CandidateEntry, OfficeState, ward_compared, ward_at, candidates_of}
 use Rattle.register.specs.Nominations.{is_contested, is_stood_in}
-use Rattle.register.specs.Items.{is_ward, IsState}
+use Rattle.register.specs.StateConditions.{is_ward, IsState}
 use Rattle.register.specs.Effects.{in_phase, with_effect}
 use Rattle.register.specs.Wards.{part_of, is_in_range, objections, is_to_be_polled, closed_phase, subject_of, reply_to, effect_of}
 use Rattle.register.proofs.LineLemmas.{is_plain-decimal, IsLine, words, line_append, line_number, line_reply, line_text}

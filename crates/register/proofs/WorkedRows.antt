@@ -5,7 +5,7 @@ use Rattle.std.specs.Char.{encode_utf8}
 use Rattle.std.specs.Str.{chars, is_utf8}
 use Rattle.register.specs.Ranges.{is_name, is_id}
 use Rattle.register.specs.Texts.{listed}
-use Rattle.register.specs.Papers.{same_marks}
+use Rattle.register.specs.Agreement.{same_marks}
 use Rattle.register.specs.Marks.{first_bad_marks}
 use Rattle.register.specs.Wards as wards
 use Rattle.register.specs.Candidates as candidates

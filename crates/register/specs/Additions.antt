@@ -16,7 +16,7 @@ use Rattle.register.specs.declared.counts.CountCommand.TheVariants.{Advance}
 use Rattle.register.specs.declared.decision.Decision.{Decision}
 use Rattle.register.specs.declared.decision.Decision.TheVariants.{Accepted, Kept, Refused}
 use Rattle.register.specs.declared.elections.Count.{Count as CountValue}
-use Rattle.register.specs.declared.tabulated.Addition.{Addition}
+use Rattle.register.specs.declared.tabulations.Addition.{Addition}
 use Rattle.register.specs.Marks.{columns_of}
 use Rattle.register.specs.Offices.{WardEntry, OfficeState, ward_at}
 use Rattle.register.specs.Elections.{ElectionEntry, election_of, contest_of, stages_of}

@@ -18,7 +18,7 @@ use Rattle.register.specs.Offices.{WardEntry, OfficeState, ward_at, candidate_at
 use Rattle.register.specs.Polls.{PollEntry, poll_of, all_rejected}
 use Rattle.register.specs.Elections.{election_of, due_of, elected_of, has_finished, is_among}
 use Rattle.register.specs.Effects.{EffectEntry, ward_moved, stage_counted, lot_drawn}
-use Rattle.register.specs.Parts.{PartEntries, empty_part, phase_objections}
+use Rattle.register.specs.CommandInputs.{CommandInputEntries, empty_input, phase_objections}
 
 -- ---- the part of the state that belongs to a ward, if there is one
 
@@ -38,12 +38,12 @@ elected_for s (Some w) = elected_of (election_of s w)
 -- ---- the commands
 
 -- the part of the state that each command needs
-abbrev pub part_of : OfficeState → ℕ → CountCommand → PartEntries
-part_of s actor (Seal ward) = record empty_part { ward = ward_at s ward; poll = poll_for s (ward_at s ward) }
-part_of s actor (Advance ward) = record empty_part { ward = ward_at s ward; due = due_for s (ward_at s ward); elected = elected_for s (ward_at s ward) }
+abbrev pub part_of : OfficeState → ℕ → CountCommand → CommandInputEntries
+part_of s actor (Seal ward) = record empty_input { ward = ward_at s ward; poll = poll_for s (ward_at s ward) }
+part_of s actor (Advance ward) = record empty_input { ward = ward_at s ward; due = due_for s (ward_at s ward); elected = elected_for s (ward_at s ward) }
 part_of s actor (Lot ward stage candidate) =
-    record empty_part { ward = ward_at s ward; candidate = candidate_at s ward candidate; due = due_for s (ward_at s ward); elected = elected_for s (ward_at s ward) }
-part_of s actor (Declare ward) = record empty_part { ward = ward_at s ward; due = due_for s (ward_at s ward); elected = elected_for s (ward_at s ward) }
+    record empty_input { ward = ward_at s ward; candidate = candidate_at s ward candidate; due = due_for s (ward_at s ward); elected = elected_for s (ward_at s ward) }
+part_of s actor (Declare ward) = record empty_input { ward = ward_at s ward; due = due_for s (ward_at s ward); elected = elected_for s (ward_at s ward) }
 
 -- the numbers are in range and the actor may send the command
 abbrev pub is_in_range : ℕ → CountCommand → Bool
@@ -79,7 +79,7 @@ phase_for (Lot ward stage candidate) = Sealed
 phase_for (Declare ward) = Sealed
 
 -- the objections to each command apart from those to its numbers and to the ward
-abbrev pub own_objections : CountCommand → PartEntries → List (Option Reason)
+abbrev pub own_objections : CountCommand → CommandInputEntries → List (Option Reason)
 own_objections (Seal ward) part = objection (not (is_ready part.poll)) NotReady ∷ []
 own_objections (Advance ward) part = objection (has_finished part.due) CountFinished ∷ lot_objection part.due ∷ []
 own_objections (Lot ward stage candidate) part =
@@ -87,7 +87,7 @@ own_objections (Lot ward stage candidate) part =
 own_objections (Declare ward) part = objection (not (has_finished part.due)) CountNotFinished ∷ []
 
 -- the objections to each command, in the order of the reasons' numbers
-abbrev pub objections : ℕ → CountCommand → PartEntries → List (Option Reason)
+abbrev pub objections : ℕ → CountCommand → CommandInputEntries → List (Option Reason)
 objections actor command part =
     objection (not (is_in_range actor command)) NumberOutOfRange ∷ phase_objections (phase_for command) part.ward ++ own_objections command part
 
@@ -98,7 +98,7 @@ subject_of (Advance ward) = codes "advance " ++ decimal ward
 subject_of (Lot ward stage candidate) = codes "lot " ++ (decimal ward ++ (codes " " ++ decimal stage))
 subject_of (Declare ward) = codes "declare " ++ decimal ward
 
--- the stage that follows this number of stages, at most the last that a count may have
+-- the number of the stage after this many, capped at the last that a count can have
 abbrev pub stage_after : ℕ → ℕ
 stage_after done = if nat_le last_lot_stage done then done else done + 1
 
@@ -120,14 +120,14 @@ action_told (Some (lot_due stage kind tied)) = []
 action_told (Some Finished) = []
 
 -- the reply to an accepted command
-unfoldable pub reply_to : CountCommand → PartEntries → List ℕ
+unfoldable pub reply_to : CountCommand → CommandInputEntries → List ℕ
 reply_to (Seal ward) part = codes "ward " ++ (decimal ward ++ poll_told part.poll)
 reply_to (Advance ward) part = codes "ward " ++ (decimal ward ++ (codes " stage " ++ (decimal (next_stage part.ward) ++ (codes " " ++ action_told part.due))))
 reply_to (Lot ward stage candidate) part = codes "lot at ward " ++ (decimal ward ++ (codes " stage " ++ (decimal stage ++ (codes ": candidate " ++ decimal candidate))))
 reply_to (Declare ward) part = codes "ward " ++ (decimal ward ++ (codes " declared: " ++ listed part.elected))
 
 -- the effect of an accepted command
-abbrev pub effect_of : CountCommand → PartEntries → EffectEntry
+abbrev pub effect_of : CountCommand → CommandInputEntries → EffectEntry
 effect_of (Seal ward) part = ward_moved ward Sealed
 effect_of (Advance ward) part = stage_counted ward (next_stage part.ward)
 effect_of (Lot ward stage candidate) part = lot_drawn (record { ward = ward; stage = stage; candidate = candidate })

@@ -36,7 +36,7 @@ election_of s w =
     record { ward = w; candidates = candidates; ballots = ballots_in (columns_of candidates) (piles_of s w.number); lots = map lot_pair (lots_of s w.number) }
 
 -- an election consists of these, its papers collected in bundles
-pub record IsMadeOf (entry : ElectionEntry) (ward : WardEntry) (candidates : List CandidateEntry) (ballots : Ballots (List Bundle)) (lots : List (ℕ × ℕ)) : Type 0 where
+pub record IsElectionFrom (entry : ElectionEntry) (ward : WardEntry) (candidates : List CandidateEntry) (ballots : Ballots (List Bundle)) (lots : List (ℕ × ℕ)) : Type 0 where
   pub ward_is : ward ≡ entry.ward
   pub candidates_are : candidates ≡ entry.candidates
   pub ballots_are : StandFor are_bundled ballots entry.ballots
@@ -44,7 +44,7 @@ pub record IsMadeOf (entry : ElectionEntry) (ward : WardEntry) (candidates : Lis
 
 -- a value of the program represents this election
 abbrev pub IsElection : Election → ElectionEntry → Type 0
-IsElection e entry = IsMadeOf entry (ward_entry e.ward) (map candidate_entry e.candidates.items) e.ballots e.lots.items
+IsElection e entry = IsElectionFrom entry (ward_entry e.ward) (map candidate_entry e.candidates.items) e.ballots e.lots.items
 
 -- ---- the count
 

@@ -8,10 +8,10 @@ use Rattle.register.specs.Reasons.{objection}
 use Rattle.register.specs.Ranges.{is_clerk, is_batch_number, is_round}
 use Rattle.register.specs.Offices.{KeyedEntry, OfficeState, batch_at, keying_of}
 use Rattle.register.specs.Marks.{columns_of, first_bad_marks}
-use Rattle.register.specs.Papers.{is_keyed, is_its_clerk}
+use Rattle.register.specs.Agreement.{is_keyed, is_its_clerk}
 use Rattle.register.specs.Batches.{ward_for, candidates_for, third_for}
 use Rattle.register.specs.Effects.{EffectEntry, papers_keyed}
-use Rattle.register.specs.Parts.{PartEntries, empty_part, batch_objections, passes}
+use Rattle.register.specs.CommandInputs.{CommandInputEntries, empty_input, batch_objections, passes}
 
 -- the marks texts, in the order of the papers
 abbrev pub texts_of : KeyingCommand → List (List ℕ)
@@ -22,9 +22,9 @@ abbrev pub IsNumbered : KeyingCommand → Type 0
 IsNumbered command = length command.papers.items < 2 ^ 32
 
 -- the part of the state that it needs: among the keyings only the actor's own
-abbrev pub part_of : OfficeState → ℕ → KeyingCommand → PartEntries
+abbrev pub part_of : OfficeState → ℕ → KeyingCommand → CommandInputEntries
 part_of s actor command =
-    record empty_part {
+    record empty_input {
       ward = ward_for s (batch_at s command.batch);
       candidates = candidates_for s (batch_at s command.batch);
       batch = batch_at s command.batch;
@@ -37,7 +37,7 @@ abbrev pub is_in_range : ℕ → KeyingCommand → Bool
 is_in_range actor command = is_clerk actor && (is_batch_number command.batch && is_round command.round)
 
 -- the objections to it, in the order of the reasons' numbers
-abbrev pub objections : ℕ → KeyingCommand → PartEntries → List (Option Reason)
+abbrev pub objections : ℕ → KeyingCommand → CommandInputEntries → List (Option Reason)
 objections actor command part =
     objection (not (is_in_range actor command)) NumberOutOfRange
     ∷ batch_objections part

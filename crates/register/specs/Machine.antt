@@ -10,7 +10,7 @@ use Rattle.register.specs.Reasons.{first_reason}
 use Rattle.register.specs.Ranges.{is_id}
 use Rattle.register.specs.Offices.{ReceiptEntry, OfficeState, receipt_at}
 use Rattle.register.specs.Effects.{EffectEntry, ChangeEntry, with_change}
-use Rattle.register.specs.Parts.{PartEntries}
+use Rattle.register.specs.CommandInputs.{CommandInputEntries}
 use Rattle.register.specs.Wards as wards
 use Rattle.register.specs.Candidates as candidates
 use Rattle.register.specs.Batches as batches
@@ -21,7 +21,7 @@ use Rattle.register.specs.Counts as counts
 -- ---- the commands, by subject
 
 -- the part of the state that an actor's command needs
-abbrev pub part_of : OfficeState → ℕ → Command → PartEntries
+abbrev pub part_of : OfficeState → ℕ → Command → CommandInputEntries
 part_of s actor (Ward command) = wards.part_of s actor command
 part_of s actor (Candidate command) = candidates.part_of s actor command
 part_of s actor (Batch command) = batches.part_of s actor command
@@ -30,7 +30,7 @@ part_of s actor (Verdict command) = verdicts.part_of s actor command
 part_of s actor (Count command) = counts.part_of s actor command
 
 -- the objections to it, in the order of the reasons' numbers
-abbrev pub objections : ℕ → Command → PartEntries → List (Option Reason)
+abbrev pub objections : ℕ → Command → CommandInputEntries → List (Option Reason)
 objections actor (Ward command) part = wards.objections actor command part
 objections actor (Candidate command) part = candidates.objections actor command part
 objections actor (Batch command) part = batches.objections actor command part
@@ -53,7 +53,7 @@ subject_of (Verdict command) = verdicts.subject_of command
 subject_of (Count command) = counts.subject_of command
 
 -- the reply to it if it is accepted
-abbrev pub reply_to : Command → PartEntries → List ℕ
+abbrev pub reply_to : Command → CommandInputEntries → List ℕ
 reply_to (Ward command) part = wards.reply_to command part
 reply_to (Candidate command) part = candidates.reply_to command part
 reply_to (Batch command) part = batches.reply_to command part
@@ -62,7 +62,7 @@ reply_to (Verdict command) part = verdicts.reply_to command
 reply_to (Count command) part = counts.reply_to command part
 
 -- the effect of it if it is accepted
-abbrev pub effect_of : ℕ → Command → PartEntries → EffectEntry
+abbrev pub effect_of : ℕ → Command → CommandInputEntries → EffectEntry
 effect_of actor (Ward command) part = wards.effect_of command part
 effect_of actor (Candidate command) part = candidates.effect_of command part
 effect_of actor (Batch command) part = batches.effect_of command part
@@ -79,21 +79,21 @@ pub data Ruling : Type 0 where
   refuses : Reason → Ruling
 
 -- the receipt of an accepted request
-abbrev pub receipt_for : ℕ → List ℕ → Command → PartEntries → ReceiptEntry
+abbrev pub receipt_for : ℕ → List ℕ → Command → CommandInputEntries → ReceiptEntry
 receipt_for actor id command part = record { actor = actor; id = id; subject = subject_of command; reply = reply_to command part }
 
 -- a new request is refused for the first objection to it, or accepted
-abbrev pub judged : ℕ → List ℕ → Command → PartEntries → Option Reason → Ruling
+abbrev pub judged : ℕ → List ℕ → Command → CommandInputEntries → Option Reason → Ruling
 judged actor id command part (Some why) = refuses why
 judged actor id command part None = accepts (record { effect = effect_of actor command part; receipt = receipt_for actor id command part }) (reply_to command part)
 
 -- a request whose id has a receipt gets its reply, or is refused if that has another subject
-abbrev pub answered : ℕ → List ℕ → Command → Option ReceiptEntry → PartEntries → Ruling
+abbrev pub answered : ℕ → List ℕ → Command → Option ReceiptEntry → CommandInputEntries → Ruling
 answered actor id command (Some receipt) part = if bytes_eq receipt.subject (subject_of command) then keeps receipt.reply else refuses IdUsed
 answered actor id command None part = judged actor id command part (first_reason (objections actor command part))
 
 -- a request with a bad id is refused first
-unfoldable pub decided : ℕ → List ℕ → Command → Option ReceiptEntry → PartEntries → Ruling
+unfoldable pub decided : ℕ → List ℕ → Command → Option ReceiptEntry → CommandInputEntries → Ruling
 decided actor id command receipt part = if is_id id then answered actor id command receipt part else refuses BadId
 
 -- ---- the step
@@ -145,10 +145,10 @@ abbrev pub after : OfficeState → List Request → OfficeState
 after = fold after_one
 
 -- an accepted request, repeated after any other requests, gets the same reply and changes nothing more
-abbrev pub IsKeptAgain : ℕ → List ℕ → Command → Outcome → Type 0
-IsKeptAgain actor id command (accepted next reply) = (others : List Request) → step (after next others) actor id command ≡ kept reply
-IsKeptAgain actor id command (kept reply) = ⊤
-IsKeptAgain actor id command (refused why) = ⊤
+abbrev pub RepeatGetsSameReply : ℕ → List ℕ → Command → Outcome → Type 0
+RepeatGetsSameReply actor id command (accepted next reply) = (others : List Request) → step (after next others) actor id command ≡ kept reply
+RepeatGetsSameReply actor id command (kept reply) = ⊤
+RepeatGetsSameReply actor id command (refused why) = ⊤
 
 -- the requests of a list that are accepted, each in the state that those before it lead to
 abbrev pub accepted_of : OfficeState → List Request → List Request

@@ -241,7 +241,7 @@ abbrev pub receipt_at : OfficeState → ℕ → List ℕ → Option ReceiptEntry
 receipt_at s actor id = entry_at (λ r. ordering_then (nat_cmp actor r.actor) (slice_cmp nat_cmp id r.id)) s.receipts
 
 -- every map is in the order of its keys, without duplicates
-pub record MapsRise (s : OfficeState) : Type 0 where
+pub record MapsAreSorted (s : OfficeState) : Type 0 where
   pub wards : IsStrictlySortedBy ward_cmp s.wards
   pub candidates : IsStrictlySortedBy candidate_cmp s.candidates
   pub batches : IsStrictlySortedBy batch_cmp s.batches

@@ -18,7 +18,7 @@ use Rattle.register.specs.declared.polls.Judgement.TheVariants.{Valid, Rejected,
 use Rattle.register.specs.declared.polls.Ballots.{Ballots}
 use Rattle.register.specs.declared.polls.PollTally.{PollTally}
 use Rattle.register.specs.Offices.{BatchEntry, ThirdEntry, KeyedEntry, JudgedEntry, OfficeState, third_at, keying_of, verdicts_of}
-use Rattle.register.specs.Papers.{agreed, are_taken, is_open, keyings_now, taken_papers, batches_of}
+use Rattle.register.specs.Agreement.{agreed, are_taken, is_open, keyings_now, taken_papers, batches_of}
 
 -- ---- the papers of a batch
 

@@ -19,7 +19,7 @@ use Rattle.register.specs.declared.counts.CountCommand.TheVariants as counts
 use Rattle.register.specs.Offices.{WardEntry, CandidateEntry, BatchEntry, KeyedEntry, JudgedEntry, LotEntry, ReceiptEntry, OfficeState}
 use Rattle.register.specs.Offices.{ward_at, candidate_at, batch_at, third_at, keying_of, verdict_at, lots_of}
 use Rattle.register.specs.Candidates.{subject_of}
-use Rattle.register.specs.Papers.{is_third_clerk}
+use Rattle.register.specs.Agreement.{is_third_clerk}
 use Rattle.register.specs.Keyings.{texts_of}
 use Rattle.register.specs.Verdicts.{judged_as}
 

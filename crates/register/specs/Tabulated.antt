@@ -6,7 +6,7 @@ use Rattle.std.specs.Ordering.{nat_cmp, on, then_cmp, is_eq}
 use Rattle.std.specs.Cmp.Lexicographic.{slice_cmp}
 use Rattle.std.specs.declared.cmp.Ordering.{Ordering}
 use Rattle.count.specs.Bundles.{Bundle, bundled, AreBundles}
-use Rattle.count.specs.Kept.{IsKeptOf}
+use Rattle.count.specs.StoredCounts.{IsStoredCountOf}
 use Rattle.count.specs.Marks.{figures_at}
 use Rattle.count.specs.Law.Contest.{History, IsContest}
 use Rattle.count.specs.Law.Places.{Place, place}
@@ -18,10 +18,10 @@ use Rattle.register.specs.declared.counts.CountCommand.TheVariants.{Advance}
 use Rattle.register.specs.declared.decision.Decision.{Decision}
 use Rattle.register.specs.declared.decision.Decision.TheVariants.{Accepted, Kept, Refused}
 use Rattle.register.specs.declared.decision.Change.{Change}
-use Rattle.register.specs.declared.tabulated.PlacedBundle.{PlacedBundle}
-use Rattle.register.specs.declared.tabulated.StageFigure.{StageFigure}
-use Rattle.register.specs.declared.tabulated.Tabulation.{Tabulation}
-use Rattle.register.specs.declared.tabulated.Addition.{Addition}
+use Rattle.register.specs.declared.tabulations.PlacedBundle.{PlacedBundle}
+use Rattle.register.specs.declared.tabulations.StageFigure.{StageFigure}
+use Rattle.register.specs.declared.tabulations.Tabulation.{Tabulation}
+use Rattle.register.specs.declared.tabulations.Addition.{Addition}
 use Rattle.register.specs.declared.elections.Count.{Count as CountValue}
 use Rattle.register.specs.declared.elections.CountedWard.{CountedWard}
 use Rattle.register.specs.declared.elections.WardSheet.{WardSheet}
@@ -180,7 +180,7 @@ pub record AreOfCount (e : ElectionEntry) (candidates : List ℕ) (seats : ℕ) 
 
 -- this is the stored count of an election, with its lots
 pub record IsCountOf (e : ElectionEntry) (count : CountValue) : Type 0 where
-  pub kept_is : IsKeptOf (contest_of e) (stages_of e) count.kept
+  pub kept_is : IsStoredCountOf (contest_of e) (stages_of e) count.kept
   pub lots_are : count.lots.items ≡ e.lots
 
 -- the count was found

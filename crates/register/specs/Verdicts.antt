@@ -10,15 +10,15 @@ use Rattle.register.specs.Reasons.{objection}
 use Rattle.register.specs.Ranges.{is_between, is_office, is_batch_number, is_paper_number}
 use Rattle.register.specs.Offices.{JudgedEntry, OfficeState, batch_at, verdict_at}
 use Rattle.register.specs.Marks.{columns_of, marks_objection, is_valid}
-use Rattle.register.specs.Papers.{agreed, are_taken, has_doubtful}
+use Rattle.register.specs.Agreement.{agreed, are_taken, has_doubtful}
 use Rattle.register.specs.Batches.{ward_for, candidates_for, keyings_for}
 use Rattle.register.specs.Effects.{EffectEntry, paper_judged}
-use Rattle.register.specs.Parts.{PartEntries, empty_part, batch_objections}
+use Rattle.register.specs.CommandInputs.{CommandInputEntries, empty_input, batch_objections}
 
 -- the part of the state that it needs
-abbrev pub part_of : OfficeState → ℕ → VerdictCommand → PartEntries
+abbrev pub part_of : OfficeState → ℕ → VerdictCommand → CommandInputEntries
 part_of s actor command =
-    record empty_part {
+    record empty_input {
       ward = ward_for s (batch_at s command.batch);
       candidates = candidates_for s (batch_at s command.batch);
       batch = batch_at s command.batch;
@@ -45,7 +45,7 @@ is_verdict columns (Accept marks) = is_valid columns (string_bytes marks)
 is_verdict columns (Reject code) = is_rejection_code code
 
 -- the objections to it, in the order of the reasons' numbers
-abbrev pub objections : ℕ → VerdictCommand → PartEntries → List (Option Reason)
+abbrev pub objections : ℕ → VerdictCommand → CommandInputEntries → List (Option Reason)
 objections actor command part =
     objection (not (is_in_range actor command)) NumberOutOfRange
     ∷ batch_objections part

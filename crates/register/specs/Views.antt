@@ -11,7 +11,7 @@ use Rattle.register.specs.declared.decision.Decision.{Decision}
 use Rattle.register.specs.declared.decision.Decision.TheVariants.{Accepted, Kept, Refused}
 use Rattle.register.specs.Offices.{WardEntry, OfficeState, receipt_entry, ward_at, receipt_at}
 use Rattle.register.specs.Effects.{change_entry}
-use Rattle.register.specs.Parts.{part_entries}
+use Rattle.register.specs.CommandInputs.{input_entries}
 use Rattle.register.specs.Elections.{election_of, contest_of, stages_of, due_of}
 use Rattle.register.specs.Keyings.{reply_to}
 use Rattle.register.specs.Tabulated.{IsCountFor}
@@ -20,12 +20,12 @@ use Rattle.register.specs.Machine.{Ruling, accepts, keeps, refuses, Outcome, acc
 -- the view shows what the state has for this command: its receipt; without a receipt, the part of the state that it needs, and the count to which a stage is to be added
 pub record IsViewOf (s : OfficeState) (command : Command) (view : View) : Type 0 where
   pub receipt : option_map receipt_entry view.receipt ≡ receipt_at s view.actor view.id.now
-  pub part : receipt_at s view.actor view.id.now ≡ None → part_entries view.part ≡ part_of s view.actor command
+  pub part : receipt_at s view.actor view.id.now ≡ None → input_entries view.part ≡ part_of s view.actor command
   pub count : receipt_at s view.actor view.id.now ≡ None → IsCountFor s command view.part.count
 
 -- the ruling on a view
 abbrev pub decided_on : View → Command → Ruling
-decided_on view command = decided view.actor view.id.now command (option_map receipt_entry view.receipt) (part_entries view.part)
+decided_on view command = decided view.actor view.id.now command (option_map receipt_entry view.receipt) (input_entries view.part)
 
 -- the ruling of a decision
 abbrev pub ruling_of : Decision → Ruling

@@ -12,12 +12,12 @@ use Rattle.register.specs.Ranges.{is_office, is_ward_number, is_seat_number, is_
 use Rattle.register.specs.Offices.{WardEntry, CandidateEntry, OfficeState, ward_at, candidates_of}
 use Rattle.register.specs.Nominations.{is_contested, is_stood_in}
 use Rattle.register.specs.Effects.{EffectEntry, ward_added, ward_moved}
-use Rattle.register.specs.Parts.{PartEntries, empty_part, phase_objections}
+use Rattle.register.specs.CommandInputs.{CommandInputEntries, empty_input, phase_objections}
 
 -- the part of the state that each command needs
-abbrev pub part_of : OfficeState → ℕ → WardCommand → PartEntries
-part_of s actor (Add ward seats name) = record empty_part { ward = ward_at s ward }
-part_of s actor (Close ward) = record empty_part { ward = ward_at s ward; candidates = candidates_of s ward }
+abbrev pub part_of : OfficeState → ℕ → WardCommand → CommandInputEntries
+part_of s actor (Add ward seats name) = record empty_input { ward = ward_at s ward }
+part_of s actor (Close ward) = record empty_input { ward = ward_at s ward; candidates = candidates_of s ward }
 
 -- the numbers are in range and the actor may send the command
 abbrev pub is_in_range : ℕ → WardCommand → Bool
@@ -25,7 +25,7 @@ is_in_range actor (Add ward seats name) = is_office actor && (is_ward_number war
 is_in_range actor (Close ward) = is_office actor && is_ward_number ward
 
 -- the objections to each command, in the order of the reasons' numbers
-abbrev pub objections : ℕ → WardCommand → PartEntries → List (Option Reason)
+abbrev pub objections : ℕ → WardCommand → CommandInputEntries → List (Option Reason)
 objections actor (Add ward seats name) part =
     objection (not (is_in_range actor (Add ward seats name))) NumberOutOfRange ∷ objection (not (is_name (string_bytes name))) BadName ∷ objection (is_some part.ward) WardExists ∷ []
 objections actor (Close ward) part =
@@ -37,11 +37,11 @@ is_to_be_polled None candidates = false
 is_to_be_polled (Some w) candidates = is_contested w candidates
 
 -- the phase after nominations are closed
-abbrev pub closed_phase : PartEntries → Phase
+abbrev pub closed_phase : CommandInputEntries → Phase
 closed_phase part = if is_to_be_polled part.ward part.candidates then Keying else Sealed
 
 -- the word of a reply for a ward whose nominations are closed
-abbrev pub closed_word : PartEntries → List ℕ
+abbrev pub closed_word : CommandInputEntries → List ℕ
 closed_word part = if is_to_be_polled part.ward part.candidates then codes " polled" else codes " uncontested"
 
 -- the subject of the receipt, by which a command sent again under the same id is recognised
@@ -50,11 +50,11 @@ subject_of (Add ward seats name) = codes "ward " ++ decimal ward
 subject_of (Close ward) = codes "close " ++ decimal ward
 
 -- the reply to an accepted command (appended texts are grouped to the right, as they are written)
-unfoldable pub reply_to : WardCommand → PartEntries → List ℕ
+unfoldable pub reply_to : WardCommand → CommandInputEntries → List ℕ
 reply_to (Add ward seats name) part = codes "ward " ++ (decimal ward ++ codes " added")
 reply_to (Close ward) part = codes "ward " ++ (decimal ward ++ closed_word part)
 
 -- the effect of an accepted command
-abbrev pub effect_of : WardCommand → PartEntries → EffectEntry
+abbrev pub effect_of : WardCommand → CommandInputEntries → EffectEntry
 effect_of (Add ward seats name) part = ward_added (record { number = ward; seats = seats; phase = Nominations; done = 0; name = string_bytes name })
 effect_of (Close ward) part = ward_moved ward (closed_phase part)

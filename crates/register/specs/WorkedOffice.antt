@@ -17,7 +17,7 @@ use Rattle.register.specs.declared.verdicts.Verdict.TheVariants.{Accept, Reject}
 use Rattle.register.specs.declared.refusal.Reason.TheVariants.{BadId, IdUsed, NumberOutOfRange, WardExists, AlreadyKeyed, NotDoubtful, NotReady, CountFinished, NotItsClerk, SameClerk}
 use Rattle.register.specs.declared.refusal.Reason.TheVariants.{NoDifference, ThirdSet}
 use Rattle.register.specs.Offices.{WardEntry, CandidateEntry, BatchEntry, KeyedEntry, JudgedEntry, ReceiptEntry, OfficeState, empty_office}
-use Rattle.register.specs.Papers.{is_taken, is_differing, taken_papers}
+use Rattle.register.specs.Agreement.{is_taken, is_differing, taken_papers}
 use Rattle.register.specs.Machine.{accepted, kept, refused, step}
 use Rattle.register.specs.Repeats.{is_otherwise}
 

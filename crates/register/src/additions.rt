@@ -9,8 +9,10 @@ ghost use Rattle.register.specs.Additions.{IsAddedTo};
 ghost use Rattle.register.specs.Walks.{moved_bundles, last_figures, all_added, moves_added};
 
 use crate::elections::Count;
-use crate::tabulated::{Addition, PlacedBundle, StageFigure, Tabulation, add_stage, placed_bundle};
-use count::{Bundles, KeptCount, NextStage, Placed, Stage, figures_of};
+use crate::tabulations::{
+    Addition, PlacedBundle, StageFigure, Tabulation, add_stage_figures, placed_bundle,
+};
+use count::{Bundles, NextStage, Placed, Stage, StoredCount, figures_of};
 use paper::Columns;
 use std::alloc::{AllocError, Global};
 
@@ -57,7 +59,7 @@ fn last_figures(
     };
     let shown = figures_of(alloc, candidates, stages)?;
     let mut figures = Vec::new(alloc);
-    add_stage(&mut figures, ward, stage, &shown)?;
+    add_stage_figures(&mut figures, ward, stage, &shown)?;
     Ok(figures)
 }
 
@@ -65,7 +67,7 @@ fn last_figures(
 fn first_addition(
     alloc: Global,
     ward: u32,
-    kept: &KeptCount,
+    kept: &StoredCount,
     next: &NextStage,
 ) -> Result<Addition, AllocError>
     ensures { IfOk result (λ addition. (now : List ℕ → Place) → next.now.places.items ≡ map (λ (b : Bundle). placed (now b.0)) kept.now.bundles
@@ -92,7 +94,7 @@ fn first_addition(
 fn later_addition(
     alloc: Global,
     ward: u32,
-    kept: &KeptCount,
+    kept: &StoredCount,
     next: &NextStage,
 ) -> Result<Addition, AllocError>
     ensures { IfOk result (λ addition. addition_entries addition ≡ moves_added ward kept.now.candidates kept.now.bundles kept.now.places next.now.places.items next.now.stages.items) }

@@ -3,19 +3,19 @@
 ghost use Rattle.std.specs.Prelude.{◌≡◌, IfOk, option_map, string_bytes};
 ghost use Rattle.register.specs.Reasons.{first_reason};
 ghost use Rattle.register.specs.Offices.{batch_entry};
-ghost use Rattle.register.specs.Parts.{part_entries, passes};
+ghost use Rattle.register.specs.CommandInputs.{input_entries, passes};
 ghost use Rattle.register.specs.Effects.{effect_entry};
 ghost use Rattle.register.specs.Batches.{is_in_last_round, is_in_range, next_round, third_objections, objections, subject_of, reply_to, effect_of};
 
+use crate::agreement::differ;
 use crate::decision::Effect;
 use crate::keyings::is_its_clerk;
-use crate::papers::differ;
 use crate::phase::Phase;
 use crate::ranges::{
     LAST_ROUND, is_batch_number, is_clerk, is_office, is_paper_number, is_ward_number,
 };
 use crate::refusal::Reason;
-use crate::view::Part;
+use crate::view::CommandInput;
 use crate::wards::is_in_phase;
 use std::alloc::{AllocError, Global};
 
@@ -78,8 +78,8 @@ fn is_last(batch: &Option<Batch>) -> bool
 }
 
 /// Returns whether the command's numbers are in range and the actor may send it. A batch in the last round can't be keyed again.
-fn is_in_range(actor: u32, command: &BatchCommand, part: &Part) -> bool
-    ensures { result ≡ is_in_range actor command.now (part_entries part.now) }
+fn is_in_range(actor: u32, command: &BatchCommand, part: &CommandInput) -> bool
+    ensures { result ≡ is_in_range actor command.now (input_entries part.now) }
 {
     let office = is_office(actor);
     match command {
@@ -107,8 +107,8 @@ fn is_in_range(actor: u32, command: &BatchCommand, part: &Part) -> bool
 }
 
 /// Returns the objection to a third clerk for a batch, given that the numbers are in range.
-fn third_objection(clerk: u32, part: &Part) -> Option<Reason>
-    ensures { result ≡ first_reason (third_objections clerk (part_entries part.now)) }
+fn third_objection(clerk: u32, part: &CommandInput) -> Option<Reason>
+    ensures { result ≡ first_reason (third_objections clerk (input_entries part.now)) }
 {
     let Some(batch) = &part.batch else {
         return Some(Reason::NoSuchBatch);
@@ -129,8 +129,12 @@ fn third_objection(clerk: u32, part: &Part) -> Option<Reason>
 }
 
 /// Returns the objection to a command; if there are several, the one with the lowest number.
-pub(crate) fn objection_to(actor: u32, command: &BatchCommand, part: &Part) -> Option<Reason>
-    ensures { result ≡ first_reason (objections actor command.now (part_entries part.now)) }
+pub(crate) fn objection_to(
+    actor: u32,
+    command: &BatchCommand,
+    part: &CommandInput,
+) -> Option<Reason>
+    ensures { result ≡ first_reason (objections actor command.now (input_entries part.now)) }
 {
     if !is_in_range(actor, command, part) {
         return Some(Reason::NumberOutOfRange);
@@ -199,9 +203,9 @@ pub(crate) fn subject_of(alloc: Global, command: &BatchCommand) -> Result<String
 pub(crate) fn reply_to(
     alloc: Global,
     command: &BatchCommand,
-    part: &Part,
+    part: &CommandInput,
 ) -> Result<String, AllocError>
-    ensures { IfOk result (λ text. string_bytes text ≡ reply_to command.now (part_entries part.now)) }
+    ensures { IfOk result (λ text. string_bytes text ≡ reply_to command.now (input_entries part.now)) }
 {
     match command {
         BatchCommand::Add { batch, .. } => format!(in alloc; "batch {batch} added"),
@@ -216,8 +220,8 @@ pub(crate) fn reply_to(
 }
 
 /// Returns the effect of a command on the state; a new batch is in its first round.
-pub(crate) fn effect_of(command: &BatchCommand, part: &Part) -> Effect
-    ensures { effect_entry result ≡ effect_of command.now (part_entries part.now) }
+pub(crate) fn effect_of(command: &BatchCommand, part: &CommandInput) -> Effect
+    ensures { effect_entry result ≡ effect_of command.now (input_entries part.now) }
 {
     match command {
         BatchCommand::Add {

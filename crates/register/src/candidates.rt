@@ -3,7 +3,7 @@
 ghost use Rattle.std.specs.Prelude.{◌≡◌, ◌&&◌, IfOk, string_bytes};
 ghost use Rattle.register.specs.Reasons.{first_reason};
 ghost use Rattle.register.specs.Ranges.{is_office, is_ward_number, is_candidate_number};
-ghost use Rattle.register.specs.Parts.{part_entries};
+ghost use Rattle.register.specs.CommandInputs.{input_entries};
 ghost use Rattle.register.specs.Effects.{effect_entry};
 ghost use Rattle.register.specs.Candidates.{is_in_range, objections, subject_of, reply_to, effect_of};
 
@@ -11,7 +11,7 @@ use crate::decision::Effect;
 use crate::phase::Phase;
 use crate::ranges::{is_candidate_number, is_name, is_office, is_ward_number};
 use crate::refusal::Reason;
-use crate::view::Part;
+use crate::view::CommandInput;
 use crate::wards::phase_objection;
 use std::alloc::{AllocError, Global};
 
@@ -63,8 +63,12 @@ fn is_in_range(actor: u32, command: &CandidateCommand) -> bool
 }
 
 /// Returns the objection to a command; if there are several, the one with the lowest number.
-pub(crate) fn objection_to(actor: u32, command: &CandidateCommand, part: &Part) -> Option<Reason>
-    ensures { result ≡ first_reason (objections actor command.now (part_entries part.now)) }
+pub(crate) fn objection_to(
+    actor: u32,
+    command: &CandidateCommand,
+    part: &CommandInput,
+) -> Option<Reason>
+    ensures { result ≡ first_reason (objections actor command.now (input_entries part.now)) }
 {
     if !is_in_range(actor, command) {
         return Some(Reason::NumberOutOfRange);
@@ -116,9 +120,9 @@ pub(crate) fn subject_of(alloc: Global, command: &CandidateCommand) -> Result<St
 pub(crate) fn reply_to(
     alloc: Global,
     command: &CandidateCommand,
-    part: &Part,
+    part: &CommandInput,
 ) -> Result<String, AllocError>
-    ensures { IfOk result (λ text. string_bytes text ≡ reply_to command.now (part_entries part.now)) }
+    ensures { IfOk result (λ text. string_bytes text ≡ reply_to command.now (input_entries part.now)) }
 {
     match command {
         CandidateCommand::Add {
@@ -133,8 +137,11 @@ pub(crate) fn reply_to(
 }
 
 /// Returns the effect of a command on the state. `AllocError` if an allocation fails.
-pub(crate) fn effect_of(command: &CandidateCommand, part: &Part) -> Result<Effect, AllocError>
-    ensures { IfOk result (λ effect. effect_entry effect ≡ effect_of command.now (part_entries part.now)) }
+pub(crate) fn effect_of(
+    command: &CandidateCommand,
+    part: &CommandInput,
+) -> Result<Effect, AllocError>
+    ensures { IfOk result (λ effect. effect_entry effect ≡ effect_of command.now (input_entries part.now)) }
 {
     match command {
         CandidateCommand::Add {

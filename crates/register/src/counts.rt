@@ -5,7 +5,7 @@ ghost use Rattle.std.specs.List.{list_any};
 ghost use Rattle.register.specs.Reasons.{first_reason};
 ghost use Rattle.register.specs.Offices.{ward_entry};
 ghost use Rattle.register.specs.Polls.{poll_entry, all_rejected};
-ghost use Rattle.register.specs.Parts.{part_entries};
+ghost use Rattle.register.specs.CommandInputs.{input_entries};
 ghost use Rattle.register.specs.Effects.{effect_entry};
 ghost use Rattle.register.specs.Elections.{has_finished, is_among};
 ghost use Rattle.register.specs.Additions.{IsAddedBy};
@@ -18,9 +18,9 @@ use crate::phase::Phase;
 use crate::polls::PollTally;
 use crate::ranges::{LAST_LOT_STAGE, is_candidate_number, is_lot_stage, is_office, is_ward_number};
 use crate::refusal::Reason;
-use crate::tabulated::Addition;
+use crate::tabulations::Addition;
 use crate::texts::listed;
-use crate::view::Part;
+use crate::view::CommandInput;
 use crate::wards::{Ward, phase_objection};
 use count::Due;
 use paper::Columns;
@@ -156,8 +156,8 @@ fn phase_for(command: &CountCommand) -> Phase
 }
 
 /// Returns the objection to a command whose numbers are in range and whose ward is in the right phase.
-fn own_objection_to(command: &CountCommand, part: &Part) -> Option<Reason>
-    ensures { result ≡ first_reason (own_objections command.now (part_entries part.now)) }
+fn own_objection_to(command: &CountCommand, part: &CommandInput) -> Option<Reason>
+    ensures { result ≡ first_reason (own_objections command.now (input_entries part.now)) }
 {
     match command {
         CountCommand::Seal { .. } => {
@@ -198,8 +198,12 @@ fn own_objection_to(command: &CountCommand, part: &Part) -> Option<Reason>
 }
 
 /// Returns the objection to a command; if there are several, the one with the lowest number.
-pub(crate) fn objection_to(actor: u32, command: &CountCommand, part: &Part) -> Option<Reason>
-    ensures { result ≡ first_reason (objections actor command.now (part_entries part.now)) }
+pub(crate) fn objection_to(
+    actor: u32,
+    command: &CountCommand,
+    part: &CommandInput,
+) -> Option<Reason>
+    ensures { result ≡ first_reason (objections actor command.now (input_entries part.now)) }
 {
     if !is_in_range(actor, command) {
         return Some(Reason::NumberOutOfRange);
@@ -281,9 +285,9 @@ fn action_told(alloc: Global, due: &Option<Due>) -> Result<String, AllocError>
 pub(crate) fn reply_to(
     alloc: Global,
     command: &CountCommand,
-    part: &Part,
+    part: &CommandInput,
 ) -> Result<String, AllocError>
-    ensures { IfOk result (λ text. string_bytes text ≡ reply_to command.now (part_entries part.now)) }
+    ensures { IfOk result (λ text. string_bytes text ≡ reply_to command.now (input_entries part.now)) }
 {
     match command {
         CountCommand::Seal { ward } => {
@@ -308,8 +312,8 @@ pub(crate) fn reply_to(
 }
 
 /// Returns the effect of a command on the state: a ward enters a phase, one more stage of its count is done, or a lot is drawn.
-pub(crate) fn effect_of(command: &CountCommand, part: &Part) -> Effect
-    ensures { effect_entry result ≡ effect_of command.now (part_entries part.now) }
+pub(crate) fn effect_of(command: &CountCommand, part: &CommandInput) -> Effect
+    ensures { effect_entry result ≡ effect_of command.now (input_entries part.now) }
 {
     match command {
         CountCommand::Seal { ward } => Effect::WardMoved {
@@ -342,7 +346,7 @@ pub(crate) fn effect_of(command: &CountCommand, part: &Part) -> Effect
 pub(crate) fn addition_of(
     alloc: Global,
     command: &CountCommand,
-    part: &Part,
+    part: &CommandInput,
 ) -> Result<Addition, AllocError>
     ensures { IfOk result (λ addition. IsAddedBy command.now part.now.count addition) }
 {

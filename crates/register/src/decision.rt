@@ -7,7 +7,7 @@ use crate::keyings::KeyedPaper;
 use crate::phase::Phase;
 use crate::receipt::Receipt;
 use crate::refusal::Refusal;
-use crate::tabulated::Addition;
+use crate::tabulations::Addition;
 use crate::verdicts::JudgedPaper;
 use crate::wards::Ward;
 

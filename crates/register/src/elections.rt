@@ -5,12 +5,12 @@ ghost use Rattle.std.specs.List.{list_all};
 ghost use Rattle.votes.specs.Units.{max_seats, max_papers};
 ghost use Rattle.count.specs.Bundles.{papers_of};
 ghost use Rattle.count.specs.Law.Contest.{contest_for, IsContest};
-ghost use Rattle.register.specs.Papers.{batches_of};
+ghost use Rattle.register.specs.Agreement.{batches_of};
 ghost use Rattle.register.specs.Polls.{all_rejected, poll_of, poll_entry, piles_of, ballots_in, ballots_by, settled_judgements};
-ghost use Rattle.register.specs.Offices.{WardEntry, OfficeState, MapsRise, ward_entry, candidate_entry, lot_entry, ward_at, candidates_of};
+ghost use Rattle.register.specs.Offices.{WardEntry, OfficeState, MapsAreSorted, ward_entry, candidate_entry, lot_entry, ward_at, candidates_of};
 ghost use Rattle.register.specs.Nominations.{is_contested};
 ghost use Rattle.register.specs.Elections.{ElectionEntry, IsElection, lot_pair, election_of, has_count, is_counted, is_in_count, contest_of, due_of, elected_of};
-ghost use Rattle.register.specs.Items.{all_in_range, all_keyed, is_lot, IsState};
+ghost use Rattle.register.specs.StateConditions.{all_in_range, all_keyed, is_lot, IsState};
 ghost use Rattle.register.specs.Tabulated.{IsCount, IsCountOf};
 
 use crate::candidates::Candidate;
@@ -20,7 +20,7 @@ use crate::phase::Phase;
 use crate::polls::{Ballots, PollTally, REJECTIONS};
 use crate::ranges::{is_candidate_number, is_lot_stage};
 use crate::wards::{Ward, is_contested};
-use count::{BundleBook, Bundles, Due, KeptCount, is_bundled_contest};
+use count::{BundleBook, Bundles, Due, StoredCount, bundles_can_be_counted};
 use paper::Columns;
 use std::alloc::{AllocError, Global};
 use votes::{MAX_SEATS, quota};
@@ -39,7 +39,7 @@ pub struct Election {
 /// and the candidate drawn.
 #[derive(Drop)]
 pub struct Count {
-    pub kept: KeptCount,
+    pub kept: StoredCount,
     pub lots: Vec<(u8, u8)>,
 }
 
@@ -70,9 +70,9 @@ pub struct Progress {
 /// papers. In a state, once every batch of a ward is settled, its valid and rejected papers together are all the papers of
 /// its batches.
 pub fn elections_are_fair()
-    ensures fair { (s : OfficeState) (w : WardEntry) → all_in_range s ≡ true → all_keyed s ≡ true → MapsRise s → ward_at s w.number ≡ Some w
+    ensures fair { (s : OfficeState) (w : WardEntry) → all_in_range s ≡ true → all_keyed s ≡ true → MapsAreSorted s → ward_at s w.number ≡ Some w
         → is_contested w (candidates_of s w.number) ≡ true → IsContest (contest_of (election_of s w)) }
-    ensures few { (s : OfficeState) (w : WardEntry) → all_in_range s ≡ true → all_keyed s ≡ true → MapsRise s → ward_at s w.number ≡ Some w
+    ensures few { (s : OfficeState) (w : WardEntry) → all_in_range s ≡ true → all_keyed s ≡ true → MapsAreSorted s → ward_at s w.number ≡ Some w
         → (1 ≤ w.seats) × (w.seats ≤ max_seats) × (length (election_of s w).ballots.papers ≤ max_papers) }
     ensures adds_up { (s : OfficeState) (w : WardEntry) → IsState s → (election_of s w).ballots.settled ≡ true
         → length (election_of s w).ballots.papers + all_rejected (election_of s w).ballots.rejected ≡ sum_by (λ b. b.size) (batches_of s w.number) }
@@ -95,7 +95,7 @@ pub fn is_in_count(ward: &Ward, candidates: &[Candidate]) -> bool
     }
 }
 
-#[tactic(auto, unfolding(crate::specs::Items::is_lot))]
+#[tactic(auto, unfolding(crate::specs::StateConditions::is_lot))]
 /// Returns a lot in the form that the count uses: its stage, counted from 1, and its candidate. None if a number is out of
 /// range; the lots of an office are all in range.
 fn lot_pair(lot: &DrawnLot) -> Option<(u8, u8)>
@@ -139,7 +139,7 @@ pub fn book_of<'a>(
         return Ok(None);
     }
     let seats = seats as u8;
-    if !is_bundled_contest(&columns, seats, bundles) {
+    if !bundles_can_be_counted(&columns, seats, bundles) {
         return Ok(None);
     }
     let book = BundleBook::new(alloc, columns, seats, bundles)?;
@@ -198,7 +198,7 @@ impl Election {
         let seats = self.ward.seats as u8;
         let columns = columns_of(&self.candidates);
         let rejected = self.ballots.rejected;
-        let kept = KeptCount::begin(alloc, columns, seats, self.ballots.papers)?;
+        let kept = StoredCount::begin(alloc, columns, seats, self.ballots.papers)?;
         let count = Count {
             kept,
             lots: self.lots,

@@ -3,19 +3,19 @@
 ghost use Rattle.std.specs.Prelude.{◌≡◌, IfOk, IfNone, map, option_map, string_bytes};
 ghost use Rattle.register.specs.Reasons.{first_reason};
 ghost use Rattle.register.specs.Offices.{batch_entry, third_entry, keyed_entry};
-ghost use Rattle.register.specs.Papers.{is_third_clerk, is_its_clerk};
-ghost use Rattle.register.specs.Parts.{part_entries};
+ghost use Rattle.register.specs.Agreement.{is_third_clerk, is_its_clerk};
+ghost use Rattle.register.specs.CommandInputs.{input_entries};
 ghost use Rattle.register.specs.Effects.{effect_entry};
 ghost use Rattle.register.specs.Keyings.{is_in_range, IsNumbered, objections, subject_of, reply_to, effect_of, papers_from};
 
+use crate::agreement::is_keyed;
 use crate::batches::{Batch, ThirdClerk};
 use crate::decision::Effect;
 use crate::marks::{columns_of, first_bad_marks};
-use crate::papers::is_keyed;
 use crate::phase::Phase;
 use crate::ranges::{is_batch_number, is_clerk, is_round};
 use crate::refusal::Reason;
-use crate::view::Part;
+use crate::view::CommandInput;
 use crate::wards::is_in_phase;
 use std::alloc::{AllocError, Global};
 
@@ -65,8 +65,12 @@ pub fn is_its_clerk(clerk: u32, batch: &Batch, third: &Option<ThirdClerk>) -> bo
 }
 
 /// Returns the objection to the command; if there are several, the one with the lowest number.
-pub(crate) fn objection_to(actor: u32, command: &KeyingCommand, part: &Part) -> Option<Reason>
-    ensures is { result ≡ first_reason (objections actor command.now (part_entries part.now)) }
+pub(crate) fn objection_to(
+    actor: u32,
+    command: &KeyingCommand,
+    part: &CommandInput,
+) -> Option<Reason>
+    ensures is { result ≡ first_reason (objections actor command.now (input_entries part.now)) }
     ensures numbered { IfNone result (IsNumbered command.now) }
 {
     if !is_in_range(actor, command) {

@@ -26,16 +26,16 @@ pub mod refusal;
 // Ranges of numbers and texts.
 pub mod ranges;
 // How marks are read, and when a batch is taken.
+pub mod agreement;
 pub mod marks;
-pub mod papers;
 // The progress of a ward, its poll, and what its count depends on.
 pub mod elections;
+pub mod next_steps;
 pub mod polls;
 pub mod status;
-pub mod steps;
 // What is stored of the counts, and what a stage adds to it.
 mod additions;
-pub mod tabulated;
+pub mod tabulations;
 // Numbers in words.
 mod texts;
 // The commands, by subject.
@@ -58,13 +58,13 @@ pub use decision::{Change, Decision, Effect, Reply};
 pub use elections::{Count, CountedWard, Election, WardSheet};
 pub use keyings::{KeyedPaper, KeyingCommand};
 pub use machine::{decide, lists_make_states, paper_is_seen, rows_are_worked, work_is_seen};
+pub use next_steps::NextStep;
 pub use phase::Phase;
 pub use polls::{Ballots, Judgement, KeepsPapers, NoPapers, PollTally};
 pub use receipt::Receipt;
 pub use refusal::{Reason, Refusal};
 pub use status::{BallotPaper, Status, Work};
-pub use steps::NextStep;
-pub use tabulated::{Addition, PlacedBundle, StageFigure, Tabulation};
+pub use tabulations::{Addition, PlacedBundle, StageFigure, Tabulation};
 pub use verdicts::{JudgedPaper, Verdict, VerdictCommand};
-pub use view::{Part, View};
+pub use view::{CommandInput, View};
 pub use wards::{Ward, WardCommand};

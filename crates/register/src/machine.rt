@@ -4,13 +4,13 @@ ghost use Rattle.std.specs.Prelude.{◌≡◌, ℕ, ◌==◌, true, false, List,
 ghost use Rattle.register.specs.Reasons.{first_reason};
 ghost use Rattle.register.specs.Ranges.{is_office};
 ghost use Rattle.register.specs.Offices.{OfficeState, empty_office};
-ghost use Rattle.register.specs.Items.{IsState};
+ghost use Rattle.register.specs.StateConditions.{IsState};
 ghost use Rattle.register.specs.Effects.{effect_entry};
 ghost use Rattle.register.specs.Seen.{seen_by};
-ghost use Rattle.register.specs.Parts.{part_entries};
+ghost use Rattle.register.specs.CommandInputs.{input_entries};
 ghost use Rattle.register.specs.declared.command.Request.{Request};
-ghost use Rattle.register.specs.Standings.{paper_at, work_of};
-ghost use Rattle.register.specs.Machine.{objections, IsNumbered, subject_of, reply_to, effect_of, judged, ruling_at, step, state_after, after, accepted_of, IsKeptAgain};
+ghost use Rattle.register.specs.Status.{paper_at, work_of};
+ghost use Rattle.register.specs.Machine.{objections, IsNumbered, subject_of, reply_to, effect_of, judged, ruling_at, step, state_after, after, accepted_of, RepeatGetsSameReply};
 ghost use Rattle.register.specs.Tabulated.{AddsWhatIsCounted};
 ghost use Rattle.register.specs.Additions.{IsAddedFor, DecidesAddition, AddsNoMore};
 ghost use Rattle.register.specs.WorkedOffice.{WardRows, NominationRows, KeyedRows, ThirdRows, UncontestedRows, RepeatRows};
@@ -21,14 +21,14 @@ use crate::decision::{Change, Decision, Effect};
 use crate::ranges::is_id;
 use crate::receipt::Receipt;
 use crate::refusal::{Reason, Refusal};
-use crate::tabulated::Addition;
-use crate::view::{Part, View};
+use crate::tabulations::Addition;
+use crate::view::{CommandInput, View};
 use crate::{batches, candidates, counts, keyings, verdicts, wards};
 use std::alloc::{AllocError, Global};
 
 /// Returns the objection to a command; if there are several, the one with the lowest number.
-fn objection_to(actor: u32, command: &Command, part: &Part) -> Option<Reason>
-    ensures is { result ≡ first_reason (objections actor command.now (part_entries part.now)) }
+fn objection_to(actor: u32, command: &Command, part: &CommandInput) -> Option<Reason>
+    ensures is { result ≡ first_reason (objections actor command.now (input_entries part.now)) }
     ensures numbered { IfNone result (IsNumbered command.now) }
 {
     match command {
@@ -56,8 +56,8 @@ fn subject_of(alloc: Global, command: &Command) -> Result<String, AllocError>
 }
 
 /// Returns the reply to an accepted command.
-fn reply_to(alloc: Global, command: &Command, part: &Part) -> Result<String, AllocError>
-    ensures { IfOk result (λ text. string_bytes text ≡ reply_to command.now (part_entries part.now)) }
+fn reply_to(alloc: Global, command: &Command, part: &CommandInput) -> Result<String, AllocError>
+    ensures { IfOk result (λ text. string_bytes text ≡ reply_to command.now (input_entries part.now)) }
 {
     match command {
         Command::Ward(command) => wards::reply_to(alloc, command, part),
@@ -74,10 +74,10 @@ fn effect_of(
     alloc: Global,
     actor: u32,
     command: &Command,
-    part: &Part,
+    part: &CommandInput,
 ) -> Result<Effect, AllocError>
     requires { IsNumbered command.now }
-    ensures { IfOk result (λ effect. effect_entry effect ≡ effect_of actor command.now (part_entries part.now)) }
+    ensures { IfOk result (λ effect. effect_entry effect ≡ effect_of actor command.now (input_entries part.now)) }
 {
     match command {
         Command::Ward(command) => wards::effect_of(command, part),
@@ -90,7 +90,11 @@ fn effect_of(
 }
 
 /// Returns what a command adds to the tabulation of the counts: an Advance its stage, any other command nothing.
-fn addition_of(alloc: Global, command: &Command, part: &Part) -> Result<Addition, AllocError>
+fn addition_of(
+    alloc: Global,
+    command: &Command,
+    part: &CommandInput,
+) -> Result<Addition, AllocError>
     ensures { IfOk result (λ addition. IsAddedFor command.now part.now.count addition) }
 {
     match command {
@@ -119,7 +123,7 @@ fn accepted(
 ) -> Result<Decision, AllocError>
     requires { IsNumbered command.now }
     ensures ruling { IfOk result (λ decision. string_bytes subject ≡ subject_of command.now
-        → ruling_of decision ≡ judged view.now.actor view.now.id.now command.now (part_entries view.now.part) None) }
+        → ruling_of decision ≡ judged view.now.actor view.now.id.now command.now (input_entries view.now.part) None) }
     ensures adds { IfOk result (λ decision. DecidesAddition command.now view.now.part.count decision) }
 {
     let effect = effect_of(alloc, view.actor, command, &view.part)?;
@@ -182,7 +186,7 @@ pub fn decide(alloc: Global, view: &View<'_>, command: &Command) -> Result<Decis
     ensures on_view { IfOk result (λ decision. ruling_of decision ≡ decided_on view.now command.now) }
     ensures decides { IfOk result (λ decision. (s : OfficeState) → IsViewOf s command.now view.now → outcome_of s decision ≡ step s view.now.actor view.now.id.now command.now) }
     ensures told_alike { IfOk result (λ decision. IsToldAlike command.now (ruling_of decision)) }
-    ensures kept_again { (s : OfficeState) → IsKeptAgain view.now.actor view.now.id.now command.now (step s view.now.actor view.now.id.now command.now) }
+    ensures kept_again { (s : OfficeState) → RepeatGetsSameReply view.now.actor view.now.id.now command.now (step s view.now.actor view.now.id.now command.now) }
     ensures stays_a_state { (s : OfficeState) → IsState s → IsState (state_after s (step s view.now.actor view.now.id.now command.now)) }
     ensures advances { (s : OfficeState) → IsState s → IsAdvanced s command.now (step s view.now.actor view.now.id.now command.now) }
     ensures tabulates { IfOk result (λ decision. (s : OfficeState) → IsState s → IsViewOf s command.now view.now → AddsWhatIsCounted s decision) }

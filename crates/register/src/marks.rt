@@ -2,7 +2,7 @@
 
 ghost use Rattle.std.specs.Prelude.{◌≡◌, ℕ, Ok, ◌+◌, ◌^◌, ◌<◌, length, map, string_bytes};
 ghost use Rattle.register.specs.Offices.{OfficeState, candidate_entry, candidates_of};
-ghost use Rattle.register.specs.Items.{IsState};
+ghost use Rattle.register.specs.StateConditions.{IsState};
 ghost use Rattle.register.specs.Marks.{columns_of, is_readable, is_judged_valid, is_valid, marks_objection, first_bad_marks};
 
 use crate::candidates::Candidate;

@@ -5,12 +5,12 @@ ghost use Rattle.std.specs.List.{flat_map};
 ghost use Rattle.paper.specs.MarksText.{reading};
 ghost use Rattle.paper.specs.Preferences.{rejection_of};
 ghost use Rattle.register.specs.Offices.{keyed_entry, judged_entry};
-ghost use Rattle.register.specs.Papers.{of_three};
+ghost use Rattle.register.specs.Agreement.{of_three};
 ghost use Rattle.register.specs.Walks.{and_rejected};
 ghost use Rattle.register.specs.Polls.{Pile, StandFor, are_listed, are_bundled, by_rejection, by_reading, by_verdict, judgement_on, judgements_on, preferences_by, ballots_in, ballots_by};
 
+use crate::agreement::{agreed, are_taken, count_open};
 use crate::keyings::KeyedPaper;
-use crate::papers::{agreed, are_taken, count_open};
 use crate::verdicts::{ACCEPTED, JudgedPaper};
 use count::Bundles;
 use paper::{Columns, Keyed, Marked, Marks, Prefs, judge};

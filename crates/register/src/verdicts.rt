@@ -2,17 +2,17 @@
 
 ghost use Rattle.std.specs.Prelude.{◌≡◌, IfOk, string_bytes};
 ghost use Rattle.register.specs.Reasons.{first_reason};
-ghost use Rattle.register.specs.Parts.{part_entries};
+ghost use Rattle.register.specs.CommandInputs.{input_entries};
 ghost use Rattle.register.specs.Effects.{effect_entry};
 ghost use Rattle.register.specs.Verdicts.{is_in_range, is_rejection_code, is_verdict, verdict_objection, objections, subject_of, reply_to, effect_of};
 
+use crate::agreement::{agreed, are_taken, has_doubtful};
 use crate::decision::Effect;
 use crate::marks::{columns_of, is_valid, marks_objection};
-use crate::papers::{agreed, are_taken, has_doubtful};
 use crate::phase::Phase;
 use crate::ranges::{is_batch_number, is_between, is_office, is_paper_number};
 use crate::refusal::Reason;
-use crate::view::Part;
+use crate::view::CommandInput;
 use crate::wards::is_in_phase;
 use paper::Columns;
 use std::alloc::{AllocError, Global};
@@ -91,8 +91,12 @@ fn is_verdict(columns: Columns, verdict: &Verdict) -> bool
 }
 
 /// Returns the objection to the command; if there are several, the one with the lowest number.
-pub(crate) fn objection_to(actor: u32, command: &VerdictCommand, part: &Part) -> Option<Reason>
-    ensures { result ≡ first_reason (objections actor command.now (part_entries part.now)) }
+pub(crate) fn objection_to(
+    actor: u32,
+    command: &VerdictCommand,
+    part: &CommandInput,
+) -> Option<Reason>
+    ensures { result ≡ first_reason (objections actor command.now (input_entries part.now)) }
 {
     if !is_in_range(actor, command) {
         return Some(Reason::NumberOutOfRange);

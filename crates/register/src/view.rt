@@ -1,7 +1,7 @@
 //! The part of the state that one request needs.
 
 ghost use Rattle.std.specs.Prelude.{◌≡◌};
-ghost use Rattle.register.specs.Parts.{part_entries, empty_part};
+ghost use Rattle.register.specs.CommandInputs.{input_entries, empty_input};
 
 use crate::batches::{Batch, ThirdClerk};
 use crate::candidates::Candidate;
@@ -23,7 +23,7 @@ use std::alloc::Global;
 /// which a stage is to be added. The keyings are in the order of the clerks' numbers, and a missing one is empty. A keying
 /// is in the order of its papers.
 #[derive(Drop)]
-pub struct Part {
+pub struct CommandInput {
     pub ward: Option<Ward>,
     pub candidate: Option<Candidate>,
     pub candidates: Vec<Candidate>,
@@ -40,12 +40,12 @@ pub struct Part {
     pub count: Option<Count>,
 }
 
-impl Part {
+impl CommandInput {
     /// Returns an empty part, to be filled with what a command needs. Allocates nothing.
-    pub fn empty(alloc: Global) -> Part
-        ensures { part_entries result ≡ empty_part }
+    pub fn empty(alloc: Global) -> CommandInput
+        ensures { input_entries result ≡ empty_input }
     {
-        Part {
+        CommandInput {
             ward: None,
             candidate: None,
             candidates: Vec::new(alloc),
@@ -71,5 +71,5 @@ pub struct View<'a> {
     pub actor: u32,
     pub id: &'a str,
     pub receipt: Option<Receipt>,
-    pub part: Part,
+    pub part: CommandInput,
 }

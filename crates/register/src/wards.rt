@@ -3,7 +3,7 @@
 ghost use Rattle.std.specs.Prelude.{◌≡◌, IfOk, map, option_map, string_bytes};
 ghost use Rattle.register.specs.Reasons.{first_reason};
 ghost use Rattle.register.specs.Offices.{ward_entry, candidate_entry};
-ghost use Rattle.register.specs.Parts.{part_entries, is_in_phase, phase_objections};
+ghost use Rattle.register.specs.CommandInputs.{input_entries, is_in_phase, phase_objections};
 ghost use Rattle.register.specs.Effects.{effect_entry};
 ghost use Rattle.register.specs.Nominations.{is_contested};
 ghost use Rattle.register.specs.Wards.{is_in_range, is_to_be_polled, objections, subject_of, reply_to, effect_of};
@@ -13,7 +13,7 @@ use crate::decision::Effect;
 use crate::phase::Phase;
 use crate::ranges::{is_name, is_office, is_seat_number, is_ward_number};
 use crate::refusal::Reason;
-use crate::view::Part;
+use crate::view::CommandInput;
 use std::alloc::{AllocError, Global};
 
 /// A ward: its number (1 to 99), its seats (1 to 15), its phase, the number of stages done in its count (0 to 31) and its name.
@@ -93,8 +93,8 @@ fn is_to_be_polled(ward: &Option<Ward>, candidates: &[Candidate]) -> bool
 }
 
 /// Returns the objection to a command; if there are several, the one with the lowest number.
-pub(crate) fn objection_to(actor: u32, command: &WardCommand, part: &Part) -> Option<Reason>
-    ensures { result ≡ first_reason (objections actor command.now (part_entries part.now)) }
+pub(crate) fn objection_to(actor: u32, command: &WardCommand, part: &CommandInput) -> Option<Reason>
+    ensures { result ≡ first_reason (objections actor command.now (input_entries part.now)) }
 {
     if !is_in_range(actor, command) {
         return Some(Reason::NumberOutOfRange);
@@ -137,9 +137,9 @@ pub(crate) fn subject_of(alloc: Global, command: &WardCommand) -> Result<String,
 pub(crate) fn reply_to(
     alloc: Global,
     command: &WardCommand,
-    part: &Part,
+    part: &CommandInput,
 ) -> Result<String, AllocError>
-    ensures { IfOk result (λ text. string_bytes text ≡ reply_to command.now (part_entries part.now)) }
+    ensures { IfOk result (λ text. string_bytes text ≡ reply_to command.now (input_entries part.now)) }
 {
     match command {
         WardCommand::Add { ward, .. } => format!(in alloc; "ward {ward} added"),
@@ -152,10 +152,10 @@ pub(crate) fn reply_to(
     }
 }
 
-/// Returns the effect of a command on the state: a closed ward moves on to keying if it is polled, otherwise it is sealed.
-/// `AllocError` if an allocation fails.
-pub(crate) fn effect_of(command: &WardCommand, part: &Part) -> Result<Effect, AllocError>
-    ensures { IfOk result (λ effect. effect_entry effect ≡ effect_of command.now (part_entries part.now)) }
+/// Returns the effect of a command on the state. When its nominations close, a contested ward enters keying, and an uncontested one
+/// is sealed. `AllocError` if an allocation fails.
+pub(crate) fn effect_of(command: &WardCommand, part: &CommandInput) -> Result<Effect, AllocError>
+    ensures { IfOk result (λ effect. effect_entry effect ≡ effect_of command.now (input_entries part.now)) }
 {
     match command {
         WardCommand::Add { ward, seats, name } => Ok(Effect::WardAdded(Ward {

@@ -3,9 +3,9 @@ use Rattle.std.proofs.Common.{◌≡◌, ◌≤◌, map, refl, ◌∙◌, arith}
 use Rattle.std.specs.declared.cmp.Ordering.{Ordering}
 use Rattle.std.specs.declared.cmp.Ordering.TheVariants.{Less, Equal, Greater}
 use Rattle.std.specs.Ordering.{nat_cmp, ordering_then}
-use Rattle.register.specs.Offices.{WardEntry, CandidateEntry, MapsRise, ward_entry, candidate_entry, candidate_cmp}
+use Rattle.register.specs.Offices.{WardEntry, CandidateEntry, MapsAreSorted, ward_entry, candidate_entry, candidate_cmp}
 use Rattle.register.specs.Nominations.{are_enough}
-use Rattle.register.specs.Items.{all_nominated}
+use Rattle.register.specs.StateConditions.{all_nominated}
 use Rattle.rowcheck.specs.declared.rows.Rows.{Rows}
 use Rattle.rowcheck.specs.States.{state_of}
 use Rattle.rowcheck.specs.Walks.Nominations.{are_nominated}
@@ -21,7 +21,7 @@ ward_order c d less = go (nat_cmp c.ward d.ward) refl less
     go Greater is told = absurd (cc)
 
 -- the walk checks whether every candidate has its ward, and every ward has the candidates that its phase requires
-pub walked : (rows : Rows) → MapsRise (state_of rows) → are_nominated rows.wards.items rows.candidates.items ≡ all_nominated (state_of rows)
+pub walked : (rows : Rows) → MapsAreSorted (state_of rows) → are_nominated rows.wards.items rows.candidates.items ≡ all_nominated (state_of rows)
 walked rows rise =
     by_run_map ward_entry candidate_entry (λ (w : WardEntry). w.number) (λ (c : CandidateEntry). c.ward) (λ w candidates. are_enough w.phase w candidates) rows.wards.items rows.candidates.items
     ∙ walk_tells (λ (w : WardEntry). w.number) (λ (c : CandidateEntry). c.ward) candidate_cmp ward_order (λ w candidates. are_enough w.phase w candidates) (map ward_entry rows.wards.items)

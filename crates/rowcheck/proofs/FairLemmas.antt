@@ -13,7 +13,7 @@ use Rattle.register.specs.declared.counts.DrawnLot.{DrawnLot}
 use Rattle.register.specs.Offices.{WardEntry, LotEntry, OfficeState, ward_entry, lot_entry, ward_cmp, ward_compared, entry_at, ward_at, candidates_of}
 use Rattle.register.specs.Nominations.{is_contested}
 use Rattle.register.specs.Elections.{election_of, contest_of, is_counted_right}
-use Rattle.register.specs.Items.{is_ward, is_candidate, is_batch, is_third, is_keyed_paper, is_judged_paper, is_lot, is_receipt, all_in_range, all_counted}
+use Rattle.register.specs.StateConditions.{is_ward, is_candidate, is_batch, is_third, is_keyed_paper, is_judged_paper, is_lot, is_receipt, all_in_range, all_counted}
 use Rattle.register.proofs.MapLemmas.{each_weaker}
 use Rattle.rowcheck.specs.declared.rows.Rows.{Rows}
 use Rattle.rowcheck.specs.States.{state_of}

@@ -7,8 +7,8 @@ use Rattle.std.specs.Ordering.{nat_cmp, on}
 use Rattle.std.specs.Cmp.{unsigned_tied}
 use Rattle.std.proofs.lemmas.Bool.Decides.{eqb_tells}
 use Rattle.register.specs.Offices.{BatchEntry, KeyedEntry, OfficeState, batch_cmp, entry_at, batch_at}
-use Rattle.register.specs.Keyed.{is_keyed_for, is_round_of, are_rounds_to}
-use Rattle.register.specs.Items.{all_keyed}
+use Rattle.register.specs.BatchConditions.{is_keyed_for, is_round_of, are_rounds_to}
+use Rattle.register.specs.StateConditions.{all_keyed}
 use Rattle.register.proofs.KeyedLemmas.{rounds_more, no_rounds}
 use Rattle.rowcheck.specs.Walks.Keyings.{are_keyed_for, is_rightly_keyed}
 use Rattle.rowcheck.proofs.SideBySideLemmas.{below_from, less_differs}

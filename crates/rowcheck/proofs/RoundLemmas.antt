@@ -3,8 +3,8 @@ use Rattle.std.proofs.Common.{◌≡◌, ℕ, Bool, true, false, not, ◌||◌, 
 use Rattle.std.specs.List.{list_all}
 use Rattle.std.proofs.Math.Bool.{and-true}
 use Rattle.register.specs.Offices.{KeyedEntry}
-use Rattle.register.specs.Papers.{is_keyed, of_three}
-use Rattle.register.specs.Keyed.{is_whole}
+use Rattle.register.specs.Agreement.{is_keyed, of_three}
+use Rattle.register.specs.BatchConditions.{is_whole}
 
 -- a condition on those that exist
 each_if : {X : Type 0} (p q : X → Bool) (xs : List X) → list_all p (filter q xs) ≡ list_all (λ x. not (q x) || p x) xs

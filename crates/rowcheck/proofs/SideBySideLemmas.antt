@@ -13,7 +13,7 @@ use Rattle.std.proofs.lemmas.List.{at_drop_more, length-map}
 use Rattle.std.proofs.lemmas.List.Sums.{take_while-cons}
 use Rattle.register.specs.Offices.{entry_at}
 use Rattle.register.proofs.MapLemmas.{each_weaker}
-use Rattle.rowcheck.specs.Walks.Runs.{skip_while, pass_by_run}
+use Rattle.rowcheck.specs.Walks.KeyRanges.{skip_while, pass_by_run}
 
 -- ---- fronts
 

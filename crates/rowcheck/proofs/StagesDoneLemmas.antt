@@ -18,7 +18,7 @@ use Rattle.count.specs.Law.Right.{reordered}
 use Rattle.register.specs.declared.polls.Ballots.{Ballots}
 use Rattle.register.specs.Offices.{WardEntry, CandidateEntry}
 use Rattle.register.specs.Marks.{columns_of}
-use Rattle.register.specs.Elections.{ElectionEntry, IsMadeOf, contest_of, is_finished, has_finished, is_declared, is_drawn_for, is_right_so_far, stages_of}
+use Rattle.register.specs.Elections.{ElectionEntry, IsElectionFrom, contest_of, is_finished, has_finished, is_declared, is_drawn_for, is_right_so_far, stages_of}
 use Rattle.register.proofs.BundledLemmas.{other_order, stages-alike, due-alike}
 use Rattle.rowcheck.specs.Walks.Counts.{is_drawn_by, IsOnBundlesOf}
 use Rattle.rowcheck.proofs.SideBySideLemmas.{less_differs}
@@ -81,7 +81,7 @@ module _ (e : ElectionEntry) (ward : WardEntry) (lots : List (ℕ × ℕ)) (cont
 
 -- what consists of the entries of an election has such a count
 pub made-count : (e : ElectionEntry) (ward : WardEntry) (candidates : List CandidateEntry) (ballots : Ballots (List Bundle)) (lots : List (ℕ × ℕ)) (columns : List ℕ) (contest : Contest)
-    → IsMadeOf e ward candidates ballots lots → IsContest (contest_of e) →
+    → IsElectionFrom e ward candidates ballots lots → IsContest (contest_of e) →
     columns ≡ columns_of candidates → contest ≡ contest_for columns ward.seats (papers_of ballots.papers) → IsOnBundlesOf e ward lots contest
 made-count e ward candidates ballots lots columns contest made fair are on = record {
   fair = fair;

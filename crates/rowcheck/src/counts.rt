@@ -6,10 +6,10 @@
 ghost use Rattle.std.specs.Prelude.{◌≡◌, ◌≤◌, ◌<◌, true, [], map, slice_get, option_copied, is_some, IfOk, IfSome, OnOk};
 ghost use Rattle.std.specs.List.{list_all, flat_map, AllByRecursion};
 ghost use Rattle.count.specs.Law.Contest.{IsContest};
-ghost use Rattle.register.specs.Offices.{MapsRise, ward_entry, candidate_entry, ward_at};
-ghost use Rattle.register.specs.Elections.{ElectionEntry, IsMadeOf, election_of, has_count, contest_of, stages_of};
+ghost use Rattle.register.specs.Offices.{MapsAreSorted, ward_entry, candidate_entry, ward_at};
+ghost use Rattle.register.specs.Elections.{ElectionEntry, IsElectionFrom, election_of, has_count, contest_of, stages_of};
 ghost use Rattle.register.specs.Elections.{is_declared, has_finished, is_among, is_right_so_far, is_uncounted, is_counted_right};
-ghost use Rattle.register.specs.Items.{is_lot, all_in_range, all_keyed, all_counted};
+ghost use Rattle.register.specs.StateConditions.{is_lot, all_in_range, all_keyed, all_counted};
 ghost use Rattle.register.specs.Tabulated.{bundles_in, figures_in, tabulation_of, tabulation_entries};
 ghost use Rattle.rowcheck.specs.States.{state_of};
 ghost use Rattle.rowcheck.specs.Walks.Counts.{IsFair, is_drawn_by, IsOnBundlesOf, HasCounted, IsAdded};
@@ -102,7 +102,7 @@ fn count_done(
     Ok(counted & (drawn & (!is_declared(ward.phase) | finished)))
 }
 
-/// Adds what a book has counted of a ward to the tabulation, if a stage is done. `AllocError` if an allocation fails.
+/// Adds the bundles and the figures of a ward's count to the tabulation, if a stage is done. `AllocError` if an allocation fails.
 fn add_stages(
     alloc: Global,
     ward: &Ward,
@@ -139,9 +139,9 @@ fn add_from_ballots(
     lots: &[(u8, u8)],
     tabulation: &mut Tabulation,
 ) -> Result<bool, AllocError>
-    ensures is { IfOk result (λ yes. (e : ElectionEntry) → IsMadeOf e (ward_entry ward.now) (map candidate_entry candidates.now) ballots.now lots.now
+    ensures is { IfOk result (λ yes. (e : ElectionEntry) → IsElectionFrom e (ward_entry ward.now) (map candidate_entry candidates.now) ballots.now lots.now
         → IsContest (contest_of e) → yes ≡ is_right_so_far e) }
-    ensures added { IfOk result (λ yes. (e : ElectionEntry) → IsMadeOf e (ward_entry ward.now) (map candidate_entry candidates.now) ballots.now lots.now
+    ensures added { IfOk result (λ yes. (e : ElectionEntry) → IsElectionFrom e (ward_entry ward.now) (map candidate_entry candidates.now) ballots.now lots.now
         → IsContest (contest_of e) → has_count e ≡ true → yes ≡ true → IsAdded e (tabulation_entries tabulation.old) (tabulation_entries tabulation.new)) }
 {
     let columns = columns_of(candidates);
@@ -162,7 +162,7 @@ fn add_in_count(
     ward: &Ward,
     tabulation: &mut Tabulation,
 ) -> Result<bool, AllocError>
-    requires rise { MapsRise (state_of rows.now) }
+    requires rise { MapsAreSorted (state_of rows.now) }
     requires in_range { list_all is_lot (state_of rows.now).lots ≡ true }
     requires contested { has_count (election_of (state_of rows.now) (ward_entry ward.now)) ≡ true }
     requires fair { IsContest (contest_of (election_of (state_of rows.now) (ward_entry ward.now))) }
@@ -179,7 +179,7 @@ fn add_in_count(
 
 /// Returns whether no stage of a ward is done and no lot is recorded.
 fn is_uncounted(rows: &Rows, ward: &Ward) -> bool
-    requires { MapsRise (state_of rows.now) }
+    requires { MapsAreSorted (state_of rows.now) }
     ensures { result ≡ is_uncounted (election_of (state_of rows.now) (ward_entry ward.now)) }
 {
     let undrawn = lots_of(rows, ward.number).is_empty();
@@ -194,7 +194,7 @@ fn add_count(
     ward: &Ward,
     tabulation: &mut Tabulation,
 ) -> Result<bool, AllocError>
-    requires rise { MapsRise (state_of rows.now) }
+    requires rise { MapsAreSorted (state_of rows.now) }
     requires in_range { list_all is_lot (state_of rows.now).lots ≡ true }
     requires fair { IsFair (state_of rows.now) (ward_entry ward.now) }
     ensures is { IfOk result (λ yes. yes ≡ is_counted_right (election_of (state_of rows.now) (ward_entry ward.now))) }
@@ -212,7 +212,7 @@ fn tabulation_in(
     rows: &Rows,
     wards: &[Ward],
 ) -> Result<Option<Tabulation>, AllocError>
-    requires rise { MapsRise (state_of rows.now) }
+    requires rise { MapsAreSorted (state_of rows.now) }
     requires in_range { list_all is_lot (state_of rows.now).lots ≡ true }
     requires fair { AllByRecursion (λ w. IsFair (state_of rows.now) (ward_entry w)) wards.now }
     ensures is { IfOk result (λ found. is_some found ≡ list_all (λ w. is_counted_right (election_of (state_of rows.now) (ward_entry w))) wards.now) }
@@ -229,7 +229,7 @@ fn tabulation_in(
 }
 
 fn are_of_wards(rows: &Rows, lots: &[DrawnLot]) -> bool
-    requires { MapsRise (state_of rows.now) }
+    requires { MapsAreSorted (state_of rows.now) }
     ensures { result ≡ list_all (λ l. is_some (ward_at (state_of rows.now) l.ward)) lots.now }
 {
     lots.iter().all(|lot| has_ward(rows, lot.ward))
@@ -244,7 +244,7 @@ fn are_of_wards(rows: &Rows, lots: &[DrawnLot]) -> bool
 /// Returns the tabulation of these counts, which `is_tabulated` compares, if the condition is met, otherwise none.
 /// `AllocError` if an allocation fails.
 pub fn all_counted(alloc: Global, rows: &Rows) -> Result<Option<Tabulation>, AllocError>
-    requires rise { MapsRise (state_of rows.now) }
+    requires rise { MapsAreSorted (state_of rows.now) }
     requires in_range { all_in_range (state_of rows.now) ≡ true }
     requires keyed { all_keyed (state_of rows.now) ≡ true }
     ensures is { IfOk result (λ found. is_some found ≡ all_counted (state_of rows.now)) }

@@ -2,15 +2,15 @@
 
 ghost use Rattle.std.specs.Prelude.{◌≡◌, map, is_some, option_map, option_copied};
 ghost use Rattle.std.specs.Ordering.{nat_cmp, ordering_then};
-ghost use Rattle.register.specs.Offices.{MapsRise, ward_entry, candidate_entry, batch_entry, third_entry, keyed_entry, judged_entry, lot_entry, ward_at, candidates_of, batch_at, third_at};
+ghost use Rattle.register.specs.Offices.{MapsAreSorted, ward_entry, candidate_entry, batch_entry, third_entry, keyed_entry, judged_entry, lot_entry, ward_at, candidates_of, batch_at, third_at};
 ghost use Rattle.register.specs.Offices.{keying_of, verdicts_of, lots_of};
-ghost use Rattle.register.specs.Papers.{of_three, keying_by, keyings_in};
+ghost use Rattle.register.specs.Agreement.{of_three, keying_by, keyings_in};
 ghost use Rattle.rowcheck.specs.States.{state_of};
 ghost use Rattle.rowcheck.specs.Walks.Keyings.{papers_of};
 
+use crate::key_ranges::{Row, run_of};
 use crate::rows::Rows;
-use crate::runs::{Row, run_of};
-use register::papers::{clerks_of, keyings_are_by_clerks};
+use register::agreement::{clerks_of, keyings_are_by_clerks};
 use register::{Batch, Candidate, DrawnLot, JudgedPaper, KeyedPaper, ThirdClerk, Ward};
 use std::cmp::Ordering;
 
@@ -98,7 +98,7 @@ impl Row<u32> for DrawnLot {
 
 /// Returns the ward with this number.
 pub fn ward_at(rows: &Rows, number: u32) -> Option<&Ward>
-    requires { MapsRise (state_of rows.now) }
+    requires { MapsAreSorted (state_of rows.now) }
     ensures { option_map ward_entry (option_copied result) ≡ ward_at (state_of rows.now) number }
 {
     run_of(&rows.wards, &number).first()
@@ -106,7 +106,7 @@ pub fn ward_at(rows: &Rows, number: u32) -> Option<&Ward>
 
 /// Returns whether there is a ward with this number.
 pub(crate) fn has_ward(rows: &Rows, number: u32) -> bool
-    requires { MapsRise (state_of rows.now) }
+    requires { MapsAreSorted (state_of rows.now) }
     ensures { result ≡ is_some (ward_at (state_of rows.now) number) }
 {
     ward_at(rows, number).is_some()
@@ -114,7 +114,7 @@ pub(crate) fn has_ward(rows: &Rows, number: u32) -> bool
 
 /// Returns the candidates of a ward, by number.
 pub fn candidates_of(rows: &Rows, ward: u32) -> &[Candidate]
-    requires { MapsRise (state_of rows.now) }
+    requires { MapsAreSorted (state_of rows.now) }
     ensures { map candidate_entry result.now ≡ candidates_of (state_of rows.now) ward }
 {
     run_of(&rows.candidates, &ward)
@@ -122,7 +122,7 @@ pub fn candidates_of(rows: &Rows, ward: u32) -> &[Candidate]
 
 /// Returns the batch with this number.
 pub(crate) fn batch_at(rows: &Rows, number: u32) -> Option<&Batch>
-    requires { MapsRise (state_of rows.now) }
+    requires { MapsAreSorted (state_of rows.now) }
     ensures { option_map batch_entry (option_copied result) ≡ batch_at (state_of rows.now) number }
 {
     run_of(&rows.batches, &number).first()
@@ -130,7 +130,7 @@ pub(crate) fn batch_at(rows: &Rows, number: u32) -> Option<&Batch>
 
 /// Returns whether there is a batch with this number.
 pub(crate) fn has_batch(rows: &Rows, number: u32) -> bool
-    requires { MapsRise (state_of rows.now) }
+    requires { MapsAreSorted (state_of rows.now) }
     ensures { result ≡ is_some (batch_at (state_of rows.now) number) }
 {
     batch_at(rows, number).is_some()
@@ -138,7 +138,7 @@ pub(crate) fn has_batch(rows: &Rows, number: u32) -> bool
 
 /// Returns the row of a batch's third clerk, if one is assigned.
 fn third_row(rows: &Rows, batch: u32) -> Option<&ThirdClerk>
-    requires { MapsRise (state_of rows.now) }
+    requires { MapsAreSorted (state_of rows.now) }
     ensures { option_map third_entry (option_copied result) ≡ third_at (state_of rows.now) batch }
 {
     run_of(&rows.thirds, &batch).first()
@@ -146,7 +146,7 @@ fn third_row(rows: &Rows, batch: u32) -> Option<&ThirdClerk>
 
 /// Returns the third clerk of a batch, if one is assigned.
 pub fn third_at(rows: &Rows, batch: u32) -> Option<ThirdClerk>
-    requires { MapsRise (state_of rows.now) }
+    requires { MapsAreSorted (state_of rows.now) }
     ensures { option_map third_entry result ≡ third_at (state_of rows.now) batch }
 {
     match third_row(rows, batch) {
@@ -160,7 +160,7 @@ pub fn third_at(rows: &Rows, batch: u32) -> Option<ThirdClerk>
 
 /// Returns the papers keyed of a batch, in all its rounds and by all its clerks.
 pub(crate) fn papers_of(rows: &Rows, batch: u32) -> &[KeyedPaper]
-    requires { MapsRise (state_of rows.now) }
+    requires { MapsAreSorted (state_of rows.now) }
     ensures { map keyed_entry result.now ≡ papers_of (state_of rows.now) batch }
 {
     run_of(&rows.keyings, &batch)
@@ -168,7 +168,7 @@ pub(crate) fn papers_of(rows: &Rows, batch: u32) -> &[KeyedPaper]
 
 /// Returns a clerk's keying of a batch in a round, in the order of the papers.
 pub fn keying_of(rows: &Rows, batch: u32, round: u32, clerk: u32) -> &[KeyedPaper]
-    requires { MapsRise (state_of rows.now) }
+    requires { MapsAreSorted (state_of rows.now) }
     ensures { map keyed_entry result.now ≡ keying_of (state_of rows.now) batch round clerk }
 {
     let key = KeyingKey {
@@ -181,7 +181,7 @@ pub fn keying_of(rows: &Rows, batch: u32, round: u32, clerk: u32) -> &[KeyedPape
 
 /// Returns a clerk's keying of a batch in a round, or nothing if there is no such clerk.
 fn keying_by(rows: &Rows, batch: u32, round: u32, clerk: Option<u32>) -> &[KeyedPaper]
-    requires { MapsRise (state_of rows.now) }
+    requires { MapsAreSorted (state_of rows.now) }
     ensures { map keyed_entry result.now ≡ keying_by (state_of rows.now) batch round clerk }
 {
     match clerk {
@@ -192,7 +192,7 @@ fn keying_by(rows: &Rows, batch: u32, round: u32, clerk: Option<u32>) -> &[Keyed
 
 /// Returns the keyings of a batch in a round by its two or three clerks, in the order of their numbers.
 pub(crate) fn keyings_in<'a>(rows: &'a Rows, batch: &Batch, round: u32) -> RoundKeyings<'a>
-    requires { MapsRise (state_of rows.now) }
+    requires { MapsAreSorted (state_of rows.now) }
     ensures { of_three (map keyed_entry result.first.now) (map keyed_entry result.second.now) (map keyed_entry result.third.now) ≡ keyings_in (state_of rows.now) (batch_entry batch.now) round }
 {
     keyings_are_by_clerks();
@@ -206,7 +206,7 @@ pub(crate) fn keyings_in<'a>(rows: &'a Rows, batch: &Batch, round: u32) -> Round
 
 /// Returns the verdicts on papers of a batch, in the order of the papers.
 pub fn verdicts_of(rows: &Rows, batch: u32) -> &[JudgedPaper]
-    requires { MapsRise (state_of rows.now) }
+    requires { MapsAreSorted (state_of rows.now) }
     ensures { map judged_entry result.now ≡ verdicts_of (state_of rows.now) batch }
 {
     run_of(&rows.verdicts, &batch)
@@ -214,7 +214,7 @@ pub fn verdicts_of(rows: &Rows, batch: u32) -> &[JudgedPaper]
 
 /// Returns the lots of a ward, in the order of the stages.
 pub fn lots_of(rows: &Rows, ward: u32) -> &[DrawnLot]
-    requires { MapsRise (state_of rows.now) }
+    requires { MapsAreSorted (state_of rows.now) }
     ensures { map lot_entry result.now ≡ lots_of (state_of rows.now) ward }
 {
     run_of(&rows.lots, &ward)

@@ -20,7 +20,7 @@
 // Rows,
 pub mod rows;
 // the runs of them that bisection finds,
-mod runs;
+mod key_ranges;
 // and the entries found this way.
 pub mod finding;
 // Comparing two offices.
@@ -28,14 +28,14 @@ mod sameness;
 // The conditions, and what they read: subjects of receipts, and numbers in them.
 mod batches;
 mod counts;
-mod items;
 mod keyings;
 mod nominations;
+mod numbered_conditions;
 mod plain;
 mod polls;
 mod ranges;
 mod subjects;
-mod tabulated;
+mod tabulation;
 mod verdicts;
 
 pub use batches::all_given_out;
@@ -46,14 +46,14 @@ pub use polls::all_agreed;
 pub use ranges::all_in_range;
 pub use rows::Rows;
 pub use sameness::are_same;
-pub use tabulated::is_tabulated;
+pub use tabulation::is_tabulated;
 pub use verdicts::all_judged;
 
 // The conditions by number.
 pub use batches::all_given_out as item3;
-pub use items::{item7, item8};
 pub use keyings::all_keyed as item4;
 pub use nominations::all_nominated as item2;
+pub use numbered_conditions::{item7, item8};
 pub use polls::all_agreed as item6;
 pub use ranges::all_in_range as item1;
 pub use verdicts::all_judged as item5;

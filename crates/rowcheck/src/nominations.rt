@@ -5,11 +5,11 @@
 
 ghost use Rattle.std.specs.Prelude.{◌≡◌, ◌==◌, map, take_while};
 ghost use Rattle.std.specs.List.{prefix_len};
-ghost use Rattle.register.specs.Offices.{MapsRise, ward_entry, candidate_entry};
+ghost use Rattle.register.specs.Offices.{MapsAreSorted, ward_entry, candidate_entry};
 ghost use Rattle.register.specs.Nominations.{are_enough};
-ghost use Rattle.register.specs.Items.{all_nominated};
+ghost use Rattle.register.specs.StateConditions.{all_nominated};
 ghost use Rattle.rowcheck.specs.States.{state_of};
-ghost use Rattle.rowcheck.specs.Walks.Runs.{skip_while};
+ghost use Rattle.rowcheck.specs.Walks.KeyRanges.{skip_while};
 ghost use Rattle.rowcheck.specs.Walks.Nominations.{are_nominated};
 
 use crate::rows::Rows;
@@ -63,7 +63,7 @@ fn are_nominated(wards: &[Ward], candidates: &[Candidate]) -> bool
 /// more than seats during keying, at least one once it is sealed. This is the second condition on the rows of an office,
 /// whose wards and candidates are in key order without duplicates.
 pub fn all_nominated(rows: &Rows) -> bool
-    requires { MapsRise (state_of rows.now) }
+    requires { MapsAreSorted (state_of rows.now) }
     ensures { result ≡ all_nominated (state_of rows.now) }
 {
     are_nominated(&rows.wards, &rows.candidates)

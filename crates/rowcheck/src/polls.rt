@@ -2,10 +2,10 @@
 
 ghost use Rattle.std.specs.Prelude.{◌≡◌, ◌++◌, ◌∷◌, [], map, IfOk};
 ghost use Rattle.std.specs.List.{list_all};
-ghost use Rattle.register.specs.Offices.{MapsRise, ward_entry, batch_entry};
+ghost use Rattle.register.specs.Offices.{MapsAreSorted, ward_entry, batch_entry};
 ghost use Rattle.register.specs.Polls.{pile_of, piles_of, is_settled, ballots_in, StandFor, are_bundled};
 ghost use Rattle.register.specs.Elections.{election_of, is_counted, is_in_count, is_agreed};
-ghost use Rattle.register.specs.Items.{all_agreed};
+ghost use Rattle.register.specs.StateConditions.{all_agreed};
 ghost use Rattle.rowcheck.specs.States.{state_of};
 ghost use Rattle.rowcheck.specs.Walks.Polls.{is_settled_for, piles_in};
 
@@ -13,7 +13,7 @@ use crate::finding::{candidates_of, keyings_in, verdicts_of};
 use crate::rows::Rows;
 use count::Bundles;
 use paper::Columns;
-use register::papers::{agreed, count_open, is_keyed};
+use register::agreement::{agreed, count_open, is_keyed};
 use register::wards::is_contested;
 use register::{Ballots, Batch, Phase, Ward};
 use std::alloc::{AllocError, Global};
@@ -30,7 +30,7 @@ fn is_counted(phase: Phase) -> bool
 
 /// Returns whether a ward has been sealed and its election is contested.
 pub(crate) fn is_in_count(rows: &Rows, ward: &Ward) -> bool
-    requires { MapsRise (state_of rows.now) }
+    requires { MapsAreSorted (state_of rows.now) }
     ensures { result ≡ is_in_count (election_of (state_of rows.now) (ward_entry ward.now)) }
 {
     let contested = is_contested(ward, candidates_of(rows, ward.number));
@@ -39,7 +39,7 @@ pub(crate) fn is_in_count(rows: &Rows, ward: &Ward) -> bool
 
 /// Returns whether a batch is taken and every doubtful paper of it has a verdict.
 fn is_settled(rows: &Rows, batch: &Batch) -> bool
-    requires { MapsRise (state_of rows.now) }
+    requires { MapsAreSorted (state_of rows.now) }
     ensures { result ≡ is_settled (pile_of (state_of rows.now) (batch_entry batch.now)) }
 {
     let keyings = keyings_in(rows, batch, batch.round);
@@ -50,7 +50,7 @@ fn is_settled(rows: &Rows, batch: &Batch) -> bool
 
 /// Returns whether a batch is settled, if it belongs to this ward.
 fn is_settled_for(rows: &Rows, ward: u32, batch: &Batch) -> bool
-    requires { MapsRise (state_of rows.now) }
+    requires { MapsAreSorted (state_of rows.now) }
     ensures { result ≡ is_settled_for (state_of rows.now) ward (batch_entry batch.now) }
 {
     if batch.ward != ward {
@@ -60,7 +60,7 @@ fn is_settled_for(rows: &Rows, ward: u32, batch: &Batch) -> bool
 }
 
 fn are_settled(rows: &Rows, ward: u32, batches: &[Batch]) -> bool
-    requires { MapsRise (state_of rows.now) }
+    requires { MapsAreSorted (state_of rows.now) }
     ensures { result ≡ list_all (λ b. is_settled_for (state_of rows.now) ward (batch_entry b)) batches.now }
 {
     batches
@@ -70,7 +70,7 @@ fn are_settled(rows: &Rows, ward: u32, batches: &[Batch]) -> bool
 
 /// Returns whether every batch of a ward is settled, if its count has begun.
 fn is_agreed(rows: &Rows, ward: &Ward) -> bool
-    requires { MapsRise (state_of rows.now) }
+    requires { MapsAreSorted (state_of rows.now) }
     ensures { result ≡ is_agreed (election_of (state_of rows.now) (ward_entry ward.now)) }
 {
     if !is_in_count(rows, ward) {
@@ -80,7 +80,7 @@ fn is_agreed(rows: &Rows, ward: &Ward) -> bool
 }
 
 fn are_agreed(rows: &Rows, wards: &[Ward]) -> bool
-    requires { MapsRise (state_of rows.now) }
+    requires { MapsAreSorted (state_of rows.now) }
     ensures { result ≡ list_all (λ w. is_agreed (election_of (state_of rows.now) (ward_entry w))) wards.now }
 {
     wards.iter().all(|ward| is_agreed(rows, ward))
@@ -89,7 +89,7 @@ fn are_agreed(rows: &Rows, wards: &[Ward]) -> bool
 /// Returns whether in every contested ward that was sealed all batches are taken and all their doubtful papers have
 /// verdicts. This is the sixth condition on the rows of an office, whose tables are in key order without duplicates.
 pub fn all_agreed(rows: &Rows) -> bool
-    requires { MapsRise (state_of rows.now) }
+    requires { MapsAreSorted (state_of rows.now) }
     ensures { result ≡ all_agreed (state_of rows.now) }
 {
     are_agreed(rows, &rows.wards)
@@ -102,7 +102,7 @@ fn add_batch(
     columns: Columns,
     batch: &Batch,
 ) -> Result<(), AllocError>
-    requires { MapsRise (state_of rows.now) }
+    requires { MapsAreSorted (state_of rows.now) }
     ensures { IfOk result (λ _. (piles : _) → StandFor are_bundled ballots.old (ballots_in columns piles)
         → StandFor are_bundled ballots.new (ballots_in columns (piles ++ (pile_of (state_of rows.now) (batch_entry batch.now) ∷ [])))) }
 {
@@ -125,7 +125,7 @@ fn ballots_among(
     ward: u32,
     batches: &[Batch],
 ) -> Result<Ballots<Bundles>, AllocError>
-    requires { MapsRise (state_of rows.now) }
+    requires { MapsAreSorted (state_of rows.now) }
     ensures { IfOk result (λ ballots. StandFor are_bundled ballots (ballots_in columns (piles_in (state_of rows.now) ward (map batch_entry batches.now)))) }
 {
     let mut ballots = Ballots::new(Bundles::new(alloc));
@@ -144,7 +144,7 @@ pub(crate) fn ballots_of(
     columns: Columns,
     ward: u32,
 ) -> Result<Ballots<Bundles>, AllocError>
-    requires { MapsRise (state_of rows.now) }
+    requires { MapsAreSorted (state_of rows.now) }
     ensures { IfOk result (λ ballots. StandFor are_bundled ballots (ballots_in columns (piles_of (state_of rows.now) ward))) }
 {
     ballots_among(alloc, rows, columns, ward, &rows.batches)

@@ -3,7 +3,7 @@
 ghost use Rattle.std.specs.Prelude.{◌≡◌, Bool};
 ghost use Rattle.std.specs.List.{list_all};
 ghost use Rattle.register.specs.Offices.{ward_entry, candidate_entry, batch_entry, third_entry, keyed_entry, judged_entry, lot_entry, receipt_entry};
-ghost use Rattle.register.specs.Items.{is_ward, is_candidate, is_batch, is_third, is_keyed_paper, is_judged_paper, is_lot, is_about, is_receipt, all_in_range};
+ghost use Rattle.register.specs.StateConditions.{is_ward, is_candidate, is_batch, is_third, is_keyed_paper, is_judged_paper, is_lot, is_about, is_receipt, all_in_range};
 ghost use Rattle.rowcheck.specs.States.{state_of};
 
 use crate::rows::Rows;

@@ -5,7 +5,7 @@ use Rattle.std.proofs.lemmas.List.Elements.{All-push}
 use Rattle.sqlite.specs.Held.{Held}
 use Rattle.sqlite.specs.State.{HasCleanDisk, State}
 use Rattle.register.specs.Offices.{OfficeState}
-use Rattle.store.specs.Offices.{IsAt}
+use Rattle.store.specs.StateTables.{IsAt}
 use Rattle.office.specs.Answers.{IsOpenAt, IsReadAt, WhenOpenAt}
 use Rattle.office.specs.Values.{OfficeValue}
 use Rattle.connections.specs.Clients.{IsSent}

@@ -4,12 +4,12 @@ use Rattle.std.proofs.lemmas.Bool.{both_ways, eq-eqb, eqb-true}
 use Rattle.std.specs.Str.{bytes_eq}
 use Rattle.sqlite.specs.Held.{Held}
 use Rattle.sqlite.specs.State.{State}
-use Rattle.register.specs.Items.{IsState}
+use Rattle.register.specs.StateConditions.{IsState}
 use Rattle.register.specs.Machine.{Ruling, accepts, after, answered, decided, keeps, outcome_at, part_of, refuses, ruling_at, state_after, step, step_of, subject_of}
 use Rattle.register.specs.Offices.{OfficeState, ReceiptEntry, receipt_at}
 use Rattle.register.specs.Ranges.{is_batch_number, is_clerk, is_id, is_office}
 use Rattle.register.specs.Seen.{seen_by}
-use Rattle.register.specs.Standings.{BallotPaperEntry, WorkEntry}
+use Rattle.register.specs.Status.{BallotPaperEntry, WorkEntry}
 use Rattle.register.specs.declared.command.Command.{Command}
 use Rattle.register.specs.declared.command.Command.TheVariants as command
 use Rattle.register.specs.declared.command.Request.{Request}
@@ -29,7 +29,7 @@ use Rattle.wire.specs.Told.{IsTold}
 use Rattle.wire.specs.declared.request_error.RequestError.{RequestError}
 use Rattle.wire.specs.declared.serving.Served.{Served}
 use Rattle.wire.specs.declared.target.Resource.{Resource}
-use Rattle.wire.specs.declared.target.Resource.TheVariants.{Candidates, Declaration, Sheet, Work}
+use Rattle.wire.specs.declared.target.Resource.TheVariants.{Candidates, Declaration, Office, Sheet, Work}
 use Rattle.wire.proofs.RequestLemmas.{AsksOneThing-all}
 use Rattle.server.specs.Blind.{AnswersAsSeen, RespondsBySeen, IsAnsweredBySeen, IsStoppedBySeen, IsUnder}
 use Rattle.server.specs.Settings.{ServerSettingsEntry}
@@ -136,6 +136,7 @@ module _ (itself : SeenIsAlike) (alike : AlikeOfficesAnswerAlike) (seen : SeenIs
       subst (λ (m : ℕ). reading_response s (Candidates m batch) ≡ reading_response (seen_by clerk s) (Candidates m batch)) (sym same) (paper_seen s batch)
   read_seen s (Sheet ward) its = absurd (cc its)
   read_seen s (Declaration ward) its = absurd (cc its)
+  read_seen s (Office read) its = absurd (cc its)
 
   -- ---- one turn
 

@@ -13,7 +13,7 @@ use Rattle.register.specs.declared.command.Request.{Request}
 use Rattle.tables.specs.Faults.{fault_number}
 use Rattle.tables.specs.declared.fault.Fault.{Fault}
 use Rattle.tables.specs.declared.fault.Fault.TheVariants.{Memory}
-use Rattle.store.specs.Offices.{IsAt, LeavesState}
+use Rattle.store.specs.StateTables.{IsAt, LeavesState}
 use Rattle.office.specs.Answers.{IsMemoryOrStore, IsOpenAt, IsReadAt, told_of}
 use Rattle.office.specs.Values.{OfficeValue}
 use Rattle.office.proofs.RunLemmas.{beginning}
@@ -34,7 +34,7 @@ use Rattle.server.specs.ConsoleOrders.{IsInResponse, TellsConsole}
 use Rattle.wire.specs.Gates.{HttpSettingsEntry}
 use Rattle.server.specs.Reads.{AreReadAt, ServedOffice, IsRead, ReadEntry, with_none_kept}
 use Rattle.server.specs.Settings.{ServerSettingsEntry}
-use Rattle.server.specs.Exchanges.{AnswersInTurn, AreTurnedAway, AsksNoOrder, ChangesNothing, EndsSo, IsAnsweredAt, IsKeptOf, IsKeptWaiting, IsLastFor, IsStoppedAt}
+use Rattle.server.specs.Exchanges.{AnswersInTurn, AreTurnedAway, AsksNoOrder, ChangesNothing, EndsSo, IsAnsweredAt, IsStoredCountOf, IsKeptWaiting, IsLastFor, IsStoppedAt}
 use Rattle.server.specs.Exchanges.{IsToldClosed, IsSentAway, IsWithoutFile, KeepsReads, ServesAsked, ServesAt, ServesClient, ServesExchange, Exchange}
 use Rattle.desk.specs.declared.orders.Job.{Job}
 use Rattle.server.specs.declared.served_order.ServedOrder.{ServedOrder}
@@ -425,7 +425,7 @@ module _ {S : Type 0} (settings : ServerSettingsEntry) (state_of : Held S → St
   pub kept_of : (earlier : List Request) (exchanges : List Exchange) (old : OfficeValue S) (new : ServedOffice S)
       → FoldsTo (ServesExchange settings state_of) (with_none_kept old) exchanges new
       → HasCleanDisk (state_of new.office.held) → old.closed ≡ false → IsAt (after empty_office earlier) (state_of old.held)
-      → IsKeptOf state_of settings earlier exchanges new.office.closed (state_of new.office.held)
+      → IsStoredCountOf state_of settings earlier exchanges new.office.closed (state_of new.office.held)
   kept_of earlier exchanges old new each clean is_open at =
       let it = keeps (after empty_office earlier) exchanges (with_none_kept old) new each clean is_open at (none_read (after empty_office earlier) [] refl) in
       record {

@@ -19,7 +19,7 @@ use Rattle.order_protocol.specs.declared.order_message.MessagePart.{MessagePart}
 use Rattle.order_protocol.proofs.MessageParts.{handed_again}
 use Rattle.desk.specs.Pages.{Cut, IsShown, Outputs, Page, Shows, Tells, cut_behind, cut_error, uncut}
 use Rattle.desk.specs.declared.lines.Failure.TheVariants.{Office}
-use Rattle.server.specs.ServedOrders.{AsksSo, Follows, IsOrderOutcome, FollowsOrder, IsForFile, IsMessage, IsUnread, TellsAsked, folder_of, shut_page, untold, words_in}
+use Rattle.server.specs.ServedOrders.{AsksSo, Follows, IsOrderOutcome, FollowsOrder, IsForFile, IsMessage, IsUnread, IsResponseToOrder, folder_of, shut_page, untold, words_in}
 use Rattle.server.specs.FrameSinks.{IsEnded}
 use Rattle.server.specs.Settings.{ServerSettingsEntry}
 use Rattle.server.specs.declared.served_order.ServedOrder.{ServedOrder}
@@ -79,7 +79,7 @@ pub tells_asked : {L S : Type 0} (stream : Stream L) (state_of : Held S → Stat
     (now : L) (answer : PendingResponse) → before ≡ untold → after.err ≡ Some err → ((said : List ℕ) → after.out ≡ Some said → IsEnded stream said status err now answer)
     → Tells before after status (λ cut page. WhenOpenAt state_of old new (λ s. IsOrderOutcome (state_of old.held) new.closed (state_of new.held) (folder_of files) s what cut page)
     × (old.closed ≡ true → page ≡ shut_page what)) → (old.closed ≡ true → new ≡ old) → (HasCleanDisk (state_of new.held) → HasCleanDisk (state_of old.held))
-    → TellsAsked state_of old files what answer.bytes.items new × IsSent stream now answer.bytes.items answer.sent
+    → IsResponseToOrder state_of old files what answer.bytes.items new × IsSent stream now answer.bytes.items answer.sent
 tells_asked {L} {S} stream state_of old new files what before after status err now answer start is_err ends it stays clean =
     let shown : IsShown it.cut untold after it.page status = subst (λ (o : Outputs). IsShown it.cut o after it.page status) start it.shown in
     let (said, took) = shown_said it.cut after it.page status shown in
@@ -162,14 +162,14 @@ order_unread file got message fault is (inr (store, none)) = subst (λ (f : Faul
 
 -- what isn't read is refused
 pub follows_unread : {S : Type 0} (settings : ServerSettingsEntry) (state_of : Held S → State) (old new : OfficeValue S) (got frames : List ℕ) (files : List MessagePartEntry) (what : ServedOrder)
-    → IsUnread settings.file got what → files ≡ [] → TellsAsked state_of old files what frames new → FollowsOrder settings state_of old got frames new
+    → IsUnread settings.file got what → files ≡ [] → IsResponseToOrder state_of old files what frames new → FollowsOrder settings state_of old got frames new
 follows_unread {S} settings state_of old new got frames files what unread none tells = record { files = files; asked = what; is = inr (unread, none); tells = tells }
 
 -- what is read is followed, by the words and with the files as they were read
 pub follows_read : {S : Type 0} (settings : ServerSettingsEntry) (state_of : Held S → State) (old new : OfficeValue S) (got frames : List ℕ) (h : OrderMessage)
     (files : List MessagePart) (what : ServedOrder)
     → IsMessage got (order_message_entry h) → IsForFile settings.file (order_message_entry h) → files ≡ h.files.items → AsksSo settings.whole (words_in (order_message_entry h)) what
-    → TellsAsked state_of old (message_part_entries files) what frames new → FollowsOrder settings state_of old got frames new
+    → IsResponseToOrder state_of old (message_part_entries files) what frames new → FollowsOrder settings state_of old got frames new
 follows_read {S} settings state_of old new got frames h files what message for_file same asks tells =
     record { files = message_part_entries files; asked = what; is = inl (order_message_entry h, message, for_file, ap message_part_entries same, asks); tells = tells }
 

@@ -2,13 +2,13 @@
 use Rattle.std.specs.Prelude.{◌≡◌, ◌⊎◌, ⊤, Bool, false, true, List, [], ◌∷◌, Option, Result, Some, map, ℕ}
 use Rattle.sqlite.specs.Held.{Held}
 use Rattle.sqlite.specs.State.{HasCleanDisk, State}
-use Rattle.register.specs.Items.{IsState}
+use Rattle.register.specs.StateConditions.{IsState}
 use Rattle.register.specs.Machine.{after}
 use Rattle.register.specs.Offices.{OfficeState, empty_office}
 use Rattle.register.specs.Ranges.{is_clerk}
 use Rattle.register.specs.Seen.{seen_by}
 use Rattle.register.specs.declared.command.Request.{Request}
-use Rattle.store.specs.Offices.{IsAt}
+use Rattle.store.specs.StateTables.{IsAt}
 use Rattle.office.specs.Values.{OfficeValue}
 use Rattle.connections.specs.Streams.{Stream}
 use Rattle.connections.specs.Tables.{NetworkEntry}
@@ -24,7 +24,7 @@ use Rattle.server.specs.ServedOrders.{TellsOrder}
 use Rattle.server.specs.ConsoleOrders.{TellsConsole}
 use Rattle.server.specs.Servers.{ServesConnections}
 use Rattle.server.specs.Settings.{ServerSettingsEntry}
-use Rattle.server.specs.Exchanges.{AnswersInTurn, AreTurnedAway, AsksNoOrder, EndsSo, IsClientAnsweredAt, IsKeptOf, IsToldClosed, Exchange}
+use Rattle.server.specs.Exchanges.{AnswersInTurn, AreTurnedAway, AsksNoOrder, EndsSo, IsClientAnsweredAt, IsStoredCountOf, IsToldClosed, Exchange}
 use Rattle.server.specs.declared.serve_error.ServeError.{ServeError}
 
 -- ---- one request, next to a clerk's view of the office
@@ -35,7 +35,7 @@ pub record IsUnder (settings : HttpSettingsEntry) (clerk : ℕ) (bytes : List �
   pub asks : Asks settings bytes asked
   pub its : clerk_asked asked ≡ Some clerk
 
--- The law: whoever asks for something under a clerk's number asks no order.
+-- The law: a request for something under a clerk's number asks no order.
 abbrev pub ClerksAskNoOrder : Type 0
 ClerksAskNoOrder = (settings : HttpSettingsEntry) (clerk : ℕ) (bytes : List ℕ) → IsUnder settings clerk bytes → AsksNoOrder settings bytes
 
@@ -93,7 +93,7 @@ ClerksAreAnsweredAsSeen state_of =
 -- The same of requests to an office that earlier requests led to, by what is kept of them.
 abbrev pub KeptAreAnsweredAsSeen : {S : Type 0} → (Held S → State) → Type 0
 KeptAreAnsweredAsSeen {S} state_of =
-    (settings : ServerSettingsEntry) (earlier : List Request) (exchanges : List Exchange) (closed : Bool) (held : Held S) → IsKeptOf state_of settings earlier exchanges closed (state_of held)
+    (settings : ServerSettingsEntry) (earlier : List Request) (exchanges : List Exchange) (closed : Bool) (held : Held S) → IsStoredCountOf state_of settings earlier exchanges closed (state_of held)
     → (clerk : ℕ) → is_clerk clerk ≡ true → AnswersAsSeen state_of settings clerk (seen_by clerk (after empty_office earlier)) exchanges
 
 -- The same of a server, for any requests that it processed as it promises.
@@ -118,7 +118,7 @@ abbrev pub AreClients : HttpSettingsEntry → List Exchange → Type 0
 AreClients settings [] = ⊤
 AreClients settings (exchange ∷ exchanges) = (exchange.listener ≡ Clients) × AsksNoOrder settings exchange.got × AreClients settings exchanges
 
--- a client got no answer: a fault came, the office was closed or its file gone, or the client has to wait
+-- a client got no answer: there was a fault, the office was closed or its file gone, or the client has to wait
 abbrev pub IsUnanswered : ServerSettingsEntry → Exchange → Type 0
 IsUnanswered settings exchange = EndsSo exchange (IsServed TellsFault) ⊎ IsToldClosed Clients settings exchange
 

@@ -1,6 +1,7 @@
 -- An order that the officer's console sends: what it asks, the outcome, and its output in one response.
-use Rattle.std.specs.Prelude.{◌≡◌, ◌⊎◌, ◌&&◌, List, [], Some, if◌then◌else◌, map, ℕ}
+use Rattle.std.specs.Prelude.{◌≡◌, ◌⊎◌, ◌&&◌, ◌∷◌, List, [], Some, codes, if◌then◌else◌, map, ℕ}
 use Rattle.std.specs.Str.{is_utf8}
+use Rattle.clap.specs.Words.{Text}
 use Rattle.sqlite.specs.Held.{Held}
 use Rattle.sqlite.specs.State.{State}
 use Rattle.register.specs.Offices.{OfficeState}
@@ -24,13 +25,17 @@ use Rattle.server.specs.declared.served_order.ServedOrder.TheVariants as asked
 
 -- ---- what it asks
 
+-- its words, as they are typed: after DB
+abbrev pub typed_words : List Text → List Text
+typed_words words = codes "DB" ∷ words
+
 -- a file that came with it, by its name, with its text
 abbrev pub sent_file : ConsoleFileEntry → MessagePartEntry
 sent_file file = record { name = file.name; bytes = Some file.text }
 
 -- an order asks this, with the files that came with it; or an allocation failed
 abbrev pub AsksConsole : ServerSettingsEntry → ConsoleOrderEntry → List MessagePartEntry → ServedOrder → Type 0
-AsksConsole settings entry files what = ((files ≡ map sent_file entry.files) × AsksSo settings.whole entry.words what) ⊎ ((what ≡ asked.Refused (Office Memory)) × (files ≡ []))
+AsksConsole settings entry files what = ((files ≡ map sent_file entry.files) × AsksSo settings.whole (typed_words entry.words) what) ⊎ ((what ≡ asked.Refused (Office Memory)) × (files ≡ []))
 
 -- ---- its output
 

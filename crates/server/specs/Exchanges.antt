@@ -189,7 +189,7 @@ AnswersInTurn state_of settings s (exchange ∷ exchanges) answered last =
 
 -- What is kept of the requests that were processed, after earlier ones. An open office is at the state after all that were answered. Whatever a stop leaves is the state
 -- after the accepted requests of a beginning. That beginning contains every earlier request, every one that was answered, and at most one more.
-pub record IsKeptOf {S : Type 0} (state_of : Held S → State) (settings : ServerSettingsEntry) (earlier : List Request) (exchanges : List Exchange) (closed : Bool) (st : State) : Type 0 where
+pub record IsStoredCountOf {S : Type 0} (state_of : Held S → State) (settings : ServerSettingsEntry) (earlier : List Request) (exchanges : List Exchange) (closed : Bool) (st : State) : Type 0 where
   pub answered : List Request
   pub last : List Request
   pub in_turn : AnswersInTurn state_of settings (after empty_office earlier) exchanges answered last

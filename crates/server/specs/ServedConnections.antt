@@ -8,7 +8,7 @@ use Rattle.connections.specs.declared.client.Accepted.{Accepted}
 use Rattle.connections.specs.declared.removed.Removed.{Removed}
 use Rattle.connections.specs.declared.removed.CloseReason.{CloseReason}
 use Rattle.connections.specs.declared.removed.CloseReason.TheVariants.{Done, Broken, Unreadable, TimedOut, Evicted, Closing}
-use Rattle.connections.specs.declared.table.ConnectionTable.{ConnectionTable}
+use Rattle.connections.specs.declared.connection_table.ConnectionTable.{ConnectionTable}
 use Rattle.server.specs.Settings.{ServerSettingsEntry}
 use Rattle.server.specs.Servicing.{HasComeAt, answer_of}
 use Rattle.server.specs.Exchanges.{Exchange}

@@ -162,15 +162,15 @@ pub record Follows {S : Type 0} (state_of : Held S → State) (old : OfficeValue
   pub clean : HasCleanDisk (state_of new.held) → HasCleanDisk (state_of old.held)
 
 -- what is asked was done, and these frames are the response
-abbrev pub TellsAsked : {S : Type 0} → (Held S → State) → OfficeValue S → List MessagePartEntry → ServedOrder → List ℕ → OfficeValue S → Type 0
-TellsAsked state_of old files asked frames new = Follows state_of old files asked (λ cut page. IsFramed cut page frames) new
+abbrev pub IsResponseToOrder : {S : Type 0} → (Held S → State) → OfficeValue S → List MessagePartEntry → ServedOrder → List ℕ → OfficeValue S → Type 0
+IsResponseToOrder state_of old files asked frames new = Follows state_of old files asked (λ cut page. IsFramed cut page frames) new
 
 -- the order that these bytes ask was processed, and these frames are the response
 pub record FollowsOrder {S : Type 0} (settings : ServerSettingsEntry) (state_of : Held S → State) (old : OfficeValue S) (got frames : List ℕ) (new : OfficeValue S) : Type 0 where
   pub files : List MessagePartEntry
   pub asked : ServedOrder
   pub is : AsksOrder settings got files asked
-  pub tells : TellsAsked state_of old files asked frames new
+  pub tells : IsResponseToOrder state_of old files asked frames new
 
 -- ---- its output at a state
 

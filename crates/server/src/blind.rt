@@ -11,7 +11,7 @@ use sqlite::Alter;
 
 /// The law of blind keying, for a server. What that clerk sees alone determines the response to each request under a clerk's
 /// number: the wards and their phases, the candidates, the batches, the clerk's own keyings and receipts. Nothing that another
-/// clerk sends changes it. An order may, since it is the office's; nobody who asks under a clerk's number asks one.
+/// clerk sends changes it. An order may, since it is the office's; no request under a clerk's number is an order.
 ///
 /// So take two services whose offices look alike to a clerk, and that receive no orders, neither handed over nor from the
 /// console. If both receive the same bytes under the clerk's number, in the same order, both send the clerk the same, whatever

@@ -8,7 +8,7 @@ ghost use Rattle.wire.specs.ConsoleOrders.{console_file_entry, console_order_ent
 ghost use Rattle.wire.specs.Told.{IsTold};
 ghost use Rattle.server.specs.Settings.{settings_in};
 ghost use Rattle.server.specs.ServedOrders.{Follows};
-ghost use Rattle.server.specs.ConsoleOrders.{FollowsEntry, HasPrinted, printed_response, sent_file};
+ghost use Rattle.server.specs.ConsoleOrders.{FollowsEntry, HasPrinted, printed_response, sent_file, typed_words};
 
 use crate::order_response::{AttachedFiles, OrderContext, do_asked, unless_gone};
 use crate::served_order::{ServedOrder, served_order_by};
@@ -23,18 +23,18 @@ use std::alloc::{AllocError, Global};
 use store::Fault;
 use wire::{ConsoleFile, ConsoleOrder, Response};
 
-/// The words of an order, and the files that came with it.
+/// The words of an order as they are typed, and the files that came with it.
 #[derive(Drop)]
 struct ReadOrder<'a> {
     words: Vec<&'a str>,
     files: Vec<MessagePart<'a>>,
 }
 
-/// Returns the words of an order. The only error is a failed allocation.
-fn words_of<'a>(alloc: Global, words: &'a [String]) -> Result<Vec<&'a str>, AllocError>
-    ensures { IfOk result (λ texts. map (λ text. text.now) texts.items ≡ map string_bytes words.now) }
+/// Returns the words of an order as they are typed, the first of which is DB. The only error is a failed allocation.
+fn typed_words<'a>(alloc: Global, words: &'a [String]) -> Result<Vec<&'a str>, AllocError>
+    ensures { IfOk result (λ texts. map (λ text. text.now) texts.items ≡ typed_words (map string_bytes words.now)) }
 {
-    let mut texts = Vec::new(alloc);
+    let mut texts = vec![in alloc; "DB"]?;
     for word in words {
         texts.push(word.as_str())?;
     }
@@ -55,12 +55,12 @@ fn files_of<'a>(alloc: Global, files: &'a [ConsoleFile]) -> Result<Vec<MessagePa
     Ok(parts)
 }
 
-/// Returns the words and the files of an order. The only error is a failed allocation.
+/// Returns the words of an order as they are typed, and its files. The only error is a failed allocation.
 fn read_order<'a>(alloc: Global, order: &'a ConsoleOrder) -> Result<ReadOrder<'a>, AllocError>
-    ensures words { IfOk result (λ read. map (λ text. text.now) read.words.items ≡ map string_bytes order.now.words.items) }
+    ensures words { IfOk result (λ read. map (λ text. text.now) read.words.items ≡ typed_words (map string_bytes order.now.words.items)) }
     ensures files { IfOk result (λ read. message_part_entries read.files.items ≡ map sent_file (map console_file_entry order.now.files.items)) }
 {
-    let words = words_of(alloc, &order.words)?;
+    let words = typed_words(alloc, &order.words)?;
     let files = files_of(alloc, &order.files)?;
     Ok(ReadOrder { words, files })
 }

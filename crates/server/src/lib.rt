@@ -14,12 +14,14 @@
 //! one result the server knows whether the request is complete, whose code it has, whether it must wait, what it reads, and what
 //! the office is asked. Responses to reads are cached by what is asked, not by the bytes of the request, and a cached response is
 //! sent again until a keying or an order empties the cache. If the office has a gate, a request under a clerk's number requires
-//! that clerk's code, and one of the console the office's. Once 6,000 wrong codes were sent within a minute, a wrong code is answered 429.
+//! that clerk's code, and one of the console the office's. Once 6,000 wrong codes were sent within a minute, a wrong code is
+//! answered 429.
 //!
 //! `specs/Exchanges.antt` defines what is kept of the requests, and `specs/ServedOrders.antt` what an order asks and what it
-//! prints; `specs/ConsoleOrders.antt` defines the same of an order of the console. `specs/Reads.antt` defines the cache and the rate limit, and `specs/Servicing.antt` what servicing a connection does.
-//! `specs/ServedConnections.antt` defines what happened to each connection, and `specs/Servers.antt` what is promised of all of
-//! them. `specs/Blind.antt` says that what a clerk is sent depends only on what that clerk sees.
+//! prints; `specs/ConsoleOrders.antt` defines the same of an order of the console. `specs/Reads.antt` defines the cache and the
+//! rate limit, and `specs/Servicing.antt` what servicing a connection does. `specs/ServedConnections.antt` defines what happened
+//! to each connection, and `specs/Servers.antt` what is promised of all of them. `specs/Blind.antt` says that what a clerk is
+//! sent depends only on what that clerk sees.
 //!
 //! ```text
 //! serve_connections(alloc, &mut network, server_settings, connections, &mut office)?    // or why it ended early (`ServeError`)

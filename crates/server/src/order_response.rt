@@ -11,7 +11,7 @@ ghost use Rattle.connections.specs.Clients.{IsSent};
 ghost use Rattle.order_protocol.specs.Messages.{order_message_entry, message_part_entries};
 ghost use Rattle.desk.specs.Pages.{Shows, Tells, outputs_of};
 ghost use Rattle.server.specs.Settings.{settings_in};
-ghost use Rattle.server.specs.ServedOrders.{AsksSo, IsBareName, IsOrderOutcome, FollowsOrder, HasCameWhole, IsCopyTold, IsMessage, TellsAsked, folder_of, shut_page};
+ghost use Rattle.server.specs.ServedOrders.{AsksSo, IsBareName, IsOrderOutcome, FollowsOrder, HasCameWhole, IsCopyTold, IsMessage, IsResponseToOrder, folder_of, shut_page};
 
 use crate::frame_sink::FrameSink;
 use crate::order_arrival::LENGTH;
@@ -193,7 +193,7 @@ fn respond_to_asked<L: Stream, A: SideJobs, S: Alter>(
 ) -> (L, PendingResponse)
     requires { HasTaken (L.taken stream) [] }
     ensures told { IsSent (stream_of L.held L.taken L.failed) result.0 result.1.bytes.items result.1.sent }
-    ensures followed { TellsAsked (state S.Store) office.old (message_part_entries order.now.attached.files.now) order.now.asked.now result.1.bytes.items office.new }
+    ensures followed { IsResponseToOrder (state S.Store) office.old (message_part_entries order.now.attached.files.now) order.now.asked.now result.1.bytes.items office.new }
 {
     let mut out = FrameSink::new(order.alloc, stream);
     let mut err = VecSink::new(order.alloc);
@@ -227,7 +227,7 @@ fn tell_refused<L: Stream, A: SideJobs, S: Alter>(
 ) -> (L, PendingResponse)
     requires { HasTaken (L.taken stream) [] }
     ensures told { IsSent (stream_of L.held L.taken L.failed) result.0 result.1.bytes.items result.1.sent }
-    ensures followed { TellsAsked (state S.Store) office.old [] (ServedOrder.Refused (Failure.Office fault)) result.1.bytes.items office.new }
+    ensures followed { IsResponseToOrder (state S.Store) office.old [] (ServedOrder.Refused (Failure.Office fault)) result.1.bytes.items office.new }
 {
     let order = OrderContext {
         alloc,

@@ -59,7 +59,7 @@ pub fn words_of<'b>(alloc: Global, words: &[MessagePart<'b>]) -> Result<Vec<&'b 
     Ok(texts)
 }
 
-/// Returns whether an order comes from this version of the program, and is for the file that is served.
+/// Returns whether an order is from this version of the program, and for the file that is served.
 pub fn is_for_file(handed: &OrderMessage<'_>, file: FileNumbers) -> bool
     ensures { (result ≡ true) ↔ IsForFile file (order_message_entry handed.now) }
 {

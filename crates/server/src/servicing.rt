@@ -215,8 +215,8 @@ fn answer_request<A: SideJobs, S: Alter>(
             let (bytes, _) = response_to(kept.alloc, HttpRequest::Shown(clerk, show), office);
             PendingResponse { bytes, sent: 0 }
         }
-        HttpRequest::Console(show) => {
-            let (bytes, _) = response_to(kept.alloc, HttpRequest::Console(show), office);
+        HttpRequest::ConsolePage(show) => {
+            let (bytes, _) = response_to(kept.alloc, HttpRequest::ConsolePage(show), office);
             PendingResponse { bytes, sent: 0 }
         }
         HttpRequest::Order(order) => {
@@ -368,7 +368,7 @@ fn begin_answer<L: Stream>(
     let mut client = client;
     client.got = Vec::new(alloc);
     client.answer = Some(answer);
-    client.unread = unread;
+    client.unread_body_bytes = unread;
     match send_more(&mut client) {
         Serviced::Waits => (client, Serviced::Served),
         Serviced::Served => (client, Serviced::Served),
@@ -419,7 +419,7 @@ fn service_order<L: Stream, A: SideJobs, S: Alter>(
                 since,
                 got,
                 answer: None,
-                unread: 0,
+                unread_body_bytes: 0,
             };
             begin_answer(kept.alloc, client, answer, 0)
         }

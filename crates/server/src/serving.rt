@@ -26,7 +26,7 @@ use crate::side_jobs::SideJobs;
 use connections::closing::{
     TIMEOUT, close_all, close_timed_out, evict_if_full, evict_one, keep_within,
 };
-use connections::table::{longest_waiting, place_of_number};
+use connections::connection_table::{longest_waiting, place_of_number};
 use connections::{AcceptOutcome, Client, CloseReason, ConnectionTable, Network};
 use office::Office;
 use sqlite::Alter;
@@ -115,7 +115,7 @@ fn settle<D: Network>(
 }
 
 /// Services each connection that is ready, in the order in which the network reports them, if it is open. One that is done or
-/// lost is closed. If the clock fails, it stays where it was.
+/// lost is closed. If the clock fails, the connection stays in the table.
 fn service_ready<D: Network, A: SideJobs, S: Alter>(
     network: &mut D,
     server_settings: ServerSettings<'_, A>,

@@ -55,5 +55,5 @@ plain_high x high =
     ∙ cond-false (x == 34) _ _ (ne_eqb x 34 (λ e. omega (arith, e)))
     ∙ cond-false (x == 39) _ _ (ne_eqb x 39 (λ e. omega (arith, e)))
 
-pub IsUtf8-plain : (text : List ℕ) → IsUtf8 text → IsUtf8 (plain text)
-IsUtf8-plain = IsUtf8-by_bytes plain_byte plain_small plain_high
+pub IsUtf8-page_text : (text : List ℕ) → IsUtf8 text → IsUtf8 (plain text)
+IsUtf8-page_text = IsUtf8-by_bytes plain_byte plain_small plain_high

@@ -1,6 +1,6 @@
 -- The wards whose texts can be printed.
 use Rattle.std.specs.Prelude.{ℕ, ◌<◌, ◌≤◌, List, [], ◌∷◌, map, Option, IfSome, ⊤}
-use Rattle.paper.specs.Columns.{max_candidates, IsColumnSet}
+use Rattle.paper.specs.Columns.{max_candidates, IsCandidateSet}
 use Rattle.votes.specs.Units.{max_papers, max_seats}
 use Rattle.sheet.specs.declared.ward.Ward.{Ward}
 use Rattle.sheet.specs.declared.ward.Poll.{Poll}
@@ -18,5 +18,5 @@ HasFewPapers poll = IfSome poll (λ poll. poll.valid ≤ max_papers)
 pub record CanBePrinted (ward : Ward) : Type 0 where
   pub some_seats : 1 ≤ ward.seats
   pub few_seats : ward.seats ≤ max_seats
-  pub candidate_set : IsColumnSet (map (λ candidate. candidate.0) ward.candidates.now)
+  pub candidate_set : IsCandidateSet (map (λ candidate. candidate.0) ward.candidates.now)
   pub few_papers : HasFewPapers ward.poll

@@ -9,8 +9,8 @@ ghost use Rattle.sheet.specs.Wards.{CanBePrinted};
 ghost use Rattle.sheet.specs.Writing.{Writes};
 ghost use Rattle.std.specs.List.{flat_map};
 
+use crate::heading_lines::write_rejected_line;
 use crate::line::{Piece, write_line, write_number, write_text};
-use crate::opening::write_rejected_line;
 use crate::ward::{Poll, Ward};
 use count::Bundles;
 use paper::Prefs;

@@ -11,10 +11,10 @@ ghost use Rattle.sheet.specs.Lines.{joined, line};
 ghost use Rattle.sheet.specs.Writing.{Writes};
 ghost use Rattle.std.specs.Prelude.{slice_get};
 
+use crate::each_candidate::{OfCandidate, write_each};
 use crate::line::{Piece, write_line, write_pieces};
 use crate::look::{legend, patterns};
 use crate::stage::votes_of;
-use crate::told::{OfCandidate, write_each};
 use crate::ward::{Poll, Ward};
 use count::Stage;
 use streams::{Broken, Sink};
@@ -34,7 +34,7 @@ pub enum Ending {
     Elected(u64),
     /// The candidate is excluded at this stage.
     Excluded(u64),
-    /// Neither has happened by this stage, the last one.
+    /// The candidate is neither elected nor excluded by this stage, the last.
     Neither(u64),
 }
 

@@ -6,9 +6,9 @@ ghost use Rattle.sheet.specs.Sheet.{elected_line, declaration};
 ghost use Rattle.sheet.specs.Wards.{CanBePrinted};
 ghost use Rattle.sheet.specs.Writing.{Writes};
 
+use crate::each_candidate::{OfCandidate, write_each};
+use crate::heading_lines::write_ward_line;
 use crate::line::{Piece, write_line};
-use crate::opening::write_ward_line;
-use crate::told::{OfCandidate, write_each};
 use crate::ward::Ward;
 use paper::Columns;
 use streams::{Broken, Sink};

@@ -7,9 +7,9 @@ ghost use Rattle.sheet.specs.Page.{elected_at, elected_end, elected_items, elect
 ghost use Rattle.sheet.specs.Page.{left_in as left_of_ward, left_words as words_of, seats_left as left_of, stay_empty as are_empty, unopposed_item};
 ghost use Rattle.sheet.specs.Writing.{Writes};
 
+use crate::each_candidate::{OfCandidate, write_each};
 use crate::line::{Piece, write_line};
 use crate::stage::votes_of;
-use crate::told::{OfCandidate, write_each};
 use crate::ward::{Poll, Ward};
 use count::Stage;
 use streams::{Broken, Sink};

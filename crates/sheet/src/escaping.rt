@@ -33,7 +33,7 @@ fn put_plain<W: Sink>(sink: &mut W, bytes: &[u8]) -> Result<(), Broken>
 }
 
 /// Writes a text on a page, escaped so that it is never markup, whatever its bytes.
-pub fn write_plain<W: Sink>(sink: &mut W, text: &str) -> Result<(), Broken>
+pub fn write_escaped<W: Sink>(sink: &mut W, text: &str) -> Result<(), Broken>
     requires { W.failed sink.old < 2 ^ 64 - 1 }
     ensures { Writes W.taken W.failed sink.old sink.new (plain text.now) result }
 {

@@ -9,7 +9,7 @@ ghost use Rattle.sheet.specs.Lines.{joined, line, number_column, right_in, span,
 ghost use Rattle.sheet.specs.Pieces.{piece_text};
 ghost use Rattle.sheet.specs.Writing.{Puts, Writes};
 
-use crate::escaping::write_plain;
+use crate::escaping::write_escaped;
 use count::Action;
 use itoa::Buffer;
 use streams::{Broken, Sink, put_all};
@@ -206,7 +206,7 @@ fn write_named<W: Sink>(sink: &mut W, number: u64, name: &str) -> Result<(), Bro
 {
     write_any_number(sink, number)?;
     write_text(sink, " <bdi>")?;
-    write_plain(sink, name)?;
+    write_escaped(sink, name)?;
     write_text(sink, "</bdi>")
 }
 
@@ -251,7 +251,7 @@ fn write_piece<W: Sink>(sink: &mut W, piece: &Piece) -> Result<(), Broken>
         Piece::DoneWith(action, name) => write_action_named(sink, *action, name),
         Piece::Preferences(list) => write_preferences(sink, list),
         Piece::Quoted(text) => write_quoted(sink, text),
-        Piece::Escaped(text) => write_plain(sink, text),
+        Piece::Escaped(text) => write_escaped(sink, text),
         Piece::Named(number, name) => write_named(sink, u64::from(*number), name),
         Piece::Listed(number, name) => write_named(sink, u64::from(*number), name),
     }

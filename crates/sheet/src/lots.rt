@@ -15,14 +15,14 @@ ghost use Rattle.sheet.specs.Lots.{settled_at as settled_in, settled_by as settl
 ghost use Rattle.sheet.specs.Writing.{Writes};
 
 use crate::ballots::name_or_withdrawn;
+use crate::each_candidate::{OfCandidate, write_each};
 use crate::line::{Piece, write_line, write_pieces};
 use crate::stage::{is_excluded_at, votes_of};
-use crate::told::{OfCandidate, write_each};
 use crate::ward::Ward;
 use count::{Action, Stage};
 use streams::{Broken, Sink};
 
-/// Returns whether the votes of two candidates were equal at each of some stages.
+/// Returns whether two candidates had equal votes at each of these stages.
 fn are_equal_at(stages: &[Stage], c: u8, d: u8) -> bool
     ensures { result ≡ are_equal_over stages.now c d }
 {

@@ -6,7 +6,7 @@ ghost use Rattle.sheet.specs.Sheet.{stages_text, below_ward, sheet};
 ghost use Rattle.sheet.specs.Wards.{CanBePrinted};
 ghost use Rattle.sheet.specs.Writing.{Writes};
 
-use crate::opening::{
+use crate::heading_lines::{
     write_rejected_line, write_seats_line, write_uncontested_line, write_ward_line,
 };
 use crate::stage::write_stage;

@@ -7,8 +7,8 @@ ghost use Rattle.sheet.specs.Stages.{is_elected_at as is_elected_of, is_excluded
 ghost use Rattle.sheet.specs.Sheet.{stage_text};
 ghost use Rattle.sheet.specs.Writing.{Writes};
 
+use crate::each_candidate::{OfCandidate, write_each};
 use crate::line::{Piece, write_line};
-use crate::told::{OfCandidate, write_each};
 use crate::ward::Ward;
 use count::{Action, Stage};
 use streams::{Broken, Sink};

@@ -6,8 +6,8 @@ ghost use Rattle.sheet.specs.Table.{candidate_row, head_row, sum_rows, table, ta
 ghost use Rattle.sheet.specs.Writing.{Writes};
 
 use crate::cells::{Cell, write_row};
+use crate::each_candidate::{OfCandidate, write_each};
 use crate::line::Piece;
-use crate::told::{OfCandidate, write_each};
 use crate::ward::Ward;
 use count::Stage;
 use streams::{Broken, Sink};

@@ -6,22 +6,22 @@ use Rattle.std.proofs.lemmas.Bool.{and_parts, ltb-false}
 use Rattle.std.proofs.lemmas.List.{length-map}
 use Rattle.std.proofs.lemmas.List.Kept.{IsStrictlySortedBy-filter}
 use Rattle.votes.specs.Units.{max_papers}
-use Rattle.paper.specs.Columns.{IsColumnSet}
+use Rattle.paper.specs.Columns.{IsCandidateSet}
 use Rattle.count.specs.Books.{AreRankings}
 use Rattle.count.specs.Bundles.{AreBundles, Bundle, bundled, papers_of, with_papers}
 use Rattle.count.specs.Law.Contest.{AreForCandidates, In, IsContest}
 use Rattle.count.proofs.BundleLemmas.{bundles-with_papers}
 use Rattle.count.proofs.OrderLemmas.{bundled-length, lists-from}
 use Rattle.sheet.specs.Entries.{SheetEntry}
-use Rattle.checker.specs.ReadingBack.{AreCodes, AreOnce, AreSmall, CanBeReadBack, IsName}
+use Rattle.checker.specs.BallotsRoundTrip.{AreCodes, AreOnce, AreSmall, CanBeReadBack, IsName}
 use Rattle.register.specs.Ranges.{is_name, is_seat_number, is_ward_number}
 use Rattle.register.specs.Offices.{BatchEntry, CandidateEntry, LotEntry, OfficeState, WardEntry, batch_cmp, candidates_of, lot_cmp, lots_of, ward_at, ward_compared}
 use Rattle.register.specs.Marks.{columns_of}
-use Rattle.register.specs.Papers.{batches_of}
-use Rattle.register.specs.Keyed.{are_rounds_to}
+use Rattle.register.specs.Agreement.{batches_of}
+use Rattle.register.specs.BatchConditions.{are_rounds_to}
 use Rattle.register.specs.Polls.{judgements, piles_of}
 use Rattle.register.specs.Elections.{contest_of, election_of, has_count, lot_pair}
-use Rattle.register.specs.Items.{IsState, is_batch, is_candidate, is_judged_paper, is_keyed_paper, is_lot, is_receipt, is_third, is_ward, all_in_range}
+use Rattle.register.specs.StateConditions.{IsState, is_batch, is_candidate, is_judged_paper, is_keyed_paper, is_lot, is_receipt, is_third, is_ward, all_in_range}
 use Rattle.register.proofs.MapLemmas.{found_passes, kept_all}
 use Rattle.register.proofs.ContestLemmas.{columns_are_set, few_among, few_batches, papers_are_rankings, papers_have_some}
 use Rattle.office.specs.Sheets.{IsTextual, bundles_shown, candidate_shown, election_shown, lots_shown, shown_with}
@@ -150,14 +150,14 @@ module _ (s : OfficeState) (w : WardEntry) (is : IsState s) (there : ward_at s w
   pub can_be_read_back : CanBeReadBack (election_shown (election_of s w)) (bundles_shown (election_of s w)) (lots_shown (election_of s w))
   can_be_read_back = go (has_count (election_of s w)) refl
     where
-      set : IsColumnSet numbers
-      set = subst IsColumnSet (sym (numbers_shown candidates)) textual.ascending
+      set : IsCandidateSet numbers
+      set = subst IsCandidateSet (sym (numbers_shown candidates)) textual.ascending
 
       go : (b : Bool) → has_count (election_of s w) ≡ b → CanBeReadBack (shown_by b) (cond b (bundled papers) []) (cond b (election_of s w).lots [])
       go true contested = record {
         number = omega (arith, textual.number);
         some_seats = textual.some_seats;
-        few_seats = textual.few_seats;
+        seats_in_range = textual.few_seats;
         candidate_set = set;
         name = names_fine.0;
         names = names_fine.1;
@@ -171,7 +171,7 @@ module _ (s : OfficeState) (w : WardEntry) (is : IsState s) (there : ward_at s w
       go false uncontested = record {
         number = omega (arith, textual.number);
         some_seats = textual.some_seats;
-        few_seats = textual.few_seats;
+        seats_in_range = textual.few_seats;
         candidate_set = set;
         name = names_fine.0;
         names = names_fine.1;

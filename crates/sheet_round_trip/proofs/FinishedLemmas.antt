@@ -13,8 +13,8 @@ use Rattle.count.specs.Law.Count.{due_by, due_or, stages_to}
 use Rattle.count.specs.Law.Due.{due_after, lot_for, next_action}
 use Rattle.count.specs.Law.Elected.{elected_after}
 use Rattle.count.specs.Law.Right.{IsCount, IsRight, IsWholeCount}
-use Rattle.count.specs.declared.run.CountEnd.{CountEnd}
-use Rattle.count.specs.declared.run.CountEnd.TheVariants as end
+use Rattle.count.specs.declared.count_to_end.CountEnd.{CountEnd}
+use Rattle.count.specs.declared.count_to_end.CountEnd.TheVariants as end
 use Rattle.count.specs.declared.stages.Action.{Action}
 use Rattle.count.specs.declared.stages.Due.{Due}
 use Rattle.count.specs.declared.stages.Due.TheVariants.{Act, Lot, Finished}
@@ -23,7 +23,7 @@ use Rattle.count.proofs.Law.CountLemmas.{stages_right}
 use Rattle.count.proofs.Law.RightLemmas.{whole_count}
 use Rattle.sheet.specs.declared.ward.Poll.{Poll}
 use Rattle.checker.specs.Checks.{EndsAt, dues_of, is_drawn_by, is_lot, undrawn}
-use Rattle.checker.specs.ReadingBack.{AreSmall}
+use Rattle.checker.specs.BallotsRoundTrip.{AreSmall}
 use Rattle.checker.specs.Wards.{contest_in, numbers_of}
 use Rattle.register.specs.Marks.{columns_of}
 use Rattle.register.specs.Elections.{ElectionEntry, contest_of, due_of, elected_of, has_count, is_drawn_for, is_finished, is_tied, stages_of}

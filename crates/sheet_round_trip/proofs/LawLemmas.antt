@@ -3,13 +3,13 @@ use Rattle.std.proofs.Common.{◌≡◌, ℕ, true, List, map, Some, refl, sym, 
 use Rattle.register.specs.Marks.{columns_of}
 use Rattle.register.specs.Offices.{OfficeState, WardEntry, candidates_of, ward_at}
 use Rattle.register.specs.Elections.{election_of, is_counted, is_declared}
-use Rattle.register.specs.Items.{IsState}
+use Rattle.register.specs.StateConditions.{IsState}
 use Rattle.register.specs.declared.phase.Phase.{Phase}
 use Rattle.register.specs.declared.phase.Phase.TheVariants.{Nominations, Keying, Sealed, Declared}
 use Rattle.checker.specs.Differences.{IsComparison}
 use Rattle.checker.specs.declared.differences.Checked.{Checked}
 use Rattle.checker.specs.declared.differences.Checked.TheVariants as checked
-use Rattle.checker.specs.ReadingBack.{AreCheckedAsTold, AreHinderedAsTold, AreReadBack, CanBeReadBack}
+use Rattle.checker.specs.BallotsRoundTrip.{AreCheckedAsTold, AreHinderedAsTold, AreReadBack, CanBeReadBack}
 use Rattle.office.specs.Sheets.{IsTextual, bundles_shown, declaration_of, election_shown, lots_shown, sheet_of}
 use Rattle.office.specs.declared.sheets.Text.TheVariants.{Ballots, Declaration, Sheet}
 use Rattle.sheet_round_trip.specs.OwnTexts.{DeclaredAreFinished, IsConfirmed, IsFinished, IsReadAs, IsTold, IsWardOf}

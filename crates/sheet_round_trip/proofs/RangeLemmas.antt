@@ -9,13 +9,13 @@ use Rattle.std.specs.declared.cmp.Ordering.TheVariants.{Less, Equal, Greater}
 use Rattle.std.proofs.lemmas.Bool.{and_parts, leb-true, ne_eqb, eqb-true}
 use Rattle.std.proofs.lemmas.Cmp.{ranked}
 use Rattle.votes.specs.Units.{max_papers}
-use Rattle.checker.specs.Comments.{is_drawn}
-use Rattle.checker.specs.ReadingBack.{AreOnce, AreSmall, IsName}
+use Rattle.checker.specs.BallotsComments.{is_drawn}
+use Rattle.checker.specs.BallotsRoundTrip.{AreOnce, AreSmall, IsName}
 use Rattle.register.specs.declared.polls.Judgement.{Judgement}
 use Rattle.register.specs.Ranges.{is_between, is_candidate_number, is_lot_stage, is_name, is_name_byte, is_ward_number}
 use Rattle.register.specs.Offices.{CandidateEntry, LotEntry, lot_cmp}
 use Rattle.register.specs.Elections.{lot_pair}
-use Rattle.register.specs.Items.{is_candidate, is_lot}
+use Rattle.register.specs.StateConditions.{is_candidate, is_lot}
 use Rattle.register.specs.Polls.{is_rejected, rejected_with}
 use Rattle.office.specs.Sheets.{candidate_shown}
 

@@ -12,14 +12,14 @@ use Rattle.sheet.specs.Entries.{SheetEntry}
 use Rattle.sheet.specs.Sheet.{declaration, sheet}
 use Rattle.sheet.specs.declared.ward.Poll.{Poll}
 use Rattle.checker.specs.Differences.{IsComparison}
-use Rattle.checker.specs.ReadingBack.{AreSmall}
+use Rattle.checker.specs.BallotsRoundTrip.{AreSmall}
 use Rattle.checker.specs.Wards.{numbers_of}
 use Rattle.checker.specs.declared.differences.Checked.{Checked}
 use Rattle.register.specs.Marks.{columns_of}
 use Rattle.register.specs.Offices.{OfficeState, WardEntry, ward_at, ward_compared}
 use Rattle.register.specs.Elections.{ElectionEntry, contest_of, elected_of, election_of, has_count, is_counted}
 use Rattle.register.specs.Elections.{is_counted_right, is_declared, is_drawn_for, is_finished, is_in_count, is_right_so_far, is_uncounted, stages_of}
-use Rattle.register.specs.Items.{IsState, all_counted}
+use Rattle.register.specs.StateConditions.{IsState, all_counted}
 use Rattle.register.proofs.MapLemmas.{found_passes}
 use Rattle.office.specs.Sheets.{bundles_shown, candidate_shown, declaration_of, election_shown, lots_shown, sheet_of, shown_with}
 use Rattle.sheet_round_trip.specs.OwnTexts.{IsFinished}

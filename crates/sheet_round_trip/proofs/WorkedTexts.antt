@@ -7,11 +7,11 @@ use Rattle.std.specs.Prelude.{codes}
 use Rattle.std.specs.Str.{chars, is_utf8}
 use Rattle.count.specs.Law.Count.{stages_to}
 use Rattle.sheet.specs.Lines.{line}
-use Rattle.register.specs.Items.{IsState, is_batch, is_candidate, is_judged_paper, is_keyed_paper, is_lot, is_ward, all_agreed, all_counted}
-use Rattle.register.specs.Keyed.{are_numbered, are_rounds_to}
+use Rattle.register.specs.StateConditions.{IsState, is_batch, is_candidate, is_judged_paper, is_keyed_paper, is_lot, is_ward, all_agreed, all_counted}
+use Rattle.register.specs.BatchConditions.{are_numbered, are_rounds_to}
 use Rattle.register.specs.Ranges.{is_name}
 use Rattle.register.specs.Offices.{OfficeState, WardEntry, empty_office}
-use Rattle.register.specs.Papers.{same_marks}
+use Rattle.register.specs.Agreement.{same_marks}
 use Rattle.register.specs.Elections.{election_of}
 use Rattle.register.specs.declared.phase.Phase.TheVariants.{Declared}
 use Rattle.register.specs.WorkedOffice.{batch_in, keyed}

@@ -6,7 +6,7 @@ use Rattle.std.proofs.lemmas.List.{append_cancel_left}
 use Rattle.count.specs.Bundles.{Bundle, bundled}
 use Rattle.count.specs.Law.Contest.{Contest, IsContest}
 use Rattle.count.specs.Law.Elected.{elected_after}
-use Rattle.count.specs.declared.run.CountEnd.TheVariants as end
+use Rattle.count.specs.declared.count_to_end.CountEnd.TheVariants as end
 use Rattle.count.specs.declared.stages.Stage.{Stage}
 use Rattle.sheet.specs.Ballots.{ballots}
 use Rattle.sheet.specs.Entries.{SheetEntry}
@@ -15,7 +15,7 @@ use Rattle.sheet.specs.Sheet.{below_ward, declaration, elected_heading, elected_
 use Rattle.sheet.specs.declared.ward.Poll.{Poll}
 use Rattle.checker.specs.Checks.{IsCountProblem, IsCountedCheck, IsWardCheck, IsWardProblem}
 use Rattle.checker.specs.Differences.{IsComparison}
-use Rattle.checker.specs.ReadingBack.{AreCheckedAsTold, AreHinderedAsTold, AreReadBack, AreSmall, CanBeReadBack, IsReadBack}
+use Rattle.checker.specs.BallotsRoundTrip.{AreCheckedAsTold, AreHinderedAsTold, AreReadBack, AreSmall, CanBeReadBack, IsReadBack}
 use Rattle.checker.specs.Wards.{contest_in, numbers_of}
 use Rattle.checker.specs.declared.differences.Checked.{Checked}
 use Rattle.checker.specs.declared.differences.Checked.TheVariants as checked

@@ -1,7 +1,7 @@
 -- An office's own texts, checked independently of it: what the office prints for a ward, read and counted from the ward's ballots alone.
 use Rattle.std.specs.Prelude.{◌≡◌, ℕ, true, List, Some, Ok}
 use Rattle.register.specs.Offices.{OfficeState, WardEntry, ward_at}
-use Rattle.register.specs.Items.{IsState}
+use Rattle.register.specs.StateConditions.{IsState}
 use Rattle.register.specs.Elections.{ElectionEntry, due_of, election_of, is_declared, is_finished}
 use Rattle.checker.specs.Checks.{IsChecked, IsProblem}
 use Rattle.checker.specs.Reading.{ReaderEntry, read}

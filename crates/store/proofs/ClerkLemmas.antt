@@ -1,8 +1,8 @@
 -- The keyings that are read of a batch are those of its clerks.
 use Rattle.std.proofs.Common.{◌≡◌, ℕ, List, ◌∷◌, map, filter, Option, Some, None, refl, ap, ◌∙◌}
-use Rattle.register.specs.declared.papers.Clerks.{Clerks}
+use Rattle.register.specs.declared.agreement.Clerks.{Clerks}
 use Rattle.register.specs.Offices.{BatchEntry, ThirdEntry, KeyedEntry, OfficeState, third_at, keying_of}
-use Rattle.register.specs.Papers.{is_keyed, of_three, clerks, third_listed, clerk_list, keyings_now}
+use Rattle.register.specs.Agreement.{is_keyed, of_three, clerks, third_listed, clerk_list, keyings_now}
 use Rattle.store.specs.Keyings.{keying_for}
 
 -- two or three keyings are those of a list of clerks

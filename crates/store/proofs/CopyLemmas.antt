@@ -14,7 +14,7 @@ use Rattle.tables.specs.declared.table.Table.TheVariants.{Office, Ward, Candidat
 use Rattle.tables.specs.Contents.{Contents, SameContents, added_all, Stores, Rests}
 use Rattle.store.specs.EntryRows.{row_of_ward, row_of_candidate, row_of_batch, row_of_third, row_of_keyed, row_of_judged, row_of_lot, row_of_receipt, row_of_placed, row_of_figure}
 use Rattle.store.specs.Copies.{LeavesNoneOrAll, holdings_of}
-use Rattle.store.specs.Offices.{tables_of, tables_with, HoldsState, StoresState, IsAt}
+use Rattle.store.specs.StateTables.{tables_of, tables_with, HoldsState, StoresState, IsAt}
 use Rattle.store.specs.Openings.{IsLeftAt, IsTabulatedAs}
 use Rattle.tables.proofs.ListLemmas.{mapped_twice}
 use Rattle.store.proofs.KeepLemmas.{rests_is_at}

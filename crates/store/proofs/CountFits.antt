@@ -26,12 +26,12 @@ use Rattle.register.specs.Offices.{WardEntry, OfficeState, ward_at}
 use Rattle.register.specs.Marks.{columns_of}
 use Rattle.register.specs.Polls.{piles_of}
 use Rattle.register.specs.Elections.{ElectionEntry, election_of, contest_of, stages_of}
-use Rattle.register.specs.Items.{is_ward, IsState}
+use Rattle.register.specs.StateConditions.{is_ward, IsState}
 use Rattle.register.specs.Tabulated.{placed_after, bundles_in, figure_at, figures_to, figures_in, has_stages, tabulation_of}
 use Rattle.register.proofs.ContestLemmas.{columns_are_set, papers_are_fair, seats_and_papers_are_few}
 use Rattle.tables.specs.declared.table.Table.TheVariants.{Bundle as BundleTable, Vote}
 use Rattle.store.specs.EntryRows.{row_of_placed, IsPlacedRow, row_of_figure, IsFigureRow}
-use Rattle.store.specs.Offices.{tables_of, tables_with}
+use Rattle.store.specs.StateTables.{tables_of, tables_with}
 use Rattle.store.proofs.DoneLemmas.{wards_there, wards_few}
 use Rattle.store.proofs.FitLemmas.{small}
 

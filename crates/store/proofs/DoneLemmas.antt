@@ -15,7 +15,7 @@ use Rattle.count.proofs.Law.ActionLemmas.{length-right}
 use Rattle.register.specs.Offices.{WardEntry, OfficeState, ward_cmp, ward_compared, entry_at, candidates_of, ward_at}
 use Rattle.register.specs.Nominations.{is_contested}
 use Rattle.register.specs.Elections.{election_of, has_count, contest_of, stages_of, is_counted, is_in_count, is_right_so_far, is_uncounted, is_counted_right}
-use Rattle.register.specs.Items.{all_counted, IsState}
+use Rattle.register.specs.StateConditions.{all_counted, IsState}
 use Rattle.register.proofs.ContestLemmas.{fair_contest}
 
 -- ---- each ward is the one with its number

@@ -9,13 +9,13 @@ use Rattle.register.specs.declared.elections.Election.{Election}
 use Rattle.register.specs.declared.elections.WardSheet.{WardSheet}
 use Rattle.register.specs.Offices.{WardEntry, CandidateEntry, OfficeState, ward_at, ward_entry, candidate_entry}
 use Rattle.register.specs.Elections.{ElectionEntry, IsElection, election_of, has_count, is_counted, is_in_count, contest_of}
-use Rattle.register.specs.Items.{IsState}
+use Rattle.register.specs.StateConditions.{IsState}
 use Rattle.register.proofs.MapLemmas.{found_number}
 use Rattle.register.proofs.ContestLemmas.{seats_and_papers_are_few}
 use Rattle.count.specs.Law.Contest.{IsContest}
 use Rattle.votes.specs.Units.{max_seats}
 use Rattle.register.specs.Counts.{poll_for, due_for, elected_for}
-use Rattle.register.specs.Parts.{empty_part}
+use Rattle.register.specs.CommandInputs.{empty_input}
 use Rattle.register.specs.declared.command.Command.TheVariants.{Count as counting}
 use Rattle.register.specs.declared.counts.CountCommand.TheVariants.{Advance}
 use Rattle.register.specs.Nominations.{is_contested}
@@ -24,12 +24,12 @@ use Rattle.store.specs.Elections.{IsFoundFor, polled_part, counted_part, electio
 use Rattle.store.specs.Elections.{IsBegun, IsCounted, IsCountedFor, IsShown, IsCountedIn, IsCountedInFor, IsSheet, IsSheetFor}
 
 -- the part with the poll, for a ward that may not exist
-pub part_polled : (s : OfficeState) (ward : Option WardEntry) → polled_part (option_map (election_of s) ward) ≡ record empty_part { ward = ward; poll = poll_for s ward }
+pub part_polled : (s : OfficeState) (ward : Option WardEntry) → polled_part (option_map (election_of s) ward) ≡ record empty_input { ward = ward; poll = poll_for s ward }
 part_polled s None = refl
 part_polled s (Some w) = refl
 
 -- the part with what is due, for a ward that may not exist
-pub part_counted : (s : OfficeState) (ward : Option WardEntry) → counted_part (option_map (election_of s) ward) ≡ record empty_part { ward = ward; due = due_for s ward; elected = elected_for s ward }
+pub part_counted : (s : OfficeState) (ward : Option WardEntry) → counted_part (option_map (election_of s) ward) ≡ record empty_input { ward = ward; due = due_for s ward; elected = elected_for s ward }
 part_counted s None = refl
 part_counted s (Some w) = refl
 

@@ -11,8 +11,8 @@ use Rattle.sqlite.specs.Order.{Row}
 use Rattle.sqlite.specs.declared.types.Value.TheVariants.{Int, Text}
 use Rattle.register.specs.Offices.{OfficeState, KeyedEntry, entry_at, ward_at, candidate_compared, candidate_at, candidates_of, keyed_cmp, batch_compared}
 use Rattle.register.specs.Offices.{batch_at, third_compared, third_at, keying_of, judged_compared, verdict_at, verdicts_of, lots_of, receipt_at}
-use Rattle.register.specs.Papers.{batches_of}
-use Rattle.register.specs.Items.{IsState}
+use Rattle.register.specs.Agreement.{batches_of}
+use Rattle.register.specs.StateConditions.{IsState}
 use Rattle.register.specs.Tabulated.{tabulation_of}
 use Rattle.tables.specs.declared.table.Table.TheVariants.{Ward, Candidate, Batch, Keying, Verdict, Lot, Receipt, Bundle, Vote, Third}
 use Rattle.tables.specs.declared.table.Reference.TheVariants.{WardOfBatch}
@@ -21,7 +21,7 @@ use Rattle.tables.specs.Reading.{Finds}
 use Rattle.store.specs.EntryRows.{row_of_ward, IsWardRow, row_of_candidate, IsCandidateRow, row_of_batch, IsBatchRow, row_of_third, IsThirdRow, row_of_keyed}
 use Rattle.store.specs.EntryRows.{IsKeyedRow, row_of_judged, IsJudgedRow, row_of_lot, row_of_receipt, IsReceiptRow, row_of_placed, row_of_figure}
 use Rattle.store.specs.Elections.{bundles_at, figures_at}
-use Rattle.store.specs.Offices.{tables_of, tables_with}
+use Rattle.store.specs.StateTables.{tables_of, tables_with}
 use Rattle.store.specs.Overviews.{receipts_of}
 use Rattle.tables.proofs.OrderLemmas.{equal-number, key_of_number, key_of_two_numbers, key_of_three_numbers, key_of_number_and_text, same_number, same_three_numbers}
 use Rattle.store.proofs.StateLemmas.{tables_rise}

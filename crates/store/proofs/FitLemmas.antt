@@ -10,11 +10,11 @@ use Rattle.votes.specs.Units.{max_seats}
 use Rattle.paper.specs.Columns.{max_candidates}
 use Rattle.register.specs.Ranges.{is_between, last_ward, last_clerk, last_batch, most_papers, last_round, first_lot_stage, last_lot_stage, is_name, is_id, is_reply, is_id_byte}
 use Rattle.register.specs.Offices.{WardEntry, CandidateEntry, BatchEntry, ThirdEntry, KeyedEntry, JudgedEntry, LotEntry, ReceiptEntry, OfficeState}
-use Rattle.register.specs.Items.{is_ward, is_candidate, is_batch, is_third, is_keyed_paper, is_judged_paper, is_lot, is_receipt, is_about, IsState}
+use Rattle.register.specs.StateConditions.{is_ward, is_candidate, is_batch, is_third, is_keyed_paper, is_judged_paper, is_lot, is_receipt, is_about, IsState}
 use Rattle.tables.specs.declared.table.Table.TheVariants.{Ward, Candidate, Batch, Keying, Verdict, Lot, Receipt, Third}
 use Rattle.store.specs.EntryRows.{row_of_ward, IsWardRow, row_of_candidate, IsCandidateRow, row_of_batch, IsBatchRow, row_of_third, IsThirdRow}
 use Rattle.store.specs.EntryRows.{row_of_keyed, IsKeyedRow, row_of_judged, IsJudgedRow, row_of_lot, IsLotRow, row_of_receipt, IsReceiptRow}
-use Rattle.store.specs.Offices.{tables_of, tables_with}
+use Rattle.store.specs.StateTables.{tables_of, tables_with}
 use Rattle.store.proofs.DoneLemmas.{wards_few}
 
 pub small : (low high n : ℕ) → high < 2 ^ 32 → is_between low high n ≡ true → n < 2 ^ 32

@@ -5,7 +5,7 @@ use Rattle.sqlite.specs.Tree.{Trees}
 use Rattle.sqlite.specs.Effect.{Database}
 use Rattle.sqlite.specs.State.{State, HasCleanDisk, Survives}
 use Rattle.register.specs.Offices.{OfficeState}
-use Rattle.register.specs.Items.{IsState}
+use Rattle.register.specs.StateConditions.{IsState}
 use Rattle.register.specs.declared.decision.Change.{Change}
 use Rattle.register.specs.Effects.{change_entry, with_change}
 use Rattle.register.specs.Tabulated.{TabulationEntries, tabulation_of, SameTabulation, addition_entries, with_addition, IsTabulated}
@@ -13,7 +13,7 @@ use Rattle.tables.specs.declared.table.Table.TheVariants.{Office, Ward, Candidat
 use Rattle.tables.specs.Contents.{Contents, SameContents, Stores, Rests, RestsAt}
 use Rattle.tables.specs.Reading.{OnlyReads}
 use Rattle.store.specs.EntryRows.{row_of_placed, row_of_figure}
-use Rattle.store.specs.Offices.{tables_of, tables_with, ChangesTo, HoldsState, IsAt, LeavesState, Wears}
+use Rattle.store.specs.StateTables.{tables_of, tables_with, ChangesTo, HoldsState, IsAt, LeavesState, KeepsConnection}
 use Rattle.tables.proofs.StopLemmas.{rests_leaves}
 use Rattle.tables.proofs.ReadLemmas.{rests_read, rests_from}
 use Rattle.tables.proofs.SameLemmas.{rests_same, stores_same}
@@ -94,17 +94,17 @@ opened_is_at db old new settled honest is_open reads at found =
 
 -- ---- what each call does to the connection
 
-pub survives_wears : (old new : State) (P : Trees → Type 0) → Survives old new P → Wears old new
-survives_wears old new P h = record { limit = h.limit; counts = h.counts; closes = h.closes }
+pub survives_connection : (old new : State) (P : Trees → Type 0) → Survives old new P → KeepsConnection old new
+survives_connection old new P h = record { limit = h.limit; counts = h.counts; closes = h.closes }
 
-pub reads_wear : (old new : State) → OnlyReads old new → Wears old new
-reads_wear old new h = record { limit = h.limit; counts = h.counts; closes = h.closes }
+pub reads_connection : (old new : State) → OnlyReads old new → KeepsConnection old new
+reads_connection old new h = record { limit = h.limit; counts = h.counts; closes = h.closes }
 
-pub wears_itself : (a : State) → Wears a a
-wears_itself a = record { limit = refl; counts = omega arith; closes = λ honest was. inl was }
+pub connection_itself : (a : State) → KeepsConnection a a
+connection_itself a = record { limit = refl; counts = omega arith; closes = λ honest was. inl was }
 
-pub wears_then : (a b c : State) → (HasCleanDisk c → HasCleanDisk b) → Wears a b → Wears b c → Wears a c
-wears_then a b c clean first second = record {
+pub connection_then : (a b c : State) → (HasCleanDisk c → HasCleanDisk b) → KeepsConnection a b → KeepsConnection b c → KeepsConnection a c
+connection_then a b c clean first second = record {
   limit = second.limit ∙ first.limit;
   counts = omega (arith, first.counts, second.counts);
   closes = λ honest was. elim (first.closes (clean honest) was) [

@@ -6,9 +6,9 @@ use Rattle.std.specs.List.{list_all}
 use Rattle.std.proofs.lemmas.Bool.{and_parts, and_from, or_cases, leb-true, eqb-true, cases_eq}
 use Rattle.std.proofs.lemmas.Bool.Decides.{nat_tests}
 use Rattle.register.specs.Offices.{BatchEntry, ThirdEntry, KeyedEntry, OfficeState, put, batch_compared, batch_at, third_at, keying_of, entry_at}
-use Rattle.register.specs.Papers.{is_keyed, is_its_clerk, two_clerks, clerks, clerks_of}
-use Rattle.register.specs.Keyed.{is_keyed_for, are_numbered, is_whole, is_round_of, are_rounds_to}
-use Rattle.register.specs.Items.{is_keyed_paper, IsState}
+use Rattle.register.specs.Agreement.{is_keyed, is_its_clerk, two_clerks, clerks, clerks_of}
+use Rattle.register.specs.BatchConditions.{is_keyed_for, are_numbered, is_whole, is_round_of, are_rounds_to}
+use Rattle.register.specs.StateConditions.{is_keyed_paper, IsState}
 use Rattle.register.proofs.KeyedLemmas.{rounds_more}
 use Rattle.register.proofs.MapLemmas.{kept_all, found_passes, found_number, found_filter}
 use Rattle.store.proofs.FitLemmas.{keyings_in_range}

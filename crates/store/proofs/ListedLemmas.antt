@@ -6,7 +6,7 @@ use Rattle.sqlite.specs.Order.{Row}
 use Rattle.sqlite.specs.Effect.{Database}
 use Rattle.sqlite.specs.State.{State, HasCleanDisk}
 use Rattle.register.specs.Offices.{OfficeState}
-use Rattle.register.specs.Items.{IsState}
+use Rattle.register.specs.StateConditions.{IsState}
 use Rattle.tables.specs.declared.fault.Fault.{Fault}
 use Rattle.tables.specs.declared.fault.Fault.TheVariants.{Memory, Store, Damaged}
 use Rattle.tables.specs.declared.table.Table.{Table}
@@ -15,7 +15,7 @@ use Rattle.tables.specs.Contents.{RestsAt}
 use Rattle.tables.specs.Reading.{OnlyReads, FailsToList, ListsEntries, HoldsNone}
 use Rattle.tables.proofs.ReadLemmas.{only_reads_then}
 use Rattle.tables.proofs.CauseLemmas.{lists_later}
-use Rattle.store.specs.Offices.{tables_of}
+use Rattle.store.specs.StateTables.{tables_of}
 use Rattle.store.specs.Openings.{has_entries}
 use Rattle.store.specs.Listings.{BeginsFirst, ListsAt, TellsStrange}
 use Rattle.store.proofs.TellLemmas.{told_strange}

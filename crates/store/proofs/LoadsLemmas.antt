@@ -9,7 +9,7 @@ use Rattle.sqlite.specs.Order.{Row}
 use Rattle.sqlite.specs.State.{State, HasCleanDisk}
 use Rattle.register.specs.declared.batches.Batch.{Batch}
 use Rattle.register.specs.Offices.{OfficeState}
-use Rattle.register.specs.Items.{IsState}
+use Rattle.register.specs.StateConditions.{IsState}
 use Rattle.tables.specs.declared.fault.Fault.{Fault}
 use Rattle.tables.specs.declared.fault.Fault.TheVariants.{Memory}
 use Rattle.tables.specs.declared.table.Table.{Table}
@@ -19,7 +19,7 @@ use Rattle.tables.specs.Walking.{TakesFound}
 use Rattle.tables.proofs.ListLemmas.{get_mapped, mapped_length}
 use Rattle.tables.proofs.ReadLemmas.{only_reads_then, only_reads_itself}
 use Rattle.tables.proofs.CauseLemmas.{fails_later}
-use Rattle.store.specs.Offices.{tables_of}
+use Rattle.store.specs.StateTables.{tables_of}
 use Rattle.store.specs.Loads.{LoadsAt}
 use Rattle.store.proofs.KeepLemmas.{is_at_read}
 use Rattle.store.proofs.RowLemmas.{if_entry_told, if_entries_told}
@@ -144,13 +144,13 @@ entries_all entry xs k past = take_all k (map entry xs) (omega (arith, mapped_le
 -- ---- rows consumed one after another
 
 -- a walk through the entries that pass a test, which are those of a state: they are consumed in order
-pub loads_walked : {V E X : Type 0} {old new : State} {v visitor : V} {t : Table} {test : Row → Bool} (HasTaken : V → List E → Type 0) (entry : E → X) (row : X → Row) (back : Row → X)
+pub loads_walked : {V E X : Type 0} {old new : State} {v visitor : V} {t : Table} {test : Row → Bool} (HasVisited : V → List E → Type 0) (entry : E → X) (row : X → Row) (back : Row → X)
     → ((x : X) → back (row x) ≡ x) → (there : OfficeState → List X)
     → ((s : OfficeState) → IsState s → (rows : List Row) → Finds t test (tables_of s) rows → rows ≡ map row (there s))
-    → (HasCleanDisk new → (c : Contents) → RestsIfOpen c old → TakesFound HasTaken (λ e. row (entry e)) t test c visitor v)
+    → (HasCleanDisk new → (c : Contents) → RestsIfOpen c old → TakesFound HasVisited (λ e. row (entry e)) t test c visitor v)
     → (HasCleanDisk new → IsTrue new.is_open) → OnlyReads old new
-    → HasTaken visitor [] → LoadsAt old new (Ok v) (λ s u. (found : List E) × (map entry found ≡ there s) × HasTaken u found)
-loads_walked {V} {E} {X} {old} {new} {v} {visitor} {t} {test} HasTaken entry row back returns there is told opens reads none = record {
+    → HasVisited visitor [] → LoadsAt old new (Ok v) (λ s u. (found : List E) × (map entry found ≡ there s) × HasVisited u found)
+loads_walked {V} {E} {X} {old} {new} {v} {visitor} {t} {test} HasVisited entry row back returns there is told opens reads none = record {
   shows = λ clean s at. taken s at.is (told clean (tables_of s) at.rests);
   cause = λ clean s at. tt;
   opens = opens;
@@ -158,7 +158,7 @@ loads_walked {V} {E} {X} {old} {new} {v} {visitor} {t} {test} HasTaken entry row
   keeps = λ clean s at. is_at_read s old new reads clean at;
 }
   where
-    taken : (s : OfficeState) → IsState s → TakesFound HasTaken (λ e. row (entry e)) t test (tables_of s) visitor v → (found : List E) × (map entry found ≡ there s) × HasTaken v found
+    taken : (s : OfficeState) → IsState s → TakesFound HasVisited (λ e. row (entry e)) t test (tables_of s) visitor v → (found : List E) × (map entry found ≡ there s) × HasVisited v found
     taken s state (found, finds, takes) = (
       found,
       if_entries_told {W = List E} {F = Fault} (λ es. es) entry row back returns (Ok found) (there s)

@@ -14,9 +14,9 @@ use Rattle.sqlite.specs.Effect.{Database, IsDatabase}
 use Rattle.sqlite.specs.State.{State, HasCleanDisk, Survives}
 use Rattle.sqlite.proofs.Callers.{one_permutation}
 use Rattle.register.specs.declared.receipt.Receipt.{Receipt as ReceiptValue}
-use Rattle.register.specs.declared.tabulated.Addition.{Addition}
-use Rattle.register.specs.Offices.{ReceiptEntry, OfficeState, MapsRise, receipt_entry}
-use Rattle.register.specs.Items.{IsState}
+use Rattle.register.specs.declared.tabulations.Addition.{Addition}
+use Rattle.register.specs.Offices.{ReceiptEntry, OfficeState, MapsAreSorted, receipt_entry}
+use Rattle.register.specs.StateConditions.{IsState}
 use Rattle.register.specs.Tabulated.{TabulationEntries, AdditionEntries, with_addition, addition_entries}
 use Rattle.rowcheck.specs.declared.rows.Rows.{Rows}
 use Rattle.rowcheck.specs.States.{state_of, tabulated}
@@ -24,20 +24,20 @@ use Rattle.tables.specs.declared.fault.Fault.{Fault}
 use Rattle.tables.specs.declared.fault.Fault.TheVariants.{Memory, Store, Damaged, Closed, WrongDatabase, NewerSchema, OlderSchema}
 use Rattle.tables.specs.declared.table.Table.{Table}
 use Rattle.tables.specs.declared.table.Table.TheVariants.{Office, Ward, Candidate, Batch, Keying, Verdict, Lot, Receipt, Bundle, Vote, Third}
-use Rattle.tables.specs.declared.table.Setting.TheVariants.{VersionOfOffice}
-use Rattle.tables.specs.declared.presence.Form.TheVariants.{Whole, WithoutThird, WithoutCounts as WithoutCountTables}
+use Rattle.tables.specs.declared.table.SettableColumn.TheVariants.{VersionOfOffice}
+use Rattle.tables.specs.declared.presence.TablesPresent.TheVariants.{Whole, WithoutThird, WithoutCounts as WithoutCountTables}
 use Rattle.tables.specs.Schema.{schema_from, place_of}
 use Rattle.tables.specs.Rows.{tuples, row_cmp}
 use Rattle.tables.specs.Contents.{Contents, SameContents, HoldsTable, IsOffice, value_put, Stores, RestsAt, Sees}
-use Rattle.tables.specs.Making.{FirstAt, HasFirst, SeesMade}
-use Rattle.tables.specs.Presence.{has_table, has_every_table, form_of, IsOurs, IsOlderSchema}
+use Rattle.tables.specs.Making.{FirstAt, HasFirstTables, SeesMade}
+use Rattle.tables.specs.Presence.{has_table, has_every_table, tables_present, IsOurs, IsOlderSchema}
 use Rattle.tables.specs.Reading.{OnlyReads}
 use Rattle.store.specs.declared.older.OlderForm.{OlderForm}
 use Rattle.store.specs.declared.older.OlderForm.TheVariants.{WithCounts, WithoutCounts}
 use Rattle.store.specs.declared.migration.Migrated.{Migrated}
 use Rattle.store.specs.declared.migration.Migrated.TheVariants.{Done, Already}
 use Rattle.store.specs.EntryRows.{this_version, office_row}
-use Rattle.store.specs.Offices.{no_tabulation, tables_of, tables_with, HoldsState, IsAt}
+use Rattle.store.specs.StateTables.{no_tabulation, tables_of, tables_with, HoldsState, IsAt}
 use Rattle.store.specs.Openings.{HasNoOffice, IsNewer, HoldsNoState, IsToldBy, HasVersion, has_entries, IsTabulatedAs}
 use Rattle.store.specs.Listings.{TellsStrange, ListsFirst}
 use Rattle.store.specs.Migrations.{tables_in, name_of, tabulation_in, older_tables, is_about_third, IsOlderState, HoldsOlder, RestsOlder, HoldsNoOlder, StoresOlder}
@@ -177,10 +177,10 @@ one_older form db s x first second = same_older form s x first.is second.is each
     ]
 
 -- the schema determines the form
-pub named : (form : OlderForm) (s : Schema) → s ≡ schema_from (tables_in form) [] [] [] → form_of s ≡ name_of form
+pub named : (form : OlderForm) (s : Schema) → s ≡ schema_from (tables_in form) [] [] [] → tables_present s ≡ name_of form
 unfolding same_name
-named WithCounts s is = subst (λ (x : Schema). form_of x ≡ WithoutThird) (sym is) refl
-named WithoutCounts s is = subst (λ (x : Schema). form_of x ≡ WithoutCountTables) (sym is) refl
+named WithCounts s is = subst (λ (x : Schema). tables_present x ≡ WithoutThird) (sym is) refl
+named WithoutCounts s is = subst (λ (x : Schema). tables_present x ≡ WithoutCountTables) (sym is) refl
 
 one_name : (form other : OlderForm) → name_of form ≡ name_of other → form ≡ other
 one_name WithCounts WithCounts same = refl
@@ -212,7 +212,7 @@ pub older_ours : (form : OlderForm) (s : Schema) → s ≡ schema_from (tables_i
 older_ours form s is = record { office = λ _. first_begins (tables_in form) s is Office (some_tables form); every = λ all. absurd (true≢false (sym all ∙ lacks_table form s is)) }
 
 -- a schema with such a name has the tables of the form
-pub form_schema : (form : OlderForm) (s : Schema) → IsOlderSchema s → form_of s ≡ name_of form → s ≡ schema_from (tables_in form) [] [] []
+pub form_schema : (form : OlderForm) (s : Schema) → IsOlderSchema s → tables_present s ≡ name_of form → s ≡ schema_from (tables_in form) [] [] []
 form_schema WithCounts s is same = is.without_third same
 form_schema WithoutCounts s is same = is.without_counts same
 
@@ -269,7 +269,7 @@ older_tabulated WithCounts s x t is bare each same = tabulated_same s x t is eac
 older_tabulated WithoutCounts s x t is bare each same = bare.no_counts refl
 
 -- such a state has exactly these maps and this tabulation
-pub older_are : (form : OlderForm) (db : Database) (s x : OfficeState) (t : TabulationEntries) → ListsFirst (tables_in form) db s t → MapsRise s
+pub older_are : (form : OlderForm) (db : Database) (s x : OfficeState) (t : TabulationEntries) → ListsFirst (tables_in form) db s t → MapsAreSorted s
     → IsBare form s t → HoldsOlder form db x → IsOlderOf form s t
 older_are form db s x t lists rise bare held =
     let same = older_listed form db s x t lists bare held in
@@ -285,7 +285,7 @@ form_told form other db x schema held = one_name form other (sym (named form db.
 pub none_of_form : (form : OlderForm) (db : Database) → db.schema ≡ schema_from (tables_in form) [] [] [] → ((x : OfficeState) → ¬ HoldsOlder form db x) → HoldsNoOlder db
 none_of_form form db schema none other x held = none x (subst (λ (f : OlderForm). HoldsOlder f db x) (sym (form_told form other db x schema held)) held)
 
-pub none_of_schema : (db : Database) → ((form : OlderForm) → form_of db.schema ≢ name_of form) → HoldsNoOlder db
+pub none_of_schema : (db : Database) → ((form : OlderForm) → tables_present db.schema ≢ name_of form) → HoldsNoOlder db
 none_of_schema db none form x held = none form (named form db.schema (at_first form db x held).schema)
 
 pub strange_older : (form : OlderForm) (db : Database) → db.schema ≡ schema_from (tables_in form) [] [] [] → (f : Fault) → TellsStrange (tables_in form) db f → TellsOlder db f
@@ -399,7 +399,7 @@ rests_older form db s st rests held = record {
     is_open = rests.is_open;
     outside = rests.outside;
     settled = rests.now ∙ sym rests.committed;
-    first = subst (HasFirst (tables_in form) (older_tables form s)) (sym rests.now) held.first;
+    first = subst (HasFirstTables (tables_in form) (older_tables form s)) (sym rests.now) held.first;
   };
 }
 
@@ -432,7 +432,7 @@ leaves_later db old mid new reads before leaves trees may = elim (leaves trees m
 state_older : (db : Database) (s : OfficeState) → HoldsState db s → IsOlderSchema db.schema
 unfolding IsOffice
 state_older db s held =
-    let whole : form_of db.schema ≡ Whole = rw (all_there db.schema held.office.begins) refl in
+    let whole : tables_present db.schema ≡ Whole = rw (all_there db.schema held.office.begins) refl in
     record { without_third = λ same. absurd (let it : Whole ≡ WithoutThird = sym whole ∙ same in cc); without_counts = λ same. absurd (let it : Whole ≡ WithoutCountTables = sym whole ∙ same in cc) }
 
 pub state_ours : (db : Database) (s : OfficeState) → HoldsState db s → IsOurs db.schema

@@ -12,11 +12,11 @@ use Rattle.register.specs.declared.phase.Phase.TheVariants.{Nominations, Keying,
 use Rattle.register.specs.declared.wards.Ward.{Ward}
 use Rattle.register.specs.Offices.{WardEntry, CandidateEntry, BatchEntry, KeyedEntry, JudgedEntry, OfficeState, candidate_entry, candidates_of, ward_entry, ward_at, verdicts_of}
 use Rattle.register.specs.Marks.{columns_of}
-use Rattle.register.specs.Papers.{is_keyed, of_three, agreed, keyings_now, batches_of}
+use Rattle.register.specs.Agreement.{is_keyed, of_three, agreed, keyings_now, batches_of}
 use Rattle.register.specs.Polls.{Pile, pile_of, judgements_in, judgements}
 use Rattle.register.specs.declared.polls.Judgement.{Judgement}
 use Rattle.register.specs.Elections.{ElectionEntry, election_of, elected_of, is_counted, is_declared}
-use Rattle.register.specs.Items.{IsState}
+use Rattle.register.specs.StateConditions.{IsState}
 use Rattle.register.specs.Tabulated.{IsCountedWard}
 use Rattle.tables.proofs.ListLemmas.{get_mapped, mapped_length, mapped_twice}
 use Rattle.store.specs.Elections.{IsCountedIn, IsCountedInFor}

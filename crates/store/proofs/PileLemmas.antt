@@ -11,7 +11,7 @@ use Rattle.std.specs.Prelude.{String, Vec}
 use Rattle.std.specs.Str.{bytes_eq}
 use Rattle.register.specs.Offices.{BatchEntry, KeyedEntry, JudgedEntry, OfficeState, candidates_of, verdicts_of}
 use Rattle.register.specs.Marks.{columns_of}
-use Rattle.register.specs.Papers.{is_keyed, agreed, clerks_of, keyings_now, taken_papers, is_taken}
+use Rattle.register.specs.Agreement.{is_keyed, agreed, clerks_of, keyings_now, taken_papers, is_taken}
 use Rattle.store.specs.declared.overviews.batches.BatchOverview.{BatchOverview}
 use Rattle.store.specs.Overviews.{BatchView, clerk_view_of, batch_view, batch_view_with, batch_view_of, batch_views, is_twin, twin_of, pile_text, pile_in, pile_text_of}
 use Rattle.store.specs.Piles.{ReadView, view_by, read_view_of, is_pile, numbers_with, numbers_under, twin_under, paired, all_paired}

@@ -13,7 +13,7 @@ use Rattle.sqlite.specs.Effect.{Database, IsDatabase}
 use Rattle.sqlite.specs.State.{State}
 use Rattle.sqlite.proofs.Callers.{one_permutation}
 use Rattle.register.specs.Offices.{OfficeState}
-use Rattle.register.specs.Items.{IsState}
+use Rattle.register.specs.StateConditions.{IsState}
 use Rattle.tables.specs.declared.fault.Fault.{Fault}
 use Rattle.tables.specs.declared.fault.Fault.TheVariants.{Memory, Store, Damaged, Closed, WrongDatabase, NewerSchema, OlderSchema}
 use Rattle.tables.specs.declared.table.Table.{Table}
@@ -24,7 +24,7 @@ use Rattle.tables.specs.Contents.{Contents, IsOffice, RestsAt}
 use Rattle.tables.specs.Presence.{has_table, IsOurs}
 use Rattle.tables.specs.Reading.{SharesRowids, FailsToList, FailsBy}
 use Rattle.store.specs.EntryRows.{this_version, office_row}
-use Rattle.store.specs.Offices.{tables_of, HoldsState, IsAt}
+use Rattle.store.specs.StateTables.{tables_of, HoldsState, IsAt}
 use Rattle.store.specs.Openings.{HasNoOffice, IsNewer, IsOlder, IsLeftAt, IsToldBy}
 use Rattle.tables.proofs.ListingLemmas.{begins_to}
 use Rattle.tables.proofs.HoldLemmas.{own_rowids}

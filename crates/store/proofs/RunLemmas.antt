@@ -12,8 +12,8 @@ use Rattle.sqlite_rules.proofs.ListLemmas.{all_has, has_filtered}
 use Rattle.sqlite.specs.State.{State, HasCleanDisk}
 use Rattle.register.specs.declared.keyings.KeyedPaper.{KeyedPaper}
 use Rattle.register.specs.Offices.{BatchEntry, KeyedEntry, OfficeState, keyed_entry, keyed_cmp, batch_at, keying_of}
-use Rattle.register.specs.Keyed.{are_numbered, is_whole}
-use Rattle.register.specs.Items.{IsState}
+use Rattle.register.specs.BatchConditions.{are_numbered, is_whole}
+use Rattle.register.specs.StateConditions.{IsState}
 use Rattle.tables.specs.declared.fault.Fault.{Fault}
 use Rattle.tables.specs.declared.table.Table.TheVariants.{Keying}
 use Rattle.tables.specs.Contents.{Contents, RestsIfOpen}
@@ -22,7 +22,7 @@ use Rattle.tables.proofs.ListLemmas.{has_mapped, filtered_has, all_from}
 use Rattle.store.specs.EntryRows.{row_of_keyed, IsKeyedRow}
 use Rattle.store.specs.Loads.{LoadsAt}
 use Rattle.store.specs.Keyings.{is_paper_of}
-use Rattle.store.specs.Offices.{tables_of, tables_with}
+use Rattle.store.specs.StateTables.{tables_of, tables_with}
 use Rattle.store.proofs.StateLemmas.{keyed_in, keyed_back}
 use Rattle.store.proofs.FitLemmas.{keyings_fit}
 use Rattle.store.proofs.KeepLemmas.{is_at_read}

@@ -6,11 +6,11 @@ use Rattle.register.specs.declared.keyings.KeyedPaper.{KeyedPaper}
 use Rattle.register.specs.declared.polls.Judgement.{Judgement}
 use Rattle.register.specs.declared.polls.Ballots.{Ballots}
 use Rattle.register.specs.Offices.{WardEntry, CandidateEntry, BatchEntry, JudgedEntry, OfficeState, keyed_entry, ward_at, candidates_of, verdicts_of}
-use Rattle.register.specs.Papers.{batches_of}
+use Rattle.register.specs.Agreement.{batches_of}
 use Rattle.register.specs.Polls.{piles_of, StandFor, judgement_on, judgements_on, settled_papers, settled_judgements, ballots_in, ballots_by}
 use Rattle.register.specs.Nominations.{is_contested}
 use Rattle.register.specs.Elections.{election_of, is_counted, is_in_count}
-use Rattle.register.specs.Items.{IsState}
+use Rattle.register.specs.StateConditions.{IsState}
 use Rattle.register.proofs.MapLemmas.{found_number}
 use Rattle.store.specs.Elections.{is_counted_with, IsInCount}
 use Rattle.store.specs.Settled.{CountAfter}

@@ -9,8 +9,8 @@ use Rattle.register.specs.declared.phase.Phase.{Phase}
 use Rattle.register.specs.declared.phase.Phase.TheVariants.{Nominations, Keying as Keyed, Sealed, Declared}
 use Rattle.register.specs.Phases.{phase_number}
 use Rattle.register.specs.Offices.{WardEntry, CandidateEntry, BatchEntry, ThirdEntry, KeyedEntry, JudgedEntry, LotEntry, ReceiptEntry, OfficeState}
-use Rattle.register.specs.Offices.{MapsRise, ward_cmp, candidate_cmp, batch_cmp, third_cmp, keyed_cmp, judged_cmp, lot_cmp, receipt_cmp}
-use Rattle.register.specs.Items.{IsState}
+use Rattle.register.specs.Offices.{MapsAreSorted, ward_cmp, candidate_cmp, batch_cmp, third_cmp, keyed_cmp, judged_cmp, lot_cmp, receipt_cmp}
+use Rattle.register.specs.StateConditions.{IsState}
 use Rattle.register.specs.Tabulated.{PlacedEntry, FigureEntry, TabulationEntries, tabulation_of, placed_cmp, figure_cmp}
 use Rattle.register.proofs.TabulatedLemmas.{tabulation_rises}
 use Rattle.tables.specs.declared.table.Table.{Table}
@@ -18,7 +18,7 @@ use Rattle.tables.specs.declared.table.Table.TheVariants.{Office, Ward, Candidat
 use Rattle.tables.specs.Rows.{row_cmp}
 use Rattle.tables.specs.Contents.{SameContents, IsOffice}
 use Rattle.store.specs.EntryRows.{row_of_ward, row_of_candidate, row_of_batch, row_of_third, row_of_keyed, row_of_judged, row_of_lot, row_of_receipt, row_of_placed, row_of_figure}
-use Rattle.store.specs.Offices.{tables_of, tables_with, HoldsState}
+use Rattle.store.specs.StateTables.{tables_of, tables_with, HoldsState}
 use Rattle.store.specs.Openings.{has_entries}
 use Rattle.tables.proofs.OrderLemmas.{one_number, two_numbers, three_numbers, four_numbers, number_and_text, number_and_bytes, rows_rise}
 use Rattle.tables.proofs.SameLemmas.{one_contents}
@@ -158,7 +158,7 @@ has_map Vote = false
 has_map _ = true
 
 -- if maps are in ascending order, so are their rows
-maps_up : (s : OfficeState) (t : TabulationEntries) → MapsRise s → (u : Table) → has_map u ≡ true → IsStrictlySortedBy (row_cmp u) (tables_with s t u)
+maps_up : (s : OfficeState) (t : TabulationEntries) → MapsAreSorted s → (u : Table) → has_map u ≡ true → IsStrictlySortedBy (row_cmp u) (tables_with s t u)
 unfolding tables_with
 maps_up s t rise Ward has = rows_rise row_of_ward (row_cmp Ward) ward_cmp wards_alike s.wards rise.wards
 maps_up s t rise Candidate has = rows_rise row_of_candidate (row_cmp Candidate) candidate_cmp candidates_alike s.candidates rise.candidates
@@ -188,7 +188,7 @@ tables_rise s is Lot has = maps_up s (tabulation_of s) is.rise Lot refl
 tables_rise s is Receipt has = maps_up s (tabulation_of s) is.rise Receipt refl
 
 -- maps whose rows are in ascending order are in ascending order
-pub maps_rise : (s : OfficeState) (t : TabulationEntries) → ((u : Table) → has_entries u ≡ true → IsStrictlySortedBy (row_cmp u) (tables_with s t u)) → MapsRise s
+pub maps_rise : (s : OfficeState) (t : TabulationEntries) → ((u : Table) → has_entries u ≡ true → IsStrictlySortedBy (row_cmp u) (tables_with s t u)) → MapsAreSorted s
 unfolding tables_with
 maps_rise s t each = record {
   wards = entries_rise row_of_ward (row_cmp Ward) ward_cmp wards_alike s.wards (each Ward refl);
@@ -204,7 +204,7 @@ maps_rise s t each = record {
 -- ---- states
 
 -- maps in ascending order with the same rows are equal, whatever the tabulation
-pub equal_maps : (s x : OfficeState) (t u : TabulationEntries) → MapsRise s → MapsRise x → SameContents (tables_with s t) (tables_with x u) → s ≡ x
+pub equal_maps : (s x : OfficeState) (t u : TabulationEntries) → MapsAreSorted s → MapsAreSorted x → SameContents (tables_with s t) (tables_with x u) → s ≡ x
 unfolding tables_with
 equal_maps s x t u rise also same =
     let wards = entries_same Ward row_of_ward ward_in ward_back s.wards x.wards (maps_up s t rise Ward refl) (maps_up x u also Ward refl) (same Ward) in

@@ -6,14 +6,14 @@ use Rattle.std.proofs.lemmas.List.Kept.{IsStrictlySortedBy-filter}
 use Rattle.std.proofs.lemmas.List.{length-append}
 use Rattle.register.specs.declared.verdicts.JudgedPaper.{JudgedPaper}
 use Rattle.register.specs.Offices.{BatchEntry, KeyedEntry, OfficeState, judged_entry, verdicts_of, batch_cmp}
-use Rattle.register.specs.Papers.{is_keyed, agreed, are_taken, differ, keyings_now, taken_papers, is_taken, is_differing, is_open, open_in, open_among, batches_of, taken_of, differing_of}
-use Rattle.register.specs.Keyed.{are_rounds_to}
-use Rattle.register.specs.Items.{IsState, is_batch}
+use Rattle.register.specs.Agreement.{is_keyed, agreed, are_taken, differ, keyings_now, taken_papers, is_taken, is_differing, is_open, open_in, open_among, batches_of, taken_of, differing_of}
+use Rattle.register.specs.BatchConditions.{are_rounds_to}
+use Rattle.register.specs.StateConditions.{IsState, is_batch}
 use Rattle.register.specs.Polls.{pile_of, judgement_on, judgements}
-use Rattle.register.specs.Standings.{StatusEntry}
+use Rattle.register.specs.Status.{StatusEntry}
 use Rattle.register.proofs.MapLemmas.{kept_all}
 use Rattle.register.proofs.ContestLemmas.{length_map, few_among, few_batches}
-use Rattle.store.specs.declared.standings.Tally.{Tally}
+use Rattle.store.specs.declared.status.Tally.{Tally}
 use Rattle.store.specs.declared.views.papers.Keyings.{Keyings}
 use Rattle.store.specs.Keyings.{keyings_by}
 use Rattle.store.specs.Tallies.{tally_by, IsTally}

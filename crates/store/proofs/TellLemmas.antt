@@ -12,8 +12,8 @@ use Rattle.sqlite.specs.Schema.{Schema}
 use Rattle.sqlite.specs.Effect.{Database, IsDatabase}
 use Rattle.sqlite.specs.State.{State, IsLive}
 use Rattle.sqlite.proofs.Callers.{one_permutation}
-use Rattle.register.specs.Offices.{OfficeState, MapsRise}
-use Rattle.register.specs.Items.{IsState}
+use Rattle.register.specs.Offices.{OfficeState, MapsAreSorted}
+use Rattle.register.specs.StateConditions.{IsState}
 use Rattle.register.specs.Tabulated.{TabulationEntries, tabulation_of}
 use Rattle.tables.specs.declared.fault.Fault.{Fault}
 use Rattle.tables.specs.declared.fault.Fault.TheVariants.{Memory, Store, Damaged, Closed, WrongDatabase, NewerSchema, OlderSchema}
@@ -25,7 +25,7 @@ use Rattle.tables.specs.Contents.{SameContents, HoldsTable, RestsAt, IsOffice}
 use Rattle.tables.specs.Presence.{has_table, has_every_table}
 use Rattle.tables.specs.Reading.{Lists, ListsKeyed, HoldsNone}
 use Rattle.store.specs.EntryRows.{this_version, office_row}
-use Rattle.store.specs.Offices.{HoldsState, tables_of, tables_with}
+use Rattle.store.specs.StateTables.{HoldsState, tables_of, tables_with}
 use Rattle.store.specs.Openings.{HasNoOffice, IsNewer, IsOlder, HoldsNoState, IsToldBy, TellsNoState, IsVersion, TellsRow}
 use Rattle.store.specs.Openings.{TellsRows, HasVersion, TellsOffice, has_entries, ListsMaps, IsTabulatedAs, HoldsEntries}
 use Rattle.store.specs.Listings.{TellsStrange}
@@ -104,7 +104,7 @@ maps_same db s x t lists holds u = elim (which_kind u) [
   | inr has ↦ held_listed u db (tables_with s t u) (lists u has).all.lists (tables_of x u) (holds.office.holds u)
 ]
 
-pub lists_rise : (db : Database) (s : OfficeState) (t : TabulationEntries) → ListsMaps db s t → MapsRise s
+pub lists_rise : (db : Database) (s : OfficeState) (t : TabulationEntries) → ListsMaps db s t → MapsAreSorted s
 lists_rise db s t lists = maps_rise s t (λ u has. (lists u has).rise)
 
 -- such a state has exactly these maps, and this tabulation is that of its counts

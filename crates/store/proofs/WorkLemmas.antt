@@ -5,7 +5,7 @@ use Rattle.std.proofs.lemmas.List.Elements.{filter-append}
 use Rattle.std.specs.Option.{option_to_list}
 use Rattle.register.specs.declared.status.Work.{Work}
 use Rattle.register.specs.Offices.{BatchEntry, OfficeState}
-use Rattle.register.specs.Standings.{WorkEntry, work_entry, is_work, work_on}
+use Rattle.register.specs.Status.{WorkEntry, work_entry, is_work, work_on}
 
 -- ---- one batch
 

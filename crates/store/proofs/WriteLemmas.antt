@@ -14,19 +14,19 @@ use Rattle.register.specs.Offices.{WardEntry, CandidateEntry, BatchEntry, ThirdE
 use Rattle.register.specs.Offices.{changed, ward_cmp, candidate_cmp, batch_cmp, third_cmp, keyed_cmp, judged_cmp, lot_cmp, receipt_cmp, ward_compared, candidate_compared, batch_compared}
 use Rattle.register.specs.Effects.{ward_added, ward_moved, candidate_added, candidate_withdrawn, batch_added, batch_reopened, third_set, papers_keyed}
 use Rattle.register.specs.Effects.{paper_judged, stage_counted, lot_drawn, in_phase, at_stage, in_round, with_effect, with_receipt}
-use Rattle.register.specs.declared.tabulated.PlacedBundle.{PlacedBundle}
-use Rattle.register.specs.declared.tabulated.StageFigure.{StageFigure}
+use Rattle.register.specs.declared.tabulations.PlacedBundle.{PlacedBundle}
+use Rattle.register.specs.declared.tabulations.StageFigure.{StageFigure}
 use Rattle.register.specs.Tabulated.{PlacedEntry, TabulationEntries, tabulation_of, placed_cmp, moved_to, placed_entry, figure_entry}
 use Rattle.register.proofs.MapLemmas.{put_same}
 use Rattle.tables.specs.declared.table.Table.{Table}
 use Rattle.tables.specs.declared.table.Table.TheVariants.{Office, Ward, Candidate, Batch, Keying, Verdict, Lot, Receipt, Bundle, Vote, Third}
-use Rattle.tables.specs.declared.table.Setting.TheVariants.{PhaseOfWard, DoneOfWard, RoundOfBatch}
+use Rattle.tables.specs.declared.table.SettableColumn.TheVariants.{PhaseOfWard, DoneOfWard, RoundOfBatch}
 use Rattle.tables.specs.Rows.{has_key, value_set, with_value}
 use Rattle.tables.specs.Contents.{Contents, SameContents, added, added_all, replaced_all, value_put, removed}
 use Rattle.tables.specs.Making.{no_contents}
 use Rattle.store.specs.EntryRows.{this_version, office_row, row_of_ward, row_of_candidate, row_of_batch, row_of_third}
 use Rattle.store.specs.EntryRows.{row_of_keyed, row_of_judged, row_of_lot, row_of_receipt, row_of_placed, row_of_figure}
-use Rattle.store.specs.Offices.{tables_of, tables_with}
+use Rattle.store.specs.StateTables.{tables_of, tables_with}
 use Rattle.tables.proofs.ListLemmas.{mapped_twice}
 use Rattle.tables.proofs.OrderLemmas.{key_of_number, key_of_two_numbers, key_of_number_and_bytes}
 use Rattle.tables.proofs.ChangeLemmas.{rows_set, removed_rows, all_replaced, replaced_all_there, replaced_each}

@@ -13,7 +13,7 @@ use Rattle.tables.specs.Reading.{OnlyReads, FailsBy, FailsToList}
 use Rattle.store.specs.declared.copying.Holdings.{Holdings}
 use Rattle.store.specs.declared.copying.CopyFault.{CopyFault}
 use Rattle.store.specs.declared.copying.CopyFault.TheVariants.{Office, Taken, Copy}
-use Rattle.store.specs.Offices.{tables_of, HoldsState, StoresState, IsAt, Wears}
+use Rattle.store.specs.StateTables.{tables_of, HoldsState, StoresState, IsAt, KeepsConnection}
 use Rattle.store.specs.Openings.{IsBlank, IsLeftAt, IsToldBy}
 
 -- the first paper of a keying: each keying of a batch in a round has one
@@ -75,8 +75,8 @@ module _ {S T : Type 0} (store : Ghosts S) (other : Ghosts T) (conn conn_after :
   abbrev full : State
   full = state other copy_after
 
-  -- The outcome of copying an office that is found by its rows alone (`copied`, `told`), at a state (`same`, `stops`, `cause`), or kept by an open office
-  -- (`kept`). It also states what the copy contains, whatever it was made of (`made`, `whole`), and when nothing is written.
+  -- The outcome of copying an office of which only the rows are known (`copied`, `told`), or the state (`same`, `stops`, `cause`), or that is open (`kept`). In
+  -- each case also what the copy contains (`made`, `whole`), and when nothing is written.
   pub record CopiesTo : Type 0 where
     pub copied : HasCleanDisk new → (db : Database) → IsOurs db.schema → RestsAt db old
         → IfOk result (λ h. (s : OfficeState) × HoldsState db s × (h ≡ holdings_of s) × (HasCleanDisk full → IsBlank blank → IsAt s full))
@@ -92,7 +92,7 @@ module _ {S T : Type 0} (store : Ghosts S) (other : Ghosts T) (conn conn_after :
     pub taken : has_some_table blank.now.schema ≡ true → conn.in_transaction ≡ false → (result ≡ Err Taken) × (copy_after ≡ copy)
     pub inside : conn.in_transaction ≡ true → (result ≡ Err (Office StoreFailed)) × (conn_after ≡ conn) × (copy_after ≡ copy)
     pub inside_too : copy.in_transaction ≡ true → conn.in_transaction ≡ false → (result ≡ Err Taken) × (copy_after ≡ copy)
-    pub wears : Wears blank full
+    pub keeps_connection : KeepsConnection blank full
     pub clean : HasCleanDisk full → HasCleanDisk blank
     pub outside : conn.in_transaction ≡ false → conn_after.in_transaction ≡ false
     pub outside_too : copy.in_transaction ≡ false → copy_after.in_transaction ≡ false

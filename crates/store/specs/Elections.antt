@@ -1,7 +1,7 @@
 -- What is read for the count of a ward.
 use Rattle.std.specs.Prelude.{◌≡◌, ◌==◌, map, ℕ, true, false, List, Option, Some, None, ⊤, Bool, ◌&&◌}
 use Rattle.std.specs.List.{filter}
-use Rattle.count.specs.Kept.{CountKept, IsKeptOf}
+use Rattle.count.specs.StoredCounts.{StoredCountEntry, IsStoredCountOf}
 use Rattle.register.specs.Offices.{WardEntry, CandidateEntry, OfficeState, ward_at, candidates_of, ward_entry, candidate_entry, judged_entry}
 use Rattle.register.specs.Polls.{Pile, poll_of}
 use Rattle.register.specs.declared.elections.Count.{Count}
@@ -10,7 +10,7 @@ use Rattle.register.specs.declared.elections.WardSheet.{WardSheet}
 use Rattle.register.specs.declared.elections.Election.{Election}
 use Rattle.register.specs.Elections.{ElectionEntry, IsElection, has_count, contest_of, stages_of, due_of, elected_of, election_of, is_counted, is_in_count}
 use Rattle.register.specs.Nominations.{is_contested}
-use Rattle.register.specs.Parts.{PartEntries, empty_part}
+use Rattle.register.specs.CommandInputs.{CommandInputEntries, empty_input}
 use Rattle.register.specs.Tabulated.{PlacedEntry, FigureEntry, tabulation_of, has_stages, IsCount, IsCountOf, IsCountedWard, IsSheetOf}
 use Rattle.store.specs.declared.views.papers.BatchPapers.{BatchPapers}
 use Rattle.store.specs.Keyings.{keyings_by}
@@ -36,14 +36,14 @@ IsFoundFor None (Some entry) = ⊥
 IsFoundFor (Some e) None = ⊥
 
 -- the part of a command that needs the poll of an election
-abbrev pub polled_part : Option ElectionEntry → PartEntries
-polled_part None = empty_part
-polled_part (Some e) = record empty_part { ward = Some e.ward; poll = Some (poll_of e.ward.seats e.ballots) }
+abbrev pub polled_part : Option ElectionEntry → CommandInputEntries
+polled_part None = empty_input
+polled_part (Some e) = record empty_input { ward = Some e.ward; poll = Some (poll_of e.ward.seats e.ballots) }
 
 -- the part of a command that needs what is due in the count of an election, and those elected
-abbrev pub counted_part : Option ElectionEntry → PartEntries
-counted_part None = empty_part
-counted_part (Some e) = record empty_part { ward = Some e.ward; due = Some (due_of e); elected = elected_of e }
+abbrev pub counted_part : Option ElectionEntry → CommandInputEntries
+counted_part None = empty_input
+counted_part (Some e) = record empty_input { ward = Some e.ward; due = Some (due_of e); elected = elected_of e }
 
 -- ---- the count
 
@@ -68,8 +68,8 @@ IsContestAt s ward None = ward_at s ward ≡ None
 IsContestAt s ward (Some found) = (ward_at s ward ≡ Some (ward_entry found.ward)) × IsThere s found × (found.count ≡ None)
 
 -- this was found, and it is what is stored of the count of an election
-abbrev pub IsKept : ElectionEntry → Option CountKept → Type 0
-IsKept e found = (kept : CountKept) × (found ≡ Some kept) × IsKeptOf (contest_of e) (stages_of e) kept
+abbrev pub IsKept : ElectionEntry → Option StoredCountEntry → Type 0
+IsKept e found = (kept : StoredCountEntry) × (found ≡ Some kept) × IsStoredCountOf (contest_of e) (stages_of e) kept
 
 -- the count of an election if a stage is done, otherwise none
 abbrev pub IsBook : ElectionEntry → Option Count → Type 0

@@ -7,7 +7,7 @@ use Rattle.register.specs.declared.phase.Phase.{Phase}
 use Rattle.register.specs.Phases.{phase_number}
 use Rattle.register.specs.Offices.{WardEntry, CandidateEntry, BatchEntry, ThirdEntry, KeyedEntry, JudgedEntry, LotEntry, ReceiptEntry}
 use Rattle.register.specs.Tabulated.{PlacedEntry, FigureEntry}
-use Rattle.tables.specs.Cells.{IsNumber, IsAmount, IsText, IsBytes}
+use Rattle.tables.specs.RowValues.{IsNumber, IsAmount, IsText, IsBytes}
 
 -- the number of a phase
 abbrev pub IsPhase : Value → Type 0

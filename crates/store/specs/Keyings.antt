@@ -1,7 +1,7 @@
 -- The keyings that are read for a batch.
 use Rattle.std.specs.Prelude.{ℕ, List, [], map, Option, Some, None, Bool, ◌&&◌, ◌==◌}
 use Rattle.register.specs.Offices.{KeyedEntry, OfficeState, keying_of, keyed_entry}
-use Rattle.register.specs.Papers.{of_three}
+use Rattle.register.specs.Agreement.{of_three}
 use Rattle.store.specs.declared.views.papers.Keyings.{Keyings}
 
 -- the papers that a clerk keyed of a batch in a round, if there is such a clerk

@@ -10,7 +10,7 @@ use Rattle.register.specs.declared.batches.Batch.{Batch as BatchValue}
 use Rattle.register.specs.declared.keyings.KeyedPaper.{KeyedPaper}
 use Rattle.register.specs.declared.verdicts.JudgedPaper.{JudgedPaper}
 use Rattle.register.specs.Offices.{OfficeState, batch_entry, keyed_entry, judged_entry}
-use Rattle.register.specs.Items.{IsState}
+use Rattle.register.specs.StateConditions.{IsState}
 use Rattle.register.specs.Tabulated.{TabulationEntries}
 use Rattle.tables.specs.declared.fault.Fault.{Fault}
 use Rattle.tables.specs.declared.fault.Fault.TheVariants.{Memory, Store, Damaged, Closed, WrongDatabase, NewerSchema, OlderSchema}
@@ -22,7 +22,7 @@ use Rattle.tables.specs.Contents.{HoldsTable, RestsAt}
 use Rattle.tables.specs.Reading.{OnlyReads, FailsToList, ListsEntries}
 use Rattle.store.specs.declared.listing.Papers.{Papers}
 use Rattle.store.specs.EntryRows.{row_of_batch, row_of_keyed, row_of_judged}
-use Rattle.store.specs.Offices.{tables_of, tables_with}
+use Rattle.store.specs.StateTables.{tables_of, tables_with}
 use Rattle.store.specs.Openings.{has_entries}
 
 -- A listing of rows, for any database of this kind at which the connection rests: what it finds there, which fault is reported for the rows, and why it fails.

@@ -6,7 +6,7 @@ use Rattle.sqlite.specs.State.{State, HasCleanDisk}
 use Rattle.register.specs.Offices.{OfficeState}
 use Rattle.tables.specs.declared.fault.Fault.{Fault}
 use Rattle.tables.specs.Reading.{OnlyReads, FailsBy}
-use Rattle.store.specs.Offices.{IsAt}
+use Rattle.store.specs.StateTables.{IsAt}
 
 -- A load, for any state that the store keeps. What it returns is true of that state, and it fails only if an allocation or the store fails. It changes nothing
 -- and keeps the state, and the connection is open if it succeeds.

@@ -7,15 +7,15 @@ use Rattle.sqlite.specs.Effect.{Database, IsDatabase}
 use Rattle.sqlite.specs.Held.{Held, state}
 use Rattle.sqlite.specs.State.{State, HasCleanDisk}
 use Rattle.register.specs.Offices.{OfficeState}
-use Rattle.register.specs.Items.{IsState}
+use Rattle.register.specs.StateConditions.{IsState}
 use Rattle.register.specs.Tabulated.{TabulationEntries, tabulation_of, AdditionEntries, with_addition}
 use Rattle.tables.specs.declared.fault.Fault.{Fault}
 use Rattle.tables.specs.declared.fault.Fault.TheVariants.{Memory, Store, Damaged, Closed, WrongDatabase, NewerSchema, OlderSchema}
 use Rattle.tables.specs.declared.table.Table.TheVariants.{Office}
-use Rattle.tables.specs.declared.presence.Form.{Form}
-use Rattle.tables.specs.declared.presence.Form.TheVariants.{WithoutThird, WithoutCounts as WithoutCountTables}
+use Rattle.tables.specs.declared.presence.TablesPresent.{TablesPresent}
+use Rattle.tables.specs.declared.presence.TablesPresent.TheVariants.{WithoutThird, WithoutCounts as WithoutCountTables}
 use Rattle.tables.specs.Contents.{Contents, SameContents, RestsAt, changed, Stores}
-use Rattle.tables.specs.Making.{HasFirst, RestsFirst, SeesMade, StoresFirst}
+use Rattle.tables.specs.Making.{HasFirstTables, RestsFirst, SeesMade, StoresFirst}
 use Rattle.tables.specs.Presence.{IsOurs, IsOlderSchema}
 use Rattle.tables.specs.Reading.{OnlyReads, FailsToList}
 use Rattle.store.specs.declared.older.OlderForm.{OlderForm}
@@ -23,7 +23,7 @@ use Rattle.store.specs.declared.older.OlderForm.TheVariants.{WithCounts, Without
 use Rattle.store.specs.declared.migration.Migrated.{Migrated}
 use Rattle.store.specs.declared.migration.Migrated.TheVariants.{Done, Already}
 use Rattle.store.specs.EntryRows.{office_row}
-use Rattle.store.specs.Offices.{no_tabulation, tables_of, tables_with, HoldsState, IsAt, Wears}
+use Rattle.store.specs.StateTables.{no_tabulation, tables_of, tables_with, HoldsState, IsAt, KeepsConnection}
 use Rattle.store.specs.Openings.{HasNoOffice, IsNewer, HoldsNoState}
 
 -- ---- an older office
@@ -34,7 +34,7 @@ tables_in WithCounts = 10
 tables_in WithoutCounts = 8
 
 -- which tables of an office it has
-abbrev pub name_of : OlderForm → Form
+abbrev pub name_of : OlderForm → TablesPresent
 name_of WithCounts = WithoutThird
 name_of WithoutCounts = WithoutCountTables
 
@@ -60,7 +60,7 @@ pub record IsOlderState (s : OfficeState) : Type 0 where
 -- the database contains exactly the older tables of this state
 pub record HoldsOlder (form : OlderForm) (db : Database) (s : OfficeState) : Type 0 where
   pub is : IsOlderState s
-  pub first : HasFirst (tables_in form) (older_tables form s) db
+  pub first : HasFirstTables (tables_in form) (older_tables form s) db
 
 -- a connection between two transactions, at the older tables of this state
 pub record RestsOlder (form : OlderForm) (s : OfficeState) (st : State) : Type 0 where
@@ -169,7 +169,7 @@ module _ {S : Type 0} (store : Ghosts S) (before after : Held S) (result : Resul
     pub told : HasCleanDisk new → (db : Database) → IsOurs db.schema → IsOlderSchema db.schema → RestsAt db old → IfErr result (IsToldInMigration db)
     pub fails : HasCleanDisk new → (db : Database) → IsOurs db.schema → IsOlderSchema db.schema → RestsAt db old → IfErr result (FailsToMigrate db old new)
     pub unchanged : IfErr result (λ f. (f ≡ Memory) ⊎ ((f ≡ Store) ⊎ OnlyReads old new))
-    pub wears : Wears old new
+    pub keeps_connection : KeepsConnection old new
     pub clean : HasCleanDisk new → HasCleanDisk old
     pub inside : before.in_transaction ≡ true → (result ≡ Err Store) × (after ≡ before)
     pub outside : before.in_transaction ≡ false → after.in_transaction ≡ false

@@ -5,7 +5,7 @@ use Rattle.sqlite.specs.Order.{Row}
 use Rattle.sqlite.specs.Effect.{Database, IsDatabase}
 use Rattle.sqlite.specs.State.{State}
 use Rattle.register.specs.Offices.{OfficeState}
-use Rattle.register.specs.Items.{IsState}
+use Rattle.register.specs.StateConditions.{IsState}
 use Rattle.register.specs.Tabulated.{TabulationEntries, IsTabulationOf}
 use Rattle.tables.specs.declared.fault.Fault.{Fault}
 use Rattle.tables.specs.declared.fault.Fault.TheVariants.{Memory, Store, Damaged, Closed, WrongDatabase, NewerSchema, OlderSchema}
@@ -17,7 +17,7 @@ use Rattle.tables.specs.Contents.{HoldsTable, Stores}
 use Rattle.tables.specs.Presence.{has_table}
 use Rattle.tables.specs.Reading.{ListsEntries}
 use Rattle.store.specs.EntryRows.{this_version, office_row}
-use Rattle.store.specs.Offices.{tables_of, tables_with, HoldsState}
+use Rattle.store.specs.StateTables.{tables_of, tables_with, HoldsState}
 
 -- there is no office table, or no row in it
 abbrev pub HasNoOffice : Database → Type 0

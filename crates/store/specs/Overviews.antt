@@ -6,11 +6,11 @@ use Rattle.std.specs.Str.{bytes_eq}
 use Rattle.register.specs.Offices.{WardEntry, CandidateEntry, BatchEntry, KeyedEntry, JudgedEntry, ReceiptEntry, OfficeState, ward_entry, candidate_entry, batch_entry, judged_entry}
 use Rattle.register.specs.Offices.{ward_at, batch_at, candidates_of, keying_of, verdicts_of}
 use Rattle.register.specs.Marks.{columns_of}
-use Rattle.register.specs.Papers.{is_keyed, is_doubtful, clerks_of, keyings_now, taken_papers, agreed, are_taken, differ, is_taken, batches_of, open_in}
+use Rattle.register.specs.Agreement.{is_keyed, is_doubtful, clerks_of, keyings_now, taken_papers, agreed, are_taken, differ, is_taken, batches_of, open_in}
 use Rattle.register.specs.Polls.{Pile, pile_of, judgement_on}
 use Rattle.register.specs.declared.polls.Judgement.{Judgement}
 use Rattle.register.specs.Elections.{election_of, elected_of, is_declared}
-use Rattle.register.specs.Standings.{StatusEntry, status_of, status_entry}
+use Rattle.register.specs.Status.{StatusEntry, status_of, status_entry}
 use Rattle.store.specs.declared.overviews.batches.BatchStanding.{BatchStanding}
 use Rattle.store.specs.declared.overviews.batches.BatchStanding.TheVariants.{Taken, Differing, Waiting}
 use Rattle.store.specs.declared.overviews.wards.WardOverview.{WardOverview}

@@ -5,7 +5,7 @@ use Rattle.std.specs.Option.{option_map_or}
 use Rattle.std.specs.Str.{bytes_eq}
 use Rattle.std.specs.HashMap.{HashMap, get_by_text}
 use Rattle.register.specs.Offices.{BatchEntry, KeyedEntry, JudgedEntry, OfficeState, third_entry, third_at}
-use Rattle.register.specs.Papers.{agreed, is_open, keyings_now}
+use Rattle.register.specs.Agreement.{agreed, is_open, keyings_now}
 use Rattle.store.specs.declared.views.papers.Keyings.{Keyings}
 use Rattle.store.specs.declared.overviews.piles.ReadBatch.{ReadBatch}
 use Rattle.store.specs.Keyings.{keyings_by}

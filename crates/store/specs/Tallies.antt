@@ -3,8 +3,8 @@ use Rattle.std.specs.Prelude.{◌≡◌, ◌<◌, ◌^◌, if◌then◌else◌, 
 use Rattle.std.specs.List.{filter}
 use Rattle.register.specs.declared.verdicts.JudgedPaper.{JudgedPaper}
 use Rattle.register.specs.Offices.{BatchEntry, OfficeState, judged_entry}
-use Rattle.register.specs.Papers.{agreed, are_taken, differ, is_open, is_taken, is_differing, open_among}
-use Rattle.store.specs.declared.standings.Tally.{Tally}
+use Rattle.register.specs.Agreement.{agreed, are_taken, differ, is_open, is_taken, is_differing, open_among}
+use Rattle.store.specs.declared.status.Tally.{Tally}
 use Rattle.store.specs.declared.views.papers.Keyings.{Keyings}
 use Rattle.store.specs.Keyings.{keyings_by}
 

@@ -6,7 +6,7 @@ ghost use Rattle.register.specs.Offices.{keyed_entry};
 ghost use Rattle.rowcheck.specs.States.{state_of, tabulated};
 ghost use Rattle.tables.specs.Presence.{has_some_table};
 ghost use Rattle.store.specs.Copies.{is_first_paper, holdings_of, CopiesTo};
-ghost use Rattle.store.specs.Offices.{tables_with, Commits};
+ghost use Rattle.store.specs.StateTables.{tables_with, Commits};
 ghost use Rattle.store.specs.Openings.{IsBlank};
 
 use crate::opening::checked_rows;

@@ -17,7 +17,7 @@ pub(crate) mod wards;
 
 use sqlite_value::value::ValueRef;
 use tables::Fault;
-use tables::cells::amount;
+use tables::value_conversion::amount;
 
 /// Returns units of a count as a parameter. `Memory` if a column can't hold them: no machine has the memory for so many papers.
 fn units<'a>(n: u64) -> Result<ValueRef<'a>, Fault>

@@ -20,6 +20,7 @@
 //! The crate `tables` has the statements on any table; this one defines the rows of a state.
 #![tactic(auto)]
 
+mod clerk_work;
 pub mod copying;
 mod entries;
 mod listing;
@@ -28,11 +29,10 @@ pub mod older;
 mod opening;
 pub mod overviews;
 mod repeats;
-mod standings;
+mod status;
 pub mod storage;
 mod views;
 pub mod whole;
-mod working;
 mod writing;
 
 pub use copying::{CopyFault, Holdings, copy};

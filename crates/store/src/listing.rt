@@ -1,10 +1,10 @@
 //! All entries of the tables, as read when an office is opened.
 
 ghost use Rattle.std.specs.Prelude.{◌≡◌, false, [], IfOk};
-ghost use Rattle.register.specs.Offices.{MapsRise};
+ghost use Rattle.register.specs.Offices.{MapsAreSorted};
 ghost use Rattle.rowcheck.specs.States.{state_of, tabulated};
 ghost use Rattle.tables.specs.Schema.{IsOfficeSchema};
-ghost use Rattle.store.specs.Offices.{no_tabulation};
+ghost use Rattle.store.specs.StateTables.{no_tabulation};
 ghost use Rattle.store.specs.Openings.{TellsNoState, ListsMaps};
 ghost use Rattle.store.specs.Listings.{Lists, BeginsFirst, TellsStrange, ListsFirst, ListsPapers, PapersRise};
 
@@ -54,7 +54,7 @@ fn all_papers<S: Alter>(alloc: Global, conn: &mut Connection<S>) -> Result<Paper
 pub(crate) fn first_rows<S: Alter>(alloc: Global, conn: &mut Connection<S>) -> Result<Rows, Fault>
     requires { conn.old.in_transaction ≡ false }
     ensures lists { Lists S.Store conn.old conn.new result (λ db. BeginsFirst 8 db.schema) (λ db rows. ListsFirst 8 db (state_of rows) (tabulated rows)) (TellsStrange 8) }
-    ensures rise { IfOk result (λ rows. MapsRise (state_of rows)) }
+    ensures rise { IfOk result (λ rows. MapsAreSorted (state_of rows)) }
     ensures no_thirds { IfOk result (λ rows. (state_of rows).thirds ≡ []) }
     ensures no_counts { IfOk result (λ rows. tabulated rows ≡ no_tabulation) }
 {
@@ -85,7 +85,7 @@ pub(crate) fn first_rows<S: Alter>(alloc: Global, conn: &mut Connection<S>) -> R
 pub(crate) fn counted_rows<S: Alter>(alloc: Global, conn: &mut Connection<S>) -> Result<Rows, Fault>
     requires { conn.old.in_transaction ≡ false }
     ensures lists { Lists S.Store conn.old conn.new result (λ db. BeginsFirst 10 db.schema) (λ db rows. ListsFirst 10 db (state_of rows) (tabulated rows)) (TellsStrange 10) }
-    ensures rise { IfOk result (λ rows. MapsRise (state_of rows)) }
+    ensures rise { IfOk result (λ rows. MapsAreSorted (state_of rows)) }
     ensures no_thirds { IfOk result (λ rows. (state_of rows).thirds ≡ []) }
 {
     let mut rows = first_rows(alloc, conn)?;
@@ -101,7 +101,7 @@ pub(crate) fn counted_rows<S: Alter>(alloc: Global, conn: &mut Connection<S>) ->
 pub(crate) fn all_rows<S: Alter>(alloc: Global, conn: &mut Connection<S>) -> Result<Rows, Fault>
     requires { conn.old.in_transaction ≡ false }
     ensures lists { Lists S.Store conn.old conn.new result (λ db. IsOfficeSchema db.schema) (λ db rows. ListsMaps db (state_of rows) (tabulated rows)) TellsNoState }
-    ensures rise { IfOk result (λ rows. MapsRise (state_of rows)) }
+    ensures rise { IfOk result (λ rows. MapsAreSorted (state_of rows)) }
 {
     let mut rows = counted_rows(alloc, conn)?;
     let thirds = all_entries::<ThirdClerks, S>(alloc, conn)?;

@@ -10,7 +10,7 @@ ghost use Rattle.tables.specs.Contents.{RestsAt, SameContents};
 ghost use Rattle.tables.specs.Presence.{IsOurs, IsOlderSchema};
 ghost use Rattle.tables.specs.Reading.{OnlyReads};
 ghost use Rattle.store.specs.declared.older.OlderForm.{OlderForm};
-ghost use Rattle.store.specs.Offices.{tables_of, HoldsState, IsAt, Commits, Wears};
+ghost use Rattle.store.specs.StateTables.{tables_of, HoldsState, IsAt, Commits, KeepsConnection};
 ghost use Rattle.store.specs.Openings.{HasVersion};
 ghost use Rattle.store.specs.Migrations.{older_tables, IsOlderState, HoldsOlder, RestsOlder, StoresOlder, WasAt, IsToldInMigration, FailsToMigrate, Lacks, TellsOlder, LeavesOlderOr, Migrates};
 
@@ -58,7 +58,7 @@ fn migrate_older<S: Alter>(alloc: Global, conn: &mut Connection<S>) -> Result<Mi
     ensures fails { HasCleanDisk (state S.Store conn.new) → (db : Database) → IsOlderSchema db.schema → HasVersion 1 db → RestsAt db (state S.Store conn.old)
         → IfErr result (FailsToMigrate db (state S.Store conn.old) (state S.Store conn.new)) }
     ensures unchanged { IfErr result (λ f. (f ≡ Fault.Memory) ⊎ ((f ≡ Fault.Store) ⊎ OnlyReads (state S.Store conn.old) (state S.Store conn.new))) }
-    ensures wears { Wears (state S.Store conn.old) (state S.Store conn.new) }
+    ensures keeps_connection { KeepsConnection (state S.Store conn.old) (state S.Store conn.new) }
     ensures clean { HasCleanDisk (state S.Store conn.new) → HasCleanDisk (state S.Store conn.old) }
     ensures outside { conn.new.in_transaction ≡ false }
 {
@@ -81,7 +81,7 @@ fn open_or_migrate<S: Alter>(alloc: Global, conn: &mut Connection<S>) -> Result<
     ensures reads { HasCleanDisk (state S.Store conn.new) → (db : Database) → RestsAt db (state S.Store conn.old) → (s : OfficeState) → HoldsState db s
         → OnlyReads (state S.Store conn.old) (state S.Store conn.new) }
     ensures unchanged { IfErr result (λ f. (f ≡ Fault.Memory) ⊎ ((f ≡ Fault.Store) ⊎ OnlyReads (state S.Store conn.old) (state S.Store conn.new))) }
-    ensures wears { Wears (state S.Store conn.old) (state S.Store conn.new) }
+    ensures keeps_connection { KeepsConnection (state S.Store conn.old) (state S.Store conn.new) }
     ensures clean { HasCleanDisk (state S.Store conn.new) → HasCleanDisk (state S.Store conn.old) }
     ensures outside { conn.new.in_transaction ≡ false }
 {

@@ -5,12 +5,12 @@ ghost use Rattle.std.specs.List.{list_any};
 ghost use Rattle.sqlite.specs.Effect.{Database, IsDatabase};
 ghost use Rattle.sqlite.specs.State.{HasCleanDisk, IsLive};
 ghost use Rattle.sqlite.specs.Held.{state};
-ghost use Rattle.register.specs.Offices.{MapsRise, receipt_entry};
+ghost use Rattle.register.specs.Offices.{MapsAreSorted, receipt_entry};
 ghost use Rattle.register.specs.Tabulated.{addition_entries, tabulation_entries};
 ghost use Rattle.rowcheck.specs.States.{state_of, tabulated};
 ghost use Rattle.tables.specs.Schema.{schema_from};
 ghost use Rattle.tables.specs.Contents.{RestsAt};
-ghost use Rattle.tables.specs.Presence.{form_of, IsOlderSchema};
+ghost use Rattle.tables.specs.Presence.{tables_present, IsOlderSchema};
 ghost use Rattle.tables.specs.Reading.{OnlyReads, FailsToList};
 ghost use Rattle.register.specs.declared.receipt.Receipt.{Receipt as ReceiptValue};
 ghost use Rattle.store.specs.declared.older.OlderForm.{OlderForm};
@@ -19,13 +19,13 @@ ghost use Rattle.store.specs.Listings.{Lists, BeginsFirst, TellsStrange, ListsFi
 ghost use Rattle.store.specs.Migrations.{tables_in, name_of, tabulation_in, is_about_third, IsBare, IsOlderOf, Lacks, FoundOlder, TellsOlder};
 
 use crate::listing::{counted_rows, first_rows};
-use crate::opening::counted_state;
+use crate::opening::tabulation_of_state;
 use register::{Addition, Receipt, Tabulation};
 use rowcheck::{Rows, is_tabulated};
 use sqlite::{Alter, Connection};
 use std::alloc::Global;
 use tables::Fault;
-use tables::presence::{Form, form_of};
+use tables::presence::{TablesPresent, tables_present};
 
 /// Which tables an older office has.
 #[derive(Clone, Copy, PartialEq, Eq)]
@@ -45,15 +45,15 @@ pub(crate) struct Older {
 
 /// Returns which tables the database of an older office has, if it has those of one.
 fn older_form<S: Alter>(conn: &Connection<S>) -> Option<OlderForm>
-    ensures some { IfSome result (λ form. form_of (state S.Store conn.now).now.schema ≡ name_of form) }
-    ensures none { IfNone result ((form : OlderForm) → form_of (state S.Store conn.now).now.schema ≢ name_of form) }
+    ensures some { IfSome result (λ form. tables_present (state S.Store conn.now).now.schema ≡ name_of form) }
+    ensures none { IfNone result ((form : OlderForm) → tables_present (state S.Store conn.now).now.schema ≢ name_of form) }
     ensures live { IsLive (state S.Store conn.now) }
 {
-    match form_of(conn) {
-        Form::WithoutThird => Some(OlderForm::WithCounts),
-        Form::WithoutCounts => Some(OlderForm::WithoutCounts),
-        Form::Whole => None,
-        Form::Other => None,
+    match tables_present(conn) {
+        TablesPresent::WithoutThird => Some(OlderForm::WithCounts),
+        TablesPresent::WithoutCounts => Some(OlderForm::WithoutCounts),
+        TablesPresent::Whole => None,
+        TablesPresent::Other => None,
     }
 }
 
@@ -67,7 +67,7 @@ fn older_rows<S: Alter>(
     requires { conn.old.in_transaction ≡ false }
     ensures lists { Lists S.Store conn.old conn.new result (λ db. BeginsFirst (tables_in form) db.schema)
         (λ db rows. ListsFirst (tables_in form) db (state_of rows) (tabulated rows)) (TellsStrange (tables_in form)) }
-    ensures rise { IfOk result (λ rows. MapsRise (state_of rows)) }
+    ensures rise { IfOk result (λ rows. MapsAreSorted (state_of rows)) }
     ensures bare { IfOk result (λ rows. IsBare form (state_of rows) (tabulated rows)) }
 {
     match form {
@@ -118,7 +118,7 @@ fn lacking(alloc: Global, form: OlderForm, rows: &Rows, counted: Tabulation) -> 
 /// Returns what an older office lacks, if its rows, in key order, are those of a state: they meet every condition, and
 /// no receipt is about a third clerk. An error is `Memory`.
 fn missing_of(alloc: Global, form: OlderForm, rows: &Rows) -> Result<Option<Addition>, Fault>
-    requires rise { MapsRise (state_of rows.now) }
+    requires rise { MapsAreSorted (state_of rows.now) }
     requires bare { IsBare form (state_of rows.now) (tabulated rows.now) }
     ensures some { IfOk result (λ found. IfSome found (λ a. IsOlderOf form (state_of rows.now) (tabulated rows.now) × Lacks form (state_of rows.now) (addition_entries a))) }
     ensures none { IfOk result (λ found. IfNone found (¬ IsOlderOf form (state_of rows.now) (tabulated rows.now))) }
@@ -127,7 +127,7 @@ fn missing_of(alloc: Global, form: OlderForm, rows: &Rows) -> Result<Option<Addi
     if are_about_thirds(&rows.receipts) {
         return Ok(None);
     }
-    match counted_state(alloc, rows) {
+    match tabulation_of_state(alloc, rows) {
         Ok(Some(counted)) => Ok(lacking(alloc, form, rows, counted)),
         Ok(None) => Ok(None),
         Err(fault) => Err(fault),

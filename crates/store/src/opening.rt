@@ -4,8 +4,8 @@ ghost use Rattle.std.specs.Prelude.{◌≡◌, [], ◌∷◌, true, false, IfOk,
 ghost use Rattle.sqlite.specs.Effect.{Database, IsDatabase};
 ghost use Rattle.sqlite.specs.State.{HasCleanDisk};
 ghost use Rattle.sqlite.specs.Held.{state};
-ghost use Rattle.register.specs.Offices.{OfficeState, MapsRise};
-ghost use Rattle.register.specs.Items.{IsState};
+ghost use Rattle.register.specs.Offices.{OfficeState, MapsAreSorted};
+ghost use Rattle.register.specs.StateConditions.{IsState};
 ghost use Rattle.register.specs.Tabulated.{tabulation_entries, IsTabulationOf};
 ghost use Rattle.rowcheck.specs.States.{state_of, tabulated};
 ghost use Rattle.tables.specs.Schema.{BeginsTo, IsOfficeSchema};
@@ -13,7 +13,7 @@ ghost use Rattle.tables.specs.Contents.{RestsAt};
 ghost use Rattle.tables.specs.Presence.{IsOurs};
 ghost use Rattle.tables.specs.Reading.{OnlyReads, FailsToList};
 ghost use Rattle.store.specs.EntryRows.{this_version};
-ghost use Rattle.store.specs.Offices.{HoldsState};
+ghost use Rattle.store.specs.StateTables.{HoldsState};
 ghost use Rattle.store.specs.Openings.{IsToldBy, TellsNoState, IsVersion, TellsRow, TellsRows, HasVersion, TellsOffice, IsTabulatedAs, HoldsEntries};
 
 use crate::listing::all_rows;
@@ -25,9 +25,9 @@ use rowcheck::{
 };
 use sqlite::{Alter, Connection, Row};
 use std::alloc::Global;
-use tables::cells::integer_at;
 use tables::listing::keyed_rows;
 use tables::presence::{has_every_table, has_table};
+use tables::value_conversion::integer_at;
 use tables::{Fault, Table};
 
 /// Checks that the row is that of an office of this program's version.
@@ -89,8 +89,8 @@ fn check_office<S: Alter>(conn: &mut Connection<S>) -> Result<(), Fault>
 }
 
 /// Returns the tabulation of the counts of maps in key order, if they are a state. An error is `Memory`.
-pub(crate) fn counted_state(alloc: Global, rows: &Rows) -> Result<Option<Tabulation>, Fault>
-    requires { MapsRise (state_of rows.now) }
+pub(crate) fn tabulation_of_state(alloc: Global, rows: &Rows) -> Result<Option<Tabulation>, Fault>
+    requires { MapsAreSorted (state_of rows.now) }
     ensures some { IfOk result (λ found. IfSome found (λ t. IsTabulatedAs (state_of rows.now) (tabulation_entries t))) }
     ensures none { IfOk result (λ found. IfNone found (¬ IsState (state_of rows.now))) }
     ensures cause { IfErr result (λ f. f ≡ Fault.Memory) }
@@ -122,12 +122,12 @@ pub(crate) fn counted_state(alloc: Global, rows: &Rows) -> Result<Option<Tabulat
 
 /// Returns whether maps in key order are a state with this tabulation of its counts. An error is `Memory`.
 fn are_of_state(alloc: Global, rows: &Rows) -> Result<bool, Fault>
-    requires { MapsRise (state_of rows.now) }
+    requires { MapsAreSorted (state_of rows.now) }
     ensures some { IfOk result (λ yes. yes ≡ true → IsTabulatedAs (state_of rows.now) (tabulated rows.now)) }
     ensures none { IfOk result (λ yes. yes ≡ false → ¬ IsTabulatedAs (state_of rows.now) (tabulated rows.now)) }
     ensures cause { IfErr result (λ f. f ≡ Fault.Memory) }
 {
-    match counted_state(alloc, rows) {
+    match tabulation_of_state(alloc, rows) {
         Ok(Some(counted)) => Ok(is_tabulated(rows, &counted)),
         Ok(None) => Ok(false),
         Err(fault) => Err(fault),

@@ -5,11 +5,11 @@ ghost use Rattle.std.specs.List.{list_any};
 ghost use Rattle.sqlite.specs.State.{HasCleanDisk};
 ghost use Rattle.sqlite.specs.Held.{state};
 ghost use Rattle.register.specs.Offices.{OfficeState, ward_at, candidate_at, batch_at, third_at, keying_of, verdict_at, lots_of};
-ghost use Rattle.register.specs.Papers.{is_third_clerk};
+ghost use Rattle.register.specs.Agreement.{is_third_clerk};
 ghost use Rattle.register.specs.Verdicts.{judged_as};
 ghost use Rattle.register.specs.Repeats.{is_there, is_ward_of, has_other_name, has_withdrawn, is_batch_of, is_keying_otherwise, is_verdict_otherwise, is_drawn, is_kept_otherwise};
 ghost use Rattle.tables.specs.Reading.{OnlyReads, FailsBy};
-ghost use Rattle.store.specs.Offices.{IsAt};
+ghost use Rattle.store.specs.StateTables.{IsAt};
 ghost use Rattle.store.specs.Loads.{Loads};
 
 use crate::storage::Store;

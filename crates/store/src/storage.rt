@@ -5,7 +5,7 @@ ghost use Rattle.sqlite.specs.Tree.{Trees};
 ghost use Rattle.sqlite.specs.State.{HasCleanDisk, Survives};
 ghost use Rattle.sqlite.specs.Held.{state};
 ghost use Rattle.register.specs.Offices.{OfficeState, empty_office};
-ghost use Rattle.register.specs.Items.{IsState};
+ghost use Rattle.register.specs.StateConditions.{IsState};
 ghost use Rattle.register.specs.Effects.{change_entry, with_change};
 ghost use Rattle.register.specs.Tabulated.{addition_entries, IsTabulated};
 ghost use Rattle.sqlite.specs.Effect.{Database};
@@ -13,7 +13,7 @@ ghost use Rattle.tables.specs.Contents.{Contents, SameContents, Rests, RestsAt, 
 ghost use Rattle.tables.specs.Presence.{has_some_table, has_every_table, IsOurs};
 ghost use Rattle.tables.specs.Reading.{OnlyReads, FailsToList, FailsBy};
 ghost use Rattle.store.specs.Copies.{CopiesTo};
-ghost use Rattle.store.specs.Offices.{tables_of, ChangesTo, HoldsState, IsAt, LeavesState, Wears};
+ghost use Rattle.store.specs.StateTables.{tables_of, ChangesTo, HoldsState, IsAt, LeavesState, KeepsConnection};
 ghost use Rattle.store.specs.Openings.{IsBlank, IsToldBy, IsLeftAt};
 ghost use Rattle.store.specs.Whole.{ReadsOffice};
 
@@ -59,7 +59,7 @@ fn commit_change<S: Alter>(
         → OnOk result (Rests d (state S.Store conn.new)) }
     ensures survives { (c d : Contents) → ChangesTo (change_entry change.now) (addition_entries change.now.addition) c d → Rests c (state S.Store conn.old)
         → Survives (state S.Store conn.old) (state S.Store conn.new) (Stores d) }
-    ensures wears { Wears (state S.Store conn.old) (state S.Store conn.new) }
+    ensures keeps_connection { KeepsConnection (state S.Store conn.old) (state S.Store conn.new) }
     ensures clean { HasCleanDisk (state S.Store conn.new) → HasCleanDisk (state S.Store conn.old) }
     ensures outside { conn.new.in_transaction ≡ false }
     ensures cause { IfErr result (λ f. (f ≡ Fault.Memory) ⊎ (f ≡ Fault.Store)) }
@@ -76,7 +76,7 @@ fn commit_new_office<S: Alter>(conn: &mut Connection<S>) -> Result<(), Fault>
     requires { conn.old.in_transaction ≡ false }
     ensures done { HasCleanDisk (state S.Store conn.new) → IsBlank (state S.Store conn.old) → OnOk result (Rests (tables_of empty_office) (state S.Store conn.new)) }
     ensures survives { IsBlank (state S.Store conn.old) → Survives (state S.Store conn.old) (state S.Store conn.new) (Stores (tables_of empty_office)) }
-    ensures wears { Wears (state S.Store conn.old) (state S.Store conn.new) }
+    ensures keeps_connection { KeepsConnection (state S.Store conn.old) (state S.Store conn.new) }
     ensures clean { HasCleanDisk (state S.Store conn.new) → HasCleanDisk (state S.Store conn.old) }
     ensures every { OnOk result (has_every_table (state S.Store conn.new).now.schema ≡ true) }
     ensures outside { conn.new.in_transaction ≡ false }
@@ -106,8 +106,8 @@ impl<S: Alter> Store<S> {
         ensures made { IfOk result (λ store. HasCleanDisk (state S.Store store) → IsBlank (state S.Store conn) → IsAt empty_office (state S.Store store)) }
         ensures stops { IfErr result (λ e. HasCleanDisk (state S.Store e.1) → IsBlank (state S.Store conn)
             → (trees : Trees) → (state S.Store e.1).may_leave trees → (state S.Store conn).may_leave trees ⊎ Stores (tables_of empty_office) trees) }
-        ensures wears { IfOk result (λ store. Wears (state S.Store conn) (state S.Store store)) }
-        ensures wears_too { IfErr result (λ e. Wears (state S.Store conn) (state S.Store e.1)) }
+        ensures keeps_connection { IfOk result (λ store. KeepsConnection (state S.Store conn) (state S.Store store)) }
+        ensures connection_too { IfErr result (λ e. KeepsConnection (state S.Store conn) (state S.Store e.1)) }
         ensures whole { IfOk result (λ store. has_every_table (state S.Store store).now.schema ≡ true) }
         ensures taken { has_some_table (state S.Store conn).now.schema ≡ true → OnOk result ⊥ }
         ensures wrong { has_some_table (state S.Store conn).now.schema ≡ true → conn.in_transaction ≡ false → IfErr result (λ e. e.0 ≡ Fault.WrongDatabase) }
@@ -169,7 +169,7 @@ impl<S: Alter> Store<S> {
             → IsTabulated s change.now → (trees : Trees) → (state S.Store self.new).may_leave trees → Stores (tables_of s) trees ⊎ Stores (tables_of (with_change (change_entry change.now) s)) trees }
         ensures leaves { HasCleanDisk (state S.Store self.new) → IsTrue (state S.Store self.old).is_open → (s : OfficeState) → IsAt s (state S.Store self.old)
             → IsTabulated s change.now → IsState (with_change (change_entry change.now) s) → LeavesState (state S.Store self.new) (λ x. (x ≡ s) ⊎ (x ≡ with_change (change_entry change.now) s)) }
-        ensures wears { Wears (state S.Store self.old) (state S.Store self.new) }
+        ensures keeps_connection { KeepsConnection (state S.Store self.old) (state S.Store self.new) }
         ensures clean { HasCleanDisk (state S.Store self.new) → HasCleanDisk (state S.Store self.old) }
         ensures cause { IfErr result (λ f. (f ≡ Fault.Memory) ⊎ (f ≡ Fault.Store)) }
     {

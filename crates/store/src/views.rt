@@ -4,12 +4,12 @@ ghost use Rattle.std.specs.Prelude.{◌≡◌, IfOk, IfErr, OnOk, IsTrue};
 ghost use Rattle.sqlite.specs.State.{HasCleanDisk};
 ghost use Rattle.sqlite.specs.Held.{state};
 ghost use Rattle.register.specs.Offices.{OfficeState};
-ghost use Rattle.register.specs.Parts.{part_entries};
+ghost use Rattle.register.specs.CommandInputs.{input_entries};
 ghost use Rattle.register.specs.Machine.{part_of};
 ghost use Rattle.register.specs.Tabulated.{IsCountFor};
 ghost use Rattle.register.specs.Views.{IsViewOf};
 ghost use Rattle.tables.specs.Reading.{OnlyReads, FailsBy};
-ghost use Rattle.store.specs.Offices.{IsAt};
+ghost use Rattle.store.specs.StateTables.{IsAt};
 ghost use Rattle.store.specs.Loads.{Loads};
 
 mod batches;
@@ -25,14 +25,16 @@ mod stored_counts;
 mod wards;
 
 use crate::storage::Store;
-use register::{BatchCommand, CandidateCommand, Command, CountCommand, Part, View, WardCommand};
+use register::{
+    BatchCommand, CandidateCommand, Command, CommandInput, CountCommand, View, WardCommand,
+};
 use sqlite::Alter;
 use tables::Fault;
 
 impl<S: Alter> Store<S> {
     /// Returns the part of the state that an actor's command needs, and the count that a stage is to be added to.
-    fn find_part(&mut self, actor: u32, command: &Command) -> Result<Part, Fault>
-        ensures { Loads S.Store self.old self.new result (λ s part. (part_entries part ≡ part_of s actor command.now) × IsCountFor s command.now part.count) }
+    fn find_part(&mut self, actor: u32, command: &Command) -> Result<CommandInput, Fault>
+        ensures { Loads S.Store self.old self.new result (λ s part. (input_entries part ≡ part_of s actor command.now) × IsCountFor s command.now part.count) }
     {
         match command {
             Command::Ward(WardCommand::Add { ward, .. }) => self.ward_part(*ward),
@@ -78,7 +80,7 @@ impl<S: Alter> Store<S> {
                 actor,
                 id,
                 receipt,
-                part: Part::empty(self.allocator()),
+                part: CommandInput::empty(self.allocator()),
             });
         }
         let part = self.find_part(actor, command)?;

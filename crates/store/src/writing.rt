@@ -7,7 +7,7 @@ ghost use Rattle.register.specs.Tabulated.{addition_entries};
 ghost use Rattle.tables.specs.Contents.{Contents, Sees};
 ghost use Rattle.tables.specs.Making.{SeesNothing};
 ghost use Rattle.tables.specs.Writing.{Alters};
-ghost use Rattle.store.specs.Offices.{tables_of, SeesState, ChangesTo};
+ghost use Rattle.store.specs.StateTables.{tables_of, SeesState, ChangesTo};
 
 pub(crate) mod copies;
 mod counts;
@@ -25,13 +25,13 @@ use crate::writing::counts::write_addition;
 use register::{Change, Effect};
 use sqlite::{Alter, Transaction};
 use std::alloc::Global;
-use tables::cells::number;
 use tables::insertion::insert;
 use tables::making::create_tables;
 use tables::removal::remove;
 use tables::replacement::set_value;
+use tables::value_conversion::number;
 use tables::writing::{add_entries, add_entry};
-use tables::{Fault, Setting, Table};
+use tables::{Fault, SettableColumn, Table};
 
 /// The schema version of this program's offices.
 pub(crate) const VERSION: u32 = 2;
@@ -49,7 +49,7 @@ fn write_effect<S: Alter>(
         Effect::WardAdded(ward) => add_entry::<Wards, S>(alloc, tx, ward),
         Effect::WardMoved { ward, phase } => {
             let values = [number(*ward), number(phase.number())];
-            set_value(tx, Setting::PhaseOfWard, &values)
+            set_value(tx, SettableColumn::PhaseOfWard, &values)
         }
         Effect::CandidateAdded(candidate) => add_entry::<Candidates, S>(alloc, tx, candidate),
         Effect::CandidateWithdrawn { ward, candidate } => {
@@ -57,13 +57,21 @@ fn write_effect<S: Alter>(
         }
         Effect::BatchAdded(batch) => add_entry::<Batches, S>(alloc, tx, batch),
         Effect::BatchReopened { batch, round } => {
-            set_value(tx, Setting::RoundOfBatch, &[number(*batch), number(*round)])
+            set_value(
+                tx,
+                SettableColumn::RoundOfBatch,
+                &[number(*batch), number(*round)],
+            )
         }
         Effect::ThirdSet(third) => add_entry::<ThirdClerks, S>(alloc, tx, third),
         Effect::PapersKeyed(papers) => add_entries::<KeyedPapers, S>(alloc, tx, papers),
         Effect::PaperJudged(judged) => add_entry::<JudgedPapers, S>(alloc, tx, judged),
         Effect::StageCounted { ward, done } => {
-            set_value(tx, Setting::DoneOfWard, &[number(*ward), number(*done)])
+            set_value(
+                tx,
+                SettableColumn::DoneOfWard,
+                &[number(*ward), number(*done)],
+            )
         }
         Effect::LotDrawn(lot) => add_entry::<Lots, S>(alloc, tx, lot),
     }

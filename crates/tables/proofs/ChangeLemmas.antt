@@ -16,7 +16,7 @@ use Rattle.sqlite_schema.specs.declared.schema.Column.{Column}
 use Rattle.std.proofs.lemmas.Bool.{and_parts, and_from}
 use Rattle.sqlite.specs.State.{State, ExecutesInside}
 use Rattle.tables.specs.declared.table.Table.{Table}
-use Rattle.tables.specs.declared.table.Setting.{Setting}
+use Rattle.tables.specs.declared.table.SettableColumn.{SettableColumn}
 use Rattle.tables.specs.Texts.{update_text, set_text, delete_text}
 use Rattle.tables.specs.Schema.{schema_from, place_of, shape, columns_of, places_from, changes_rows, table_set, place_set}
 use Rattle.tables.specs.Rows.{tuples, at, has_key, is_of, are_of, is_row_of, takes_from, value_set, is_setting, with_value}
@@ -118,7 +118,8 @@ none_past : (i : ℕ) → 0 + i ≡ i
 none_past i = omega arith
 
 -- it sets the value in the column of the row with the key
-pub value_set_there : (g : Setting) (values : Row) → is_setting g values ≡ true → (old new : State) (r : Result ℕ Error) → (IsTrue old.in_transaction → ExecutesInside 0 (set_text g) values old new r)
+pub value_set_there : (g : SettableColumn) (values : Row) → is_setting g values ≡ true → (old new : State) (r : Result ℕ Error)
+    → (IsTrue old.in_transaction → ExecutesInside 0 (set_text g) values old new r)
     → (c : Contents) → Sees c old → OnOk r (Sees (value_put g values c) new)
 unfolding value_put
 value_set_there g values kind old new r runs c sees =
@@ -226,8 +227,8 @@ replaced_each t row same alike [] xs = refl
 replaced_each t row same alike (y ∷ ys) xs =
     ap (λ rows. all_replaced t rows (map row ys)) (replaced_rows t row (same y) y (alike y) xs) ∙ replaced_each t row same alike ys (map (λ z. cond (same y z) y z) xs)
 
--- Setting a value in the column of the row with a key changes the entry with it.
-pub rows_set : {X : Type 0} (g : Setting) (values : Row) (row : X → Row) (same : X → Bool) (change : X → X) → ((x : X) → has_key (table_set g) values (row x) ≡ same x)
+-- SettableColumn a value in the column of the row with a key changes the entry with it.
+pub rows_set : {X : Type 0} (g : SettableColumn) (values : Row) (row : X → Row) (same : X → Bool) (change : X → X) → ((x : X) → has_key (table_set g) values (row x) ≡ same x)
     → ((x : X) → with_value g (value_set g values) (row x) ≡ row (change x))
     → (xs : List X) → map (λ r. cond (has_key (table_set g) values r) (with_value g (value_set g values) r) r) (map row xs) ≡ map row (map (λ x. cond (same x) (change x) x) xs)
 rows_set g values row same change alike made [] = refl

@@ -15,8 +15,8 @@ use Rattle.sqlite_rules.specs.Action.{works}
 use Rattle.sqlite_tied.specs.Compute.{everything}
 use Rattle.tables.specs.declared.table.Table.{Table}
 use Rattle.tables.specs.declared.table.Table.TheVariants.{Keying, Verdict, Lot, Receipt, Vote, Third}
-use Rattle.tables.specs.declared.table.Setting.{Setting}
-use Rattle.tables.specs.declared.table.Setting.TheVariants.{VersionOfOffice}
+use Rattle.tables.specs.declared.table.SettableColumn.{SettableColumn}
+use Rattle.tables.specs.declared.table.SettableColumn.TheVariants.{VersionOfOffice}
 use Rattle.tables.specs.Texts.{update_text, set_text, delete_text}
 use Rattle.tables.specs.Schema.{Definition, schema_from, definition, place_of, tree_of, shape, columns_of, places_from, changes_rows, table_set, place_set, AreFree}
 use Rattle.tables.proofs.SelectLemmas.{query, columns_from, tests_from}
@@ -31,10 +31,10 @@ abbrev pub updated : Table → List Term
 updated t = col 1 0 ∷ col 1 0 ∷ (columns_from 0 (shape t).key ++ given (places_from (shape t).key (beyond_key t)))
 
 -- the rowid, twice, then every column as it is, except the one that is set, which is the parameter after the key
-abbrev pub set_terms : Setting → List Term
+abbrev pub set_terms : SettableColumn → List Term
 set_terms g = col 1 0 ∷ col 1 0 ∷ map (λ p. cond (p == place_set g) (col 0 (shape (table_set g)).key) (col 1 (suc p))) (places_from 0 (length (columns_of (table_set g))))
 
-pub setting_changes : (g : Setting) → changes_rows (table_set g) ≡ true
+pub setting_changes : (g : SettableColumn) → changes_rows (table_set g) ≡ true
 setting_changes VersionOfOffice = refl
 setting_changes g = refl
 
@@ -73,12 +73,12 @@ module _ (rest : List Definition) (others : List Index) (views : List View) wher
       }
 
   -- the condition on the statement that sets one column
-  pub record SetsValue (g : Setting) : Type 0 where
+  pub record SetsValue (g : SettableColumn) : Type 0 where
     pub sets : command_of (understood schema (set_text g)) ≡ Update (place_of (table_set g))
         (record { lets = []; body = query (tree_of (table_set g)) (tests_from 0 (shape (table_set g)).key) (set_terms g) [] })
     pub plain : IsPlain (understood schema (set_text g))
 
-  pub sets_value : (g : Setting) → SetsValue g
+  pub sets_value : (g : SettableColumn) → SetsValue g
   unfolding understood everything set_text
   sets_value VersionOfOffice = record { sets = refl; plain = (refl, refl) }
   sets_value g = record { sets = refl; plain = (refl, refl) }

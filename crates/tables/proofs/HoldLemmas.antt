@@ -28,7 +28,7 @@ use Rattle.tables.specs.declared.table.Table.TheVariants.{Office, Ward, Candidat
 use Rattle.tables.specs.Schema.{definition, columns_of, tree_of, changes_rows, BeginsTo}
 use Rattle.tables.specs.Rows.{tuples, at, column_places, is_row_of, is_of, are_of, begins_with, row_cmp, HasWrongRowid, RepeatsRowid}
 use Rattle.tables.specs.Contents.{HoldsTable}
-use Rattle.tables.specs.Reading.{Lists, ListsKeyed, HoldsNone, HasOther, FailsToRise}
+use Rattle.tables.specs.Reading.{Lists, ListsKeyed, HoldsNone, HasInvalidRow, FailsToRise}
 use Rattle.tables.proofs.ListLemmas.{mapped_length, get_mapped, mapped_has, has_mapped, permuted_has, mapped_same, mapped_itself, all_pass, has_at}
 use Rattle.tables.proofs.ColumnPlaceLemmas.{padded, pads, at_twice, typed_at}
 use Rattle.tables.proofs.OrderLemmas.{row_total, rise_all, one_key}
@@ -130,7 +130,7 @@ held_listed t db rows lists held holds =
 -- ---- rows that a table cannot hold
 
 -- a row that is not of a kind is in no list of that kind
-no_wrong : (IsRow : Row → Type 0) (rows : List Row) → HasOther IsRow rows → (held : List Row) → AllByRecursion IsRow held → IsPermutation held rows → ⊥
+no_wrong : (IsRow : Row → Type 0) (rows : List Row) → HasInvalidRow IsRow rows → (held : List Row) → AllByRecursion IsRow held → IsPermutation held rows → ⊥
 no_wrong IsRow rows other held all same =
     other.2 (all_has IsRow held (get_or rows other.0 []) all (permuted_has (get_or rows other.0 []) rows held (IsPermutation-sym _ _ same) (has_at rows other.0 [] other.1)))
 
@@ -165,7 +165,7 @@ own_rowids t rows trees holds rise changes (inr twice) =
     let apart = apart_from_distinct (eq_by_cmp (row_cmp t)) shown k (k + 1) [] distinct (omega arith) (omega (arith, within, len)) in
     false≢true (sym apart ∙ ap (λ r. is_eq (row_cmp t (get_or shown k []) r)) (sym same) ∙ ap is_eq (tied_itself (row_total t) (get_or shown k [])))
 
-pub none_held : (t : Table) (IsRow : Row → Type 0) (db : Database) (rows : List Row) → Lists t (begins_with []) db rows → HasOther IsRow rows ⊎ FailsToRise t rows → HoldsNone t IsRow db
+pub none_held : (t : Table) (IsRow : Row → Type 0) (db : Database) (rows : List Row) → Lists t (begins_with []) db rows → HasInvalidRow IsRow rows ⊎ FailsToRise t rows → HoldsNone t IsRow db
 none_held t IsRow db rows lists (inl other) held all rise holds = no_wrong IsRow rows other held all (held_listed t db rows lists held holds)
 none_held t IsRow db rows lists (inr fails) held all rise holds = no_repeat t rows lists.sorted fails held rise (held_listed t db rows lists held holds)
 

@@ -32,7 +32,7 @@ use Rattle.tables.specs.Texts.{create_text}
 use Rattle.tables.specs.Schema.{Definition, BeginsTo, schema_from, no_schema, definition, shaped, shape, place_of, tree_of, all_tables, key_index}
 use Rattle.tables.specs.Rows.{Keyed}
 use Rattle.tables.specs.Contents.{Contents, HoldsTable, IsOffice, Sees}
-use Rattle.tables.specs.Making.{HoldsFirst, FirstAt, HasFirst, RestsFirst, SeesMade, StoresFirst}
+use Rattle.tables.specs.Making.{HoldsFirst, FirstAt, HasFirstTables, RestsFirst, SeesMade, StoresFirst}
 use Rattle.tables.proofs.ListLemmas.{mapped_has, front_has}
 use Rattle.tables.proofs.TableLemmas.{same_place, place_below}
 use Rattle.tables.proofs.WentLemmas.{went, same_value}
@@ -91,7 +91,7 @@ one_more t c none old new others empty holds u low = elim (cases_lt (place_of u)
 ]
 
 makes : (t : Table) (c : Contents) → c t ≡ [] → (old new : State) (count : ℕ) → SeesMade (place_of t) c old → ExecutesInside 0 (create_text t) [] old new (Ok count) → SeesMade (place_of t + 1) c new
-unfolding HasFirst
+unfolding HasFirstTables
 makes t c none old new count sees h =
     let it = makes_table t in
     let had = sees.first in
@@ -126,12 +126,12 @@ table_made t c none old new (Err e) runs sees = tt
 
 -- no table yet
 pub none_made : (c : Contents) (s : State) → IsTrue s.in_transaction → s.now.schema ≡ no_schema → IsDatabase s.now → SeesMade 0 c s
-unfolding HasFirst
+unfolding HasFirstTables
 none_made c s inside blank sound = record { inside = inside; first = record { schema = blank; sound = sound; holds = λ t low. absurd (omega (arith, low)) } }
 
 -- all tables make an office
 pub all_made : (c : Contents) (s : State) → SeesMade 11 c s → Sees c s
-unfolding HasFirst IsOffice
+unfolding HasFirstTables IsOffice
 all_made c s sees = record {
   inside = sees.inside;
   office = record {
@@ -143,12 +143,12 @@ all_made c s sees = record {
 
 -- ---- an office with only the first tables
 
-pub first_from : (n : ℕ) (c : Contents) (db : Database) → FirstAt n c db → HasFirst n c db
-unfolding HasFirst
+pub first_from : (n : ℕ) (c : Contents) (db : Database) → FirstAt n c db → HasFirstTables n c db
+unfolding HasFirstTables
 first_from n c db first = first
 
-pub first_at : (n : ℕ) (c : Contents) (db : Database) → HasFirst n c db → FirstAt n c db
-unfolding HasFirst
+pub first_at : (n : ℕ) (c : Contents) (db : Database) → HasFirstTables n c db → FirstAt n c db
+unfolding HasFirstTables
 first_at n c db first = first
 
 split : {X : Type 0} (xs : List X) (k n : ℕ) → k ≤ n → take n xs ≡ take k xs ++ drop k (take n xs)
@@ -185,8 +185,8 @@ pub first_leaves : (n : ℕ) (c : Contents) (s : State) → ((trees : Trees) →
 first_leaves n c s settled rests trees may = record { db = s.now; first = rests.first; same = settled trees rests.is_open may ∙ ap (λ (d : Database). d.trees) (sym rests.settled) }
 
 -- What a stop left is found after reopening: the trees determine the schema.
-pub first_found : (n : ℕ) (c : Contents) (db : Database) → IsDatabase db → StoresFirst n c db.trees → HasFirst n c db
-unfolding HasFirst
+pub first_found : (n : ℕ) (c : Contents) (db : Database) → IsDatabase db → StoresFirst n c db.trees → HasFirstTables n c db
+unfolding HasFirstTables
 first_found n c db sound stores =
     let was = stores.first in
     let lists : Lists (db.trees catalog_tree) stores.db.schema = subst (λ (t : Trees). Lists (t catalog_tree) stores.db.schema) (sym stores.same) was.sound.lists in

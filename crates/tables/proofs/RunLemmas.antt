@@ -18,8 +18,8 @@ use Rattle.tables.specs.Texts.{select_rowid_text, select_between_text}
 use Rattle.tables.specs.Schema.{BeginsTo, schema_from, places_from, place_of, tree_of, shape, columns_of}
 use Rattle.tables.specs.Rows.{at, agree_at, begins_key, begins_with, column_places, tuples}
 use Rattle.tables.specs.Contents.{Contents, RestsAt, Rests, RestsIfOpen}
-use Rattle.tables.specs.Reading.{FailsBy, HasOther, alone}
-use Rattle.tables.specs.Runs.{lies_between, run_of, StandsAt}
+use Rattle.tables.specs.Reading.{FailsBy, HasInvalidRow, alone}
+use Rattle.tables.specs.RowidRanges.{lies_between, run_of, StandsAt}
 use Rattle.tables.specs.Faults.{TellsQuery}
 use Rattle.tables.proofs.ListLemmas.{mapped_has, has_mapped, mapped_same, mapped_twice, mapped_itself, permuted_has, all_from, has_at}
 use Rattle.tables.proofs.SelectLemmas.{reads_rows, shows_columns, tests_agree}
@@ -144,5 +144,5 @@ module _ (t : Table) (low high : ℤ) (c : Contents) (s : State) (rests : Rests 
   all_in_table found is = subst (AllByRecursion (Has (c t))) (sym shown_themselves ∙ is) (all_from (Has (c t)) rows shown_in_table)
 
   -- if all rows of the table represent entries, so do these
-  pub none_other : (IsRow : Row → Type 0) → AllByRecursion IsRow (c t) → ¬ HasOther IsRow rows
+  pub none_other : (IsRow : Row → Type 0) → AllByRecursion IsRow (c t) → ¬ HasInvalidRow IsRow rows
   none_other IsRow all wrong = wrong.2 (all_has IsRow (c t) _ all (shown_in_table _ (has_at rows wrong.0 [] wrong.1)))

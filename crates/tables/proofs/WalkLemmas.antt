@@ -93,19 +93,19 @@ module _ {S : Type 0} (g : Ghosts S) (t : Table) (key : Row) (low : length key �
 -- ---- a walk from its start to a row
 
 -- this many rows were returned, and their entries consumed
-pub record HasWalked {S V X : Type 0} (g : Ghosts S) (t : Table) (row_of : X → Row) (HasTaken : V → List X → Type 0) (start now : Held S) (was is : V) : Type 0 where
+pub record HasWalked {S V X : Type 0} (g : Ghosts S) (t : Table) (row_of : X → Row) (HasVisited : V → List X → Type 0) (start now : Held S) (was is : V) : Type 0 where
   pub given : List Row
   pub found : List X
   pub gives : (sql : List ℕ) (params : Row) → HasGiven g sql params start [] → HasGiven g sql params now given
   pub same : map (at (column_places t)) given ≡ map row_of found
-  pub taken : (before : List X) → HasTaken was before → HasTaken is (before ++ found)
+  pub taken : (before : List X) → HasVisited was before → HasVisited is (before ++ found)
 
-module _ {S V X : Type 0} (g : Ghosts S) (t : Table) (row_of : X → Row) (HasTaken : V → List X → Type 0) where
-  pub none_walked : (start : Held S) (was : V) → HasWalked g t row_of HasTaken start start was was
-  none_walked start was = record { given = []; found = []; gives = λ sql params h. h; same = refl; taken = λ before h. subst (HasTaken was) (sym (append-nil before)) h }
+module _ {S V X : Type 0} (g : Ghosts S) (t : Table) (row_of : X → Row) (HasVisited : V → List X → Type 0) where
+  pub none_walked : (start : Held S) (was : V) → HasWalked g t row_of HasVisited start start was was
+  none_walked start was = record { given = []; found = []; gives = λ sql params h. h; same = refl; taken = λ before h. subst (HasVisited was) (sym (append-nil before)) h }
 
-  pub next_walked : (start now next : Held S) (was is will : V) → HasWalked g t row_of HasTaken start now was is → Visits g t row_of HasTaken now next is will true
-      → HasWalked g t row_of HasTaken start next was will
+  pub next_walked : (start now next : Held S) (was is will : V) → HasWalked g t row_of HasVisited start now was is → Visits g t row_of HasVisited now next is will true
+      → HasWalked g t row_of HasVisited start next was will
   next_walked start now next was is will walked step = record {
     given = walked.given ++ step.0 ∷ [];
     found = walked.found ++ step.1 ∷ [];
@@ -113,7 +113,7 @@ module _ {S V X : Type 0} (g : Ghosts S) (t : Table) (row_of : X → Row) (HasTa
     same =
         map-append (at (column_places t)) walked.given (step.0 ∷ []) ∙ ap (λ l. l ++ at (column_places t) step.0 ∷ []) walked.same ∙ ap (λ r. map row_of walked.found ++ r ∷ []) step.3
         ∙ sym (map-append row_of walked.found (step.1 ∷ []));
-    taken = λ before h. subst (HasTaken will) (append_assoc before walked.found (step.1 ∷ [])) (step.4 (before ++ walked.found) (walked.taken before h));
+    taken = λ before h. subst (HasVisited will) (append_assoc before walked.found (step.1 ∷ [])) (step.4 (before ++ walked.found) (walked.taken before h));
   }
 
   module _ (key : Row) (low : length key ≤ (shape t).key) (c : Contents) (start : Held S) (was : V) (begun : HasGiven g (select_text t (length key)) key start [])
@@ -122,9 +122,9 @@ module _ {S V X : Type 0} (g : Ghosts S) (t : Table) (row_of : X → Row) (HasTa
     rests_now now first clean is_open = rests_read c (state g start) (state g now) first clean is_open (rests (first.was_open clean is_open))
 
     -- if no row remains, all entries were consumed
-    pub all_walked : (now last : Held S) (is will : V) → HasWalked g t row_of HasTaken start now was is → OnlyReads (state g start) (state g now) → HasCleanDisk (state g now)
+    pub all_walked : (now last : Held S) (is will : V) → HasWalked g t row_of HasVisited start now was is → OnlyReads (state g start) (state g now) → HasCleanDisk (state g now)
         → IsTrue (state g now).is_open
-        → Visits g t row_of HasTaken now last is will false → TakesFound HasTaken row_of t (begins_with key) c was will
+        → Visits g t row_of HasVisited now last is will false → TakesFound HasVisited row_of t (begins_with key) c was will
     all_walked now last is will walked first clean is_open end =
         let at_now = rests_now now first clean is_open in
         let shown = end.0 (select_text t (length key)) key walked.given (walked.gives (select_text t (length key)) key begun) in
@@ -135,10 +135,10 @@ module _ {S V X : Type 0} (g : Ghosts S) (t : Table) (row_of : X → Row) (HasTa
           walked.found,
           found_as t (begins_with key) c walked.given (map row_of walked.found) finds walked.same (state g now) at_now,
           subst
-              (λ v. (before : List X) → HasTaken was before → HasTaken v (before ++ walked.found)) (sym end.1) walked.taken,
+              (λ v. (before : List X) → HasVisited was before → HasVisited v (before ++ walked.found)) (sym end.1) walked.taken,
         )
 
-    module _ (IsRow : Row → Type 0) (Stops : Fault → Type 0) (now next : Held S) (is : V) (walked : HasWalked g t row_of HasTaken start now was is) (first : OnlyReads (state g start) (state g now))
+    module _ (IsRow : Row → Type 0) (Stops : Fault → Type 0) (now next : Held S) (is : V) (walked : HasWalked g t row_of HasVisited start now was is) (first : OnlyReads (state g start) (state g now))
         (second : OnlyReads (state g now) (state g next)) (clean : HasCleanDisk (state g next)) (all : AllByRecursion IsRow (c t)) (f : Fault)
       where
         told : (e : Error) → FailsToAdvance g now next e → FailsToQuery (select_text t (length key)) key (state g now) (state g next) e

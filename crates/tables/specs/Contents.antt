@@ -7,7 +7,7 @@ use Rattle.sqlite.specs.Tree.{Trees}
 use Rattle.sqlite.specs.Effect.{Database, IsDatabase}
 use Rattle.sqlite.specs.State.{State}
 use Rattle.tables.specs.declared.table.Table.{Table}
-use Rattle.tables.specs.declared.table.Setting.{Setting}
+use Rattle.tables.specs.declared.table.SettableColumn.{SettableColumn}
 use Rattle.tables.specs.Schema.{place_of, tree_of, table_set, changes_rows, IsOfficeSchema}
 use Rattle.tables.specs.Rows.{tuples, is_row_of, has_key, value_set, with_value, Keyed}
 
@@ -47,7 +47,7 @@ unfoldable pub replaced_all : Table → List Row → Contents → Contents
 replaced_all t news c = fold (λ before row. replaced t row before) c news
 
 -- the contents with a value set in one column of the row with a key; the values are those of the key, followed by the new one
-unfoldable pub value_put : Setting → Row → Contents → Contents
+unfoldable pub value_put : SettableColumn → Row → Contents → Contents
 value_put g values = changed (table_set g) (map (λ r. if has_key (table_set g) values r then with_value g (value_set g values) r else r))
 
 -- without the row with this key

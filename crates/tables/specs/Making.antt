@@ -22,13 +22,13 @@ pub record FirstAt (n : ℕ) (c : Contents) (db : Database) : Type 0 where
   pub holds : HoldsFirst n c db.trees
 
 -- the same; opaque, so that a search does not open it
-unfoldable pub HasFirst : ℕ → Contents → Database → Type 0
-HasFirst = FirstAt
+unfoldable pub HasFirstTables : ℕ → Contents → Database → Type 0
+HasFirstTables = FirstAt
 
 -- the trees of such a database
 pub record StoresFirst (n : ℕ) (c : Contents) (trees : Trees) : Type 0 where
   pub db : Database
-  pub first : HasFirst n c db
+  pub first : HasFirstTables n c db
   pub same : trees ≡ db.trees
 
 -- a connection between two transactions, on the first `n` tables with these rows
@@ -36,12 +36,12 @@ pub record RestsFirst (n : ℕ) (c : Contents) (s : State) : Type 0 where
   pub is_open : IsTrue s.is_open
   pub outside : s.in_transaction ≡ false
   pub settled : s.now ≡ s.committed
-  pub first : HasFirst n c s.now
+  pub first : HasFirstTables n c s.now
 
 -- a connection inside a transaction that sees the first `n` tables with these rows
 pub record SeesMade (n : ℕ) (c : Contents) (s : State) : Type 0 where
   pub inside : IsTrue s.in_transaction
-  pub first : HasFirst n c s.now
+  pub first : HasFirstTables n c s.now
 
 -- a connection inside a transaction that sees an empty database
 pub record SeesNothing (s : State) : Type 0 where

@@ -93,8 +93,8 @@ abbrev pub HoldsNone : Table → (Row → Type 0) → Database → Type 0
 HoldsNone t IsRow db = (rows : List Row) → AllByRecursion IsRow rows → IsStrictlySortedBy (row_cmp t) rows → ¬ HoldsTable t rows db.trees
 
 -- some row is not of this kind
-abbrev pub HasOther : (Row → Type 0) → List Row → Type 0
-HasOther IsRow rows = (k : ℕ) × (k < length rows) × ¬ IsRow (slice_index_or rows k [])
+abbrev pub HasInvalidRow : (Row → Type 0) → List Row → Type 0
+HasInvalidRow IsRow rows = (k : ℕ) × (k < length rows) × ¬ IsRow (slice_index_or rows k [])
 
 -- some row's key is not below that of the next one
 abbrev pub FailsToRise : Table → List Row → Type 0

@@ -18,7 +18,7 @@ use Rattle.sqlite.specs.View.{is_int}
 use Rattle.sqlite.specs.Tree.{Trees, rowid}
 use Rattle.tables.specs.declared.table.Table.{Table}
 use Rattle.tables.specs.declared.table.Reference.{Reference}
-use Rattle.tables.specs.declared.table.Setting.{Setting}
+use Rattle.tables.specs.declared.table.SettableColumn.{SettableColumn}
 use Rattle.tables.specs.Schema.{shape, columns_of, places_from, place_sought, table_set, place_set, tree_of}
 
 -- the columns of the table's rows, without the rowid
@@ -87,15 +87,15 @@ takes_from k place value [] = true
 takes_from k place value (c ∷ cs) = (if k == place then is_of c.kind value else true) && takes_from (suc k) place value cs
 
 -- the value to be set, which follows those of the key
-abbrev pub value_set : Setting → Row → Value
+abbrev pub value_set : SettableColumn → Row → Value
 value_set g values = column values (shape (table_set g)).key
 
 -- a value of the kind of the column to be set
-abbrev pub is_setting : Setting → Row → Bool
+abbrev pub is_setting : SettableColumn → Row → Bool
 is_setting g values = takes_from 0 (place_set g) (value_set g values) (columns_of (table_set g))
 
 -- the row with this value in the column to be set
-abbrev pub with_value : Setting → Value → Row → Row
+abbrev pub with_value : SettableColumn → Value → Row → Row
 with_value g value row = map (λ p. if p == place_set g then value else column row p) (column_places (table_set g))
 
 -- this many keys, each in SQL's order of values

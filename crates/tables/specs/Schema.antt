@@ -18,8 +18,8 @@ use Rattle.sqlite.specs.Schema.{Schema}
 use Rattle.tables.specs.declared.table.Table.{Table}
 use Rattle.tables.specs.declared.table.Reference.{Reference}
 use Rattle.tables.specs.declared.table.Reference.TheVariants.{WardOfBatch}
-use Rattle.tables.specs.declared.table.Setting.{Setting}
-use Rattle.tables.specs.declared.table.Setting.TheVariants.{VersionOfOffice, PhaseOfWard, DoneOfWard, RoundOfBatch}
+use Rattle.tables.specs.declared.table.SettableColumn.{SettableColumn}
+use Rattle.tables.specs.declared.table.SettableColumn.TheVariants.{VersionOfOffice, PhaseOfWard, DoneOfWard, RoundOfBatch}
 use Rattle.tables.specs.declared.table.Table.TheVariants.{Office, Ward, Candidate, Batch, Keying, Verdict, Lot, Receipt, Bundle, Vote, Third}
 
 -- a table as `sqlite` represents it in a schema
@@ -109,14 +109,14 @@ abbrev pub place_sought : Reference → ℕ
 place_sought WardOfBatch = 1
 
 -- the table in which a column outside the key is set on its own
-abbrev pub table_set : Setting → Table
+abbrev pub table_set : SettableColumn → Table
 table_set VersionOfOffice = Office
 table_set PhaseOfWard = Ward
 table_set DoneOfWard = Ward
 table_set RoundOfBatch = Batch
 
 -- the place of that column
-abbrev pub place_set : Setting → ℕ
+abbrev pub place_set : SettableColumn → ℕ
 place_set VersionOfOffice = 1
 place_set PhaseOfWard = 2
 place_set DoneOfWard = 3

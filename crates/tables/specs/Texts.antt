@@ -4,7 +4,7 @@ use Rattle.sqlite.specs.Kind.{Kind}
 use Rattle.sqlite.specs.Kind.TheVariants.{Text, Blob}
 use Rattle.tables.specs.declared.table.Table.{Table}
 use Rattle.tables.specs.declared.table.Reference.{Reference}
-use Rattle.tables.specs.declared.table.Setting.{Setting}
+use Rattle.tables.specs.declared.table.SettableColumn.{SettableColumn}
 use Rattle.tables.specs.Schema.{Field, shape, places_from, table_sought, place_sought, table_set, place_set}
 
 -- ---- parts
@@ -110,7 +110,7 @@ unfoldable pub update_text : Table → List ℕ
 update_text t = codes "UPDATE " ++ (shape t).name ++ codes " SET " ++ joined comma (matched (shape t).key (drop (shape t).key (names_of t))) ++ where_text (matched 0 (key_names t))
 
 -- sets one column of the row with a key; the parameters are the key, then the value
-unfoldable pub set_text : Setting → List ℕ
+unfoldable pub set_text : SettableColumn → List ℕ
 set_text g =
     let t = table_set g in
     codes "UPDATE " ++ (shape t).name ++ codes " SET " ++ joined comma (matched (shape t).key (slice_index_or (names_of t) (place_set g) [] ∷ [])) ++ where_text (matched 0 (key_names t))

@@ -12,7 +12,7 @@ ghost use Rattle.sqlite.specs.Held.{state};
 ghost use Rattle.tables.specs.Schema.{shape, table_sought};
 ghost use Rattle.tables.specs.Rows.{at, column_places, is_of, begins_key, begins_with, refers_to};
 ghost use Rattle.tables.specs.Contents.{Contents, RestsIfOpen};
-ghost use Rattle.tables.specs.Reading.{OnlyReads, FailsBy, Finds, HasOther};
+ghost use Rattle.tables.specs.Reading.{OnlyReads, FailsBy, Finds, HasInvalidRow};
 
 use crate::entry::Entries;
 use crate::fault::Fault;
@@ -73,7 +73,7 @@ pub fn entries_referring<E: Entries, S: Alter>(
 /// Returns the entry of a query's only row, if there is one.
 fn first_entry<E: Entries>(rows: &[Row]) -> Result<Option<E::Entry>, Fault>
     ensures entry { (row : Option Row) → rows.now ≡ option_to_list row → IfOk result (λ found. option_map (at (column_places E.TABLE)) row ≡ option_map E.row_of found) }
-    ensures cause { IfErr result (λ f. (f ≡ Fault.Memory) ⊎ ((f ≡ Fault.Damaged) × HasOther E.is_row rows.now)) }
+    ensures cause { IfErr result (λ f. (f ≡ Fault.Memory) ⊎ ((f ≡ Fault.Damaged) × HasInvalidRow E.is_row rows.now)) }
 {
     match rows {
         [] => Ok(None),

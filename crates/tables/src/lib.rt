@@ -19,7 +19,6 @@
 pub mod fault;
 pub mod table;
 // Statements on rows.
-pub mod cells;
 mod execution;
 pub mod insertion;
 pub mod making;
@@ -28,9 +27,10 @@ pub mod presence;
 pub mod reading;
 pub mod removal;
 pub mod replacement;
+pub mod rowid_ranges;
 pub mod rowids;
-pub mod runs;
 pub mod texts;
+pub mod value_conversion;
 // Statements on entries.
 pub mod entry;
 pub mod finding;
@@ -40,4 +40,4 @@ pub mod writing;
 
 pub use entry::Entries;
 pub use fault::Fault;
-pub use table::{Reference, Setting, Table};
+pub use table::{Reference, SettableColumn, Table};

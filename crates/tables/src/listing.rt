@@ -8,7 +8,7 @@ ghost use Rattle.tables.specs.Schema.{BeginsTo};
 ghost use Rattle.std.specs.List.Sorted.{IsStrictlySortedBy};
 ghost use Rattle.tables.specs.Rows.{at, column_places, row_cmp};
 ghost use Rattle.tables.specs.Contents.{RestsAt};
-ghost use Rattle.tables.specs.Reading.{OnlyReads, FailsToList, ListsKeyed, ListsEntries, HasOther, HoldsNone};
+ghost use Rattle.tables.specs.Reading.{OnlyReads, FailsToList, ListsKeyed, ListsEntries, HasInvalidRow, HoldsNone};
 
 use crate::entry::Entries;
 use crate::fault::Fault;
@@ -22,7 +22,7 @@ use std::alloc::Global;
 /// Returns the entries of rows; `Damaged` if a row represents no entry.
 pub(crate) fn entries_of<E: Entries>(alloc: Global, rows: &[Row]) -> Result<Vec<E::Entry>, Fault>
     ensures reads { IfOk result (λ found. map (at (column_places E.TABLE)) rows.now ≡ map E.row_of found.items) }
-    ensures cause { IfErr result (λ f. (f ≡ Fault.Memory) ⊎ ((f ≡ Fault.Damaged) × HasOther E.is_row rows.now)) }
+    ensures cause { IfErr result (λ f. (f ≡ Fault.Memory) ⊎ ((f ≡ Fault.Damaged) × HasInvalidRow E.is_row rows.now)) }
 {
     let mut entries = Vec::new(alloc);
     for row in rows {

@@ -7,7 +7,7 @@ ghost use Rattle.sqlite.specs.Held.{Held, state};
 ghost use Rattle.tables.specs.Texts.{create_text};
 ghost use Rattle.tables.specs.Schema.{BeginsTo, schema_from, place_of};
 ghost use Rattle.tables.specs.Contents.{Contents, Sees};
-ghost use Rattle.tables.specs.Making.{no_contents, FirstAt, HasFirst, RestsFirst, SeesMade, SeesNothing, StoresFirst};
+ghost use Rattle.tables.specs.Making.{no_contents, FirstAt, HasFirstTables, RestsFirst, SeesMade, SeesNothing, StoresFirst};
 ghost use Rattle.tables.specs.Faults.{TellsStatement};
 ghost use Rattle.tables.specs.Writing.{Alters};
 ghost use Rattle.tables.specs.declared.table.Table.{Table};
@@ -40,9 +40,9 @@ pub fn create_tables<S: Alter>(tx: &mut Transaction<'_, S>) -> Result<(), Fault>
 /// and what a stop left is found after reopening. A transaction begins at the state of its connection, and sees an office
 /// once all tables are created.
 pub fn first_tables_lead_to_all<S: Alter>()
-    ensures holds { (n : ℕ) → (c : Contents) → (db : Database) → FirstAt n c db ↔ HasFirst n c db }
+    ensures holds { (n : ℕ) → (c : Contents) → (db : Database) → FirstAt n c db ↔ HasFirstTables n c db }
     ensures reads { (n : ℕ) → (s : Schema) → s ≡ schema_from n [] [] [] → (t : Table) → place_of t < n → BeginsTo t s }
     ensures begins { (n : ℕ) → (c : Contents) → (held : Held S) → RestsFirst n c (state S.Store held) → SeesMade n c (state S.Store (record held { in_transaction = true })) }
     ensures ends { (c : Contents) → (held : Held S) → SeesMade 11 c (state S.Store held) → Sees c (state S.Store held) }
-    ensures found { (n : ℕ) → (c : Contents) → (db : Database) → IsDatabase db → StoresFirst n c db.trees → HasFirst n c db }
+    ensures found { (n : ℕ) → (c : Contents) → (db : Database) → IsDatabase db → StoresFirst n c db.trees → HasFirstTables n c db }
 {}

@@ -6,7 +6,7 @@ ghost use Rattle.sqlite.specs.State.{IsLive};
 ghost use Rattle.sqlite.specs.Held.{state};
 ghost use Rattle.sqlite.specs.Schema.{Schema};
 ghost use Rattle.sqlite_schema.specs.Names.{same_name};
-ghost use Rattle.tables.specs.Presence.{has_table, has_some_table, has_every_table, has_first, form_of};
+ghost use Rattle.tables.specs.Presence.{has_table, has_some_table, has_every_table, has_first, tables_present};
 
 use crate::table::Table;
 use sqlite::{Alter, Connection};
@@ -15,7 +15,7 @@ use sqlite_schema::schema::Schema;
 
 /// Which tables of an office a database has. If it lacks the last ones, an older program created it.
 #[derive(Clone, Copy, PartialEq, Eq)]
-pub enum Form {
+pub enum TablesPresent {
     /// All tables.
     Whole,
     /// All but the table of third clerks.
@@ -94,18 +94,18 @@ fn has_first(schema: &Schema, count: usize) -> bool
 }
 
 /// Returns which tables of an office the database has, by name.
-pub fn form_of<S: Alter>(conn: &Connection<S>) -> Form
-    ensures value { result ≡ form_of (state S.Store conn.now).now.schema }
+pub fn tables_present<S: Alter>(conn: &Connection<S>) -> TablesPresent
+    ensures value { result ≡ tables_present (state S.Store conn.now).now.schema }
     ensures live { IsLive (state S.Store conn.now) }
 {
     let schema = conn.schema();
     if has_every_table(conn) {
-        Form::Whole
+        TablesPresent::Whole
     } else if has_first(schema, BEFORE_THIRD) {
-        Form::WithoutThird
+        TablesPresent::WithoutThird
     } else if has_first(schema, BEFORE_COUNTS) {
-        Form::WithoutCounts
+        TablesPresent::WithoutCounts
     } else {
-        Form::Other
+        TablesPresent::Other
     }
 }

@@ -12,7 +12,7 @@ ghost use Rattle.tables.specs.Writing.{Alters};
 
 use crate::execution::execute;
 use crate::fault::Fault;
-use crate::table::{Setting, Table};
+use crate::table::{SettableColumn, Table};
 use crate::texts::{set_text, update_text};
 use sqlite::{Alter, Transaction};
 use sqlite_value::value::ValueRef;
@@ -36,7 +36,7 @@ pub fn replace<S: Alter>(
 /// column's kind. Without such a row the table stays as it is. A fault leaves the last commit as it was.
 pub fn set_value<S: Alter>(
     tx: &mut Transaction<'_, S>,
-    setting: Setting,
+    setting: SettableColumn,
     values: &[ValueRef<'_>],
 ) -> Result<(), Fault>
     requires kind { is_setting setting (bound values.now) ≡ true }

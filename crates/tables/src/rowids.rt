@@ -14,11 +14,11 @@ ghost use Rattle.tables.specs.Contents.{RestsAt};
 ghost use Rattle.tables.specs.Reading.{OnlyReads, ListsRowids, RowidsRise, RowidsFailToRise, FailsToList};
 ghost use Rattle.tables.specs.Faults.{TellsQuery};
 
-use crate::cells::integer_at;
 use crate::fault::Fault;
 use crate::reading::query;
 use crate::table::Table;
 use crate::texts::select_rowids_text;
+use crate::value_conversion::integer_at;
 use sqlite::{Alter, Connection, Row};
 
 /// Returns the rowid that is the only column of a row.

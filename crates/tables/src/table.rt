@@ -91,7 +91,7 @@ pub enum Reference {
 
 /// The columns outside a key that are set on their own, leaving the others as they are.
 #[derive(Clone, Copy, PartialEq, Eq)]
-pub enum Setting {
+pub enum SettableColumn {
     /// The version of the office.
     VersionOfOffice,
     /// The phase of a ward.

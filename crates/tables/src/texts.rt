@@ -5,7 +5,7 @@ ghost use Rattle.tables.specs.Schema.{shape, changes_rows};
 ghost use Rattle.tables.specs.Texts.{scan_text, create_text, insert_text, select_text, select_by_reference_text, select_rowids_text};
 ghost use Rattle.tables.specs.Texts.{select_rowid_text, select_between_text, update_text, set_text, delete_text};
 
-use crate::table::{Reference, Setting, Table};
+use crate::table::{Reference, SettableColumn, Table};
 
 #[tactic(auto, unfolding(crate::specs::Texts::create_text))]
 /// Returns the text that creates the table.
@@ -248,14 +248,14 @@ pub fn update_text(table: Table) -> &'static str
 
 #[tactic(auto, unfolding(crate::specs::Texts::set_text))]
 /// Returns the text that sets one column of the row with a key, with the key and the value as its parameters.
-pub fn set_text(setting: Setting) -> &'static str
+pub fn set_text(setting: SettableColumn) -> &'static str
     ensures { result.now ≡ set_text setting }
 {
     match setting {
-        Setting::VersionOfOffice => "UPDATE office SET version = ?2 WHERE one = ?1",
-        Setting::PhaseOfWard => "UPDATE ward SET phase = ?2 WHERE ward = ?1",
-        Setting::DoneOfWard => "UPDATE ward SET done = ?2 WHERE ward = ?1",
-        Setting::RoundOfBatch => "UPDATE batch SET round = ?2 WHERE batch = ?1",
+        SettableColumn::VersionOfOffice => "UPDATE office SET version = ?2 WHERE one = ?1",
+        SettableColumn::PhaseOfWard => "UPDATE ward SET phase = ?2 WHERE ward = ?1",
+        SettableColumn::DoneOfWard => "UPDATE ward SET done = ?2 WHERE ward = ?1",
+        SettableColumn::RoundOfBatch => "UPDATE batch SET round = ?2 WHERE batch = ?1",
     }
 }
 

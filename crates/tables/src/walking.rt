@@ -25,14 +25,14 @@ pub trait Visitor<E: Entries> {
     ghost use Rattle.tables.specs.declared.fault.Fault.{Fault};
 
     // It has consumed these entries, in this order, and no others.
-    ghost HasTaken: { Self → List E.Entry → Type 0 };
+    ghost HasVisited: { Self → List E.Entry → Type 0 };
 
     // A fault with which it stops.
     ghost Stops: { Fault → Type 0 };
 
     /// Consumes one more entry.
     fn visit(&mut self, entry: E::Entry) -> Result<(), Fault>
-        ensures takes { OnOk result (TakesNext HasTaken self.old self.new entry) }
+        ensures takes { OnOk result (TakesNext HasVisited self.old self.new entry) }
         ensures cause { IfErr result Stops };
 }
 
@@ -42,7 +42,7 @@ fn visit_next<E: Entries, V: Visitor<E>, S: Alter>(
     visitor: &mut V,
 ) -> Result<bool, Fault>
     ensures same_reference { rows.new.conn.ghost_name ≡ rows.old.conn.ghost_name }
-    ensures visits { HasCleanDisk (state S.Store rows.new.conn.now) → IfOk result (Visits S.Store E.TABLE E.row_of V.HasTaken rows.old.conn.now rows.new.conn.now visitor.old visitor.new) }
+    ensures visits { HasCleanDisk (state S.Store rows.new.conn.now) → IfOk result (Visits S.Store E.TABLE E.row_of V.HasVisited rows.old.conn.now rows.new.conn.now visitor.old visitor.new) }
     ensures cause { HasCleanDisk (state S.Store rows.new.conn.now) → IfErr result (FailsToVisit S.Store E.is_row V.Stops rows.old.conn.now rows.new.conn.now) }
     ensures opens { HasCleanDisk (state S.Store rows.new.conn.now) → OnOk result (IsTrue (state S.Store rows.new.conn.now).is_open) }
     ensures reads { OnlyReads (state S.Store rows.old.conn.now) (state S.Store rows.new.conn.now) }
@@ -64,7 +64,7 @@ fn visit_rest<E: Entries, V: Visitor<E>, S: Alter>(
 ) -> Result<(), Fault>
     ensures same_reference { rows.new.conn.ghost_name ≡ rows.old.conn.ghost_name }
     ensures finds { HasCleanDisk (state S.Store rows.new.conn.now) → (key : Row) → length key ≤ (shape E.TABLE).key → HasGiven S.Store (select_text E.TABLE (length key)) key rows.old.conn.now []
-        → (c : Contents) → RestsIfOpen c (state S.Store rows.old.conn.now) → OnOk result (TakesFound V.HasTaken E.row_of E.TABLE (begins_with key) c visitor.old visitor.new) }
+        → (c : Contents) → RestsIfOpen c (state S.Store rows.old.conn.now) → OnOk result (TakesFound V.HasVisited E.row_of E.TABLE (begins_with key) c visitor.old visitor.new) }
     ensures cause { HasCleanDisk (state S.Store rows.new.conn.now) → (key : Row) → length key ≤ (shape E.TABLE).key → HasGiven S.Store (select_text E.TABLE (length key)) key rows.old.conn.now []
         → (c : Contents) → RestsIfOpen c (state S.Store rows.old.conn.now) → begins_key E.TABLE key ≡ true → AllByRecursion E.is_row (c E.TABLE)
         → IfErr result (λ f. FailsBy (state S.Store rows.old.conn.now) (state S.Store rows.new.conn.now) f ⊎ V.Stops f) }
@@ -95,7 +95,7 @@ pub fn walk_beginning<E: Entries, V: Visitor<E> + Drop, S: Alter>(
     requires outside { conn.old.in_transaction ≡ false }
     requires key { length key.now ≤ (shape E.TABLE).key }
     ensures finds { HasCleanDisk (state S.Store conn.new) → (c : Contents) → RestsIfOpen c (state S.Store conn.old)
-        → IfOk result (TakesFound V.HasTaken E.row_of E.TABLE (begins_with (bound key.now)) c visitor) }
+        → IfOk result (TakesFound V.HasVisited E.row_of E.TABLE (begins_with (bound key.now)) c visitor) }
     ensures cause { HasCleanDisk (state S.Store conn.new) → (c : Contents) → RestsIfOpen c (state S.Store conn.old)
         → begins_key E.TABLE (bound key.now) ≡ true → AllByRecursion E.is_row (c E.TABLE) → IfErr result (λ f. FailsBy (state S.Store conn.old) (state S.Store conn.new) f ⊎ V.Stops f) }
     ensures cause_alone { HasCleanDisk (state S.Store conn.new) → (c : Contents) → RestsIfOpen c (state S.Store conn.old) → AllByRecursion E.is_row (c E.TABLE)

@@ -29,7 +29,8 @@ pub AreReadOf-more : (all : Members) (files : List ConsoleFileEntry) (name text 
 AreReadOf-more all files name text value rest reads is = reads ∙ rw is (with_more files (record { name = name; text = text }) (files_of rest))
 
 -- a value that is no text
-pub AreReadOf-stop : (all : Members) (files : List ConsoleFileEntry) (name : List ℕ) (value : Data) (rest : Members) → AreReadOf all files (member name value rest) → as_str value ≡ None → files_of all ≡ None
+pub AreReadOf-stop : (all : Members) (files : List ConsoleFileEntry) (name : List ℕ) (value : Data) (rest : Members) → AreReadOf all files (member name value rest)
+    → as_str value ≡ None → files_of all ≡ None
 AreReadOf-stop all files name value rest reads is = reads ∙ rw is refl
 
 -- all of them

@@ -12,28 +12,24 @@ use Rattle.wire.specs.declared.account.Account.{Account}
 use Rattle.wire.specs.declared.account.Account.TheVariants.{Clerk, Office as Officer}
 use Rattle.wire.specs.declared.target.OfficeTarget.TheVariants as office
 use Rattle.wire.specs.Bodies.{KeyingEntry, body_in, keying_of}
-use Rattle.wire.specs.Gates.{GateEntry, HttpSettingsEntry, account_at, account_under, clerk_under, has_code, kept_out, kept_out_by, needs_office, number_before, reader_of, sent_codes, served_at}
+use Rattle.wire.specs.Gates.{GateEntry, HttpSettingsEntry, account_at, account_under, clerk_under, has_code, kept_out, kept_out_by, needs_office, number_before, reading_account, sent_codes, served_at}
 use Rattle.wire.specs.Lengths.{NamedValue, body_length}
 use Rattle.wire.specs.Origins.{is_foreign}
-use Rattle.wire.specs.Targets.{IsTargetOf, is_number, most_digits, named_by, number_in, office_path}
+use Rattle.wire.specs.Numbers.{number_in}
+use Rattle.wire.specs.OfficeTargets.{IsReadTarget}
+use Rattle.wire.specs.Targets.{IsTargetOf, named_by, office_path}
 use Rattle.wire.specs.declared.target.OfficeTarget.{OfficeTarget}
 use Rattle.wire.specs.declared.request_error.RequestError.{RequestError}
-use Rattle.wire.specs.declared.target.Resource.TheVariants.{Candidates, Declaration, Sheet, Work}
+use Rattle.wire.specs.declared.office_read.OfficeRead.{OfficeRead}
+use Rattle.wire.specs.declared.office_read.OfficeRead.TheVariants as read
+use Rattle.wire.specs.declared.target.Resource.TheVariants.{Candidates, Declaration, Office as Reads, Sheet, Work}
 use Rattle.wire.specs.declared.target.Target.{Target}
 use Rattle.wire.specs.declared.target.Target.TheVariants.{Keying, Leave, Office, Page, Resource}
 use Rattle.wire.proofs.RequestLemmas.{AsksOneThing-all}
-use Rattle.wire.proofs.PartLemmas.{chosen-true}
+use Rattle.wire.proofs.OfficeTargetLemmas.{number-digits}
 use Rattle.wire.proofs.PathLemmas.{NamesItsOwn-all}
 
 -- ---- the clerk in front of a target
-
--- what writes a number are digits
-number-digits : (part : List ℕ) (n : ℕ) → number_in part ≡ Some n → list_all is_ascii_digit part ≡ true
-number-digits [] n is = refl
-number-digits (b ∷ bs) n is =
-    let test = chosen-true (is_number (b ∷ bs)) _ n is in
-    let all = and_parts (not (b == 48)) (nat_le (length (b ∷ bs)) most_digits && list_all is_ascii_digit (b ∷ bs)) test in
-    (and_parts (nat_le (length (b ∷ bs)) most_digits) (list_all is_ascii_digit (b ∷ bs)) all.1).1
 
 -- so many digits stand before a slash
 digits-before : (part rest : List ℕ) → list_all is_ascii_digit part ≡ true → prefix_len is_ascii_digit (part ++ (47 ∷ rest)) ≡ length part
@@ -47,7 +43,7 @@ slash-behind : (part rest : List ℕ) → slice_index (part ++ (47 ∷ rest)) (l
 slash-behind [] rest = refl
 slash-behind (d ∷ part) rest = slash-behind part rest
 
--- a path in which a clerk's number stands first stands under his number
+-- a path that begins with a clerk's number is under that number
 under-path : (part rest : List ℕ) (clerk : ℕ) → number_in part ≡ Some clerk → clerk_under (codes "/clerks/" ++ (part ++ (47 ∷ rest))) ≡ Some clerk
 under-path part rest clerk own =
     ap (λ n. number_before n (part ++ (47 ∷ rest))) (digits-before part rest (number-digits part clerk own))
@@ -58,10 +54,10 @@ abbrev owner_of : Target → Option Account
 owner_of (Keying clerk batch) = Some (Clerk clerk)
 owner_of (Page clerk) = Some (Clerk clerk)
 owner_of (Leave clerk) = Some (Clerk clerk)
-owner_of (Resource what) = option_map (λ clerk. Clerk clerk) (reader_of what)
+owner_of (Resource what) = reading_account what
 owner_of (Office what) = Some Officer
 
--- the same for a path in which a clerk's number stands first
+-- the same for a path that begins with a clerk's number
 under-clerk : (own : Option (List ℕ)) (target part rest : List ℕ) (clerk : ℕ) (account : Account) → target ≡ codes "/clerks/" ++ (part ++ (47 ∷ rest)) → number_in part ≡ Some clerk
     → Some (Clerk clerk) ≡ Some account → account_under own target ≡ Some account
 under-clerk own target part rest clerk account is numbered same = ap (account_under own) is ∙ ap (option_map (λ c. Clerk c)) (under-path part rest clerk numbered) ∙ same
@@ -69,9 +65,21 @@ under-clerk own target part rest clerk account is numbered same = ap (account_un
 -- the console, if the office has a code
 under-office : (own : Option (List ℕ)) (what : OfficeTarget) → (not (is_some own)) ≡ false → account_under own (office_path what) ≡ Some Officer
 under-office None what has = let no : ⊥ = cc in absurd no
-under-office (Some text) office.Console has = refl
+under-office (Some text) office.ConsolePage has = refl
 under-office (Some text) office.Leave has = refl
 under-office (Some text) office.Orders has = refl
+
+-- the console's reads, if the office has a code
+under-read : (own : Option (List ℕ)) (target : List ℕ) (its : OfficeRead) → (not (is_some own)) ≡ false → IsReadTarget its target → account_under own target ≡ Some Officer
+under-read None target its has is = let no : ⊥ = cc in absurd no
+under-read (Some text) target read.Wards has is = ap (account_under (Some text)) is
+under-read (Some text) target (read.Ward n) has (part, is, numbered) = ap (account_under (Some text)) is
+under-read (Some text) target (read.Batches n) has (part, is, numbered) = ap (account_under (Some text)) is
+under-read (Some text) target (read.Doubtful n) has (part, is, numbered) = ap (account_under (Some text)) is
+under-read (Some text) target (read.Differences n) has (part, is, numbered) = ap (account_under (Some text)) is
+under-read (Some text) target (read.Papers n) has (part, is, numbered) = ap (account_under (Some text)) is
+under-read (Some text) target (read.Receipts None) has is = ap (account_under (Some text)) is
+under-read (Some text) target (read.Receipts (Some actor)) has (part, is, numbered) = ap (account_under (Some text)) is
 
 under-own : (own : Option (List ℕ)) (target : List ℕ) (there : Target) (account : Account) → (needs_office there && not (is_some own)) ≡ false → IsTargetOf there target
     → owner_of there ≡ Some account → account_under own target ≡ Some account
@@ -83,6 +91,7 @@ under-own own target (Resource (Candidates c batch)) account has (part, b, is, n
     under-clerk own target part (codes "batches/" ++ (b ++ codes "/candidates")) c account is numbered same
 under-own own target (Resource (Sheet w)) account has is same = let no : ⊥ = cc in absurd no
 under-own own target (Resource (Declaration w)) account has is same = let no : ⊥ = cc in absurd no
+under-own own target (Resource (Reads its)) account has is same = under-read own target its has is ∙ same
 under-own own target (Office what) account has is same = ap (account_under own) is ∙ under-office own what has ∙ same
 
 -- ---- what isn't kept out
@@ -116,12 +125,12 @@ own-asked gate (Keying c batch) (Err why) behind account is = let no : ⊥ = cc 
 own-asked gate (Page c) size behind account is = is
 own-asked gate (Leave c) size behind account is = is
 own-asked gate (Resource what) size behind account is = is
-own-asked gate (Office office.Console) size behind account is = is
+own-asked gate (Office office.ConsolePage) size behind account is = is
 own-asked gate (Office office.Leave) size behind account is = is
 own-asked gate (Office office.Orders) (Ok n) behind account is = ap Some (order-own (option_and_then order_of (body_in n behind)) account is)
 own-asked gate (Office office.Orders) (Err why) behind account is = let no : ⊥ = cc in absurd no
 
--- behind a gate, by what was found there
+-- at a gate, by what was found there
 module _ (gate : GateEntry) (fields : List NamedValue) (method target : List ℕ) (size : Result ℕ RequestError) (behind : List ℕ) (account : Account) where
   -- what is asked for is the account's
   abbrev IsAskedAs : Option Target → Type 0

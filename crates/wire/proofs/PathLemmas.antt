@@ -12,13 +12,17 @@ use Rattle.matchit.specs.Router.{RouteOf}
 use Rattle.matchit.specs.Rows.{RowsOf, param_token}
 use Rattle.matchit.specs.Seek.{first, segment, step}
 use Rattle.matchit.specs.Route.{scan}
+use Rattle.wire.proofs.OfficeTargetLemmas.{read-named, read-own}
 use Rattle.wire.proofs.RowLemmas.{Fits, Gives, GoBySlash, HasNoSlash, seek-end, seek-gives, seek-part, seek-word, steps}
-use Rattle.wire.specs.Targets.{IsTargetOf, NamesItsOwn, named_at, named_by, named_in, number_in, office_by, office_path, office_routes, routed_by}
+use Rattle.wire.specs.Numbers.{number_in}
+use Rattle.wire.specs.OfficeTargets.{read_by}
+use Rattle.wire.specs.Targets.{IsTargetOf, NamesItsOwn, named_at, named_by, named_in, office_by, office_path, office_routes, read_or_routed, routed_by}
+use Rattle.wire.specs.declared.office_read.OfficeRead.{OfficeRead}
 use Rattle.wire.specs.declared.target.OfficeTarget.{OfficeTarget}
 use Rattle.wire.specs.declared.target.OfficeTarget.TheVariants as office
 use Rattle.wire.specs.declared.target.RouteTarget.{RouteTarget}
 use Rattle.wire.specs.declared.target.RouteTarget.TheVariants as place
-use Rattle.wire.specs.declared.target.Resource.TheVariants.{Candidates, Declaration, Sheet, Work}
+use Rattle.wire.specs.declared.target.Resource.TheVariants.{Candidates, Declaration, Office as Reads, Sheet, Work}
 use Rattle.wire.specs.declared.target.Target.{Target}
 use Rattle.wire.specs.declared.target.Target.TheVariants.{Keying, Leave, Office, Page, Resource}
 use Rattle.wire.proofs.PartLemmas.{IsNumeric, numeric, one-part, one-taken, two-parts, walk-part, with_taken}
@@ -123,7 +127,7 @@ is-declaration = record { word_bytes = refl; rest_bytes = refl; word_low = refl;
 
 -- ---- the routes of a keying and of candidates, with two parameters
 
--- a route with two parameters: what stands behind the slash at its end, its text, where it leads, and what it names by two numbers
+-- a route with two parameters: what follows the slash at its end, its text, where it leads, and what it names by two numbers
 pub record TwoRoute : Type 0 where
   pub end : List ℕ
   pub text : List ℕ
@@ -323,7 +327,7 @@ routed-own target there named = by (list_all is_ascii target) (first office_rout
 -- ---- the console
 
 office-own : (target : List ℕ) (what : OfficeTarget) → office_by target ≡ Some what → target ≡ office_path what
-office-own target what named = console (bytes_eq target (office_path office.Console)) refl named
+office-own target what named = console (bytes_eq target (office_path office.ConsolePage)) refl named
   where
     orders : (b : Bool) → bytes_eq target (office_path office.Orders) ≡ b → (if b then Some office.Orders else None) ≡ Some what → target ≡ office_path what
     orders true same named =
@@ -338,13 +342,13 @@ office-own target what named = console (bytes_eq target (office_path office.Cons
         (bytes_eq-Decides target (office_path office.Leave)).0 same ∙ ap office_path one
     leave false other named = orders (bytes_eq target (office_path office.Orders)) refl named
 
-    console : (b : Bool) → bytes_eq target (office_path office.Console) ≡ b
-        → (if b then Some office.Console
+    console : (b : Bool) → bytes_eq target (office_path office.ConsolePage) ≡ b
+        → (if b then Some office.ConsolePage
         else (if bytes_eq target (office_path office.Leave) then Some office.Leave else (if bytes_eq target (office_path office.Orders) then Some office.Orders else None))) ≡ Some what
         → target ≡ office_path what
     console true same named =
-        let one : office.Console ≡ what = cc in
-        (bytes_eq-Decides target (office_path office.Console)).0 same ∙ ap office_path one
+        let one : office.ConsolePage ≡ what = cc in
+        (bytes_eq-Decides target (office_path office.ConsolePage)).0 same ∙ ap office_path one
     console false other named = leave (bytes_eq target (office_path office.Leave)) refl named
 
 -- ---- both
@@ -352,8 +356,14 @@ office-own target what named = console (bytes_eq target (office_path office.Cons
 named-own : (target : List ℕ) (there : Target) → named_by target ≡ Some there → IsTargetOf there target
 named-own target there named = by (office_by target) refl named
   where
+    read : (found : Option OfficeRead) → read_by target ≡ found → read_or_routed found target ≡ Some there → IsTargetOf there target
+    read None found named = routed-own target there named
+    read (Some its) found named =
+        let same : Resource (Reads its) ≡ there = cc in
+        subst (λ t. IsTargetOf t target) same (read-own target its found)
+
     by : (found : Option OfficeTarget) → office_by target ≡ found → named_in found target ≡ Some there → IsTargetOf there target
-    by None found named = routed-own target there named
+    by None found named = read (read_by target) refl named
     by (Some what) found named =
         let same : Office what ≡ there = cc in
         subst (λ t. IsTargetOf t target) same (office-own target what found)
@@ -369,7 +379,8 @@ own-named target (Resource (Candidates clerk batch)) (c, b, is, own, other) =
     ap named_by is ∙ two-named candidates is-candidates c b clerk batch own other (candidates-found c b (numeric c clerk own) (numeric b batch other))
 own-named target (Keying clerk batch) (c, b, is, own, other) =
     ap named_by is ∙ two-named keyings is-keyings c b clerk batch own other (keyings-found c b (numeric c clerk own) (numeric b batch other))
-own-named target (Office office.Console) is = ap named_by is
+own-named target (Resource (Reads read)) is = read-named target read is
+own-named target (Office office.ConsolePage) is = ap named_by is
 own-named target (Office office.Leave) is = ap named_by is
 own-named target (Office office.Orders) is = ap named_by is
 

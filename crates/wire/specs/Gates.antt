@@ -8,7 +8,7 @@ use Rattle.codes.specs.Codes.{Holder, holders_of, is_of, is_office, office_of}
 use Rattle.wire.specs.Heads.{BeginsWith, HasNoHead}
 use Rattle.wire.specs.Lengths.{NamedValue, values_of}
 use Rattle.wire.specs.Origins.{given_by, is_foreign}
-use Rattle.wire.specs.Targets.{number_in}
+use Rattle.wire.specs.Numbers.{number_in}
 use Rattle.wire.specs.declared.request_error.RequestError.{RequestError}
 use Rattle.wire.specs.declared.request_error.RequestError.TheVariants.{Unauthorized, WrongCode}
 use Rattle.wire.specs.declared.settings.Gate.{Gate}
@@ -81,13 +81,31 @@ reader_of (what.Work clerk) = Some clerk
 reader_of (what.Candidates clerk batch) = Some clerk
 reader_of (what.Sheet ward) = None
 reader_of (what.Declaration ward) = None
+reader_of (what.Office read) = None
 
--- the candidates of a batch are served only at a gate
+-- the account whose code a read needs, if it needs one: the clerk's, or the office's
+abbrev pub reading_account : Resource → Option Account
+reading_account (what.Work clerk) = Some (Clerk clerk)
+reading_account (what.Candidates clerk batch) = Some (Clerk clerk)
+reading_account (what.Sheet ward) = None
+reading_account (what.Declaration ward) = None
+reading_account (what.Office read) = Some Office
+
+-- the candidates of a batch are served only at a gate, and so are the console's reads
 abbrev pub reading_needs_gate : Resource → Bool
 reading_needs_gate (what.Work clerk) = false
 reading_needs_gate (what.Candidates clerk batch) = true
 reading_needs_gate (what.Sheet ward) = false
 reading_needs_gate (what.Declaration ward) = false
+reading_needs_gate (what.Office read) = true
+
+-- the console's reads are served only if the office has a code
+abbrev pub reading_needs_office : Resource → Bool
+reading_needs_office (what.Work clerk) = false
+reading_needs_office (what.Candidates clerk batch) = false
+reading_needs_office (what.Sheet ward) = false
+reading_needs_office (what.Declaration ward) = false
+reading_needs_office (what.Office read) = true
 
 -- so are the pages, signing out, and the console's orders
 abbrev pub needs_gate : Target → Bool
@@ -97,12 +115,12 @@ needs_gate (target.Leave clerk) = true
 needs_gate (target.Resource reading) = reading_needs_gate reading
 needs_gate (target.Office place) = true
 
--- the console is served only if the office has a code
+-- the console, with its reads, is served only if the office has a code
 abbrev pub needs_office : Target → Bool
 needs_office (target.Keying clerk batch) = false
 needs_office (target.Page clerk) = false
 needs_office (target.Leave clerk) = false
-needs_office (target.Resource reading) = false
+needs_office (target.Resource reading) = reading_needs_office reading
 needs_office (target.Office place) = true
 
 -- what is served, at a gate or without one
@@ -156,7 +174,7 @@ authentication_by None account fields = None
 authentication_by (Some gate) None fields = None
 authentication_by (Some gate) (Some account) fields = Some (record { account = account; is_wrong = is_wrong_code (kept_out_by gate account (sent_codes fields)) })
 
--- the same for a request with these header fields and this target; a foreign one has none
+-- the authentication of a request with these header fields and this target; a request of a foreign page has none
 abbrev pub authentication_at : HttpSettingsEntry → List NamedValue → List ℕ → Option AuthenticationEntry
 authentication_at settings fields target = if is_foreign settings.origin fields then None else authentication_by settings.gate (account_at settings.gate target) fields
 

@@ -1,5 +1,7 @@
 -- What requests ask, and the bytes of the responses.
 pub mod Heads
+pub mod Numbers
+pub mod OfficeTargets
 pub mod Targets
 pub mod Lengths
 pub mod Origins
@@ -10,6 +12,8 @@ pub mod Requests
 pub mod Completeness
 pub mod Parsing
 pub mod Replies
+pub mod OfficeReads
+pub mod OfficeReplies
 pub mod Responses
 pub mod Told
 pub mod Serving

@@ -5,7 +5,7 @@ use Rattle.serde_json.specs.Data.{Data, array, boolean, member, no_members, numb
 use Rattle.serde_json.specs.View.{items_of}
 use Rattle.serde_json.specs.Written.{compact_text}
 use Rattle.register.specs.Offices.{CandidateEntry}
-use Rattle.register.specs.Standings.{BallotPaperEntry, WorkEntry}
+use Rattle.register.specs.Status.{BallotPaperEntry, WorkEntry}
 
 -- a reply
 abbrev pub reply_data : List ℕ → Data
@@ -14,7 +14,7 @@ reply_data text = object (member (codes "reply") (string text) no_members)
 abbrev pub reply_body : List ℕ → List ℕ
 reply_body text = codes "{\"reply\":" ++ (quoted text ++ codes "}")
 
--- what came of an order: what it printed as errors, what it printed, and its status
+-- the outcome of an order: what it printed as errors, what it printed, and its status
 abbrev pub order_data : ℕ → List ℕ → List ℕ → Data
 order_data status output errors = object
     (member (codes "errors") (string errors)

@@ -1,13 +1,13 @@
 -- What a request asks, or why it is rejected before the office is asked: by its head and the bytes that follow it.
 use Rattle.std.specs.Prelude.{◌≡◌, ◌⊎◌, ◌+◌, ◌<◌, ◌++◌, ⊤, Bool, List, [], ◌∷◌, Option, Some, None, Result}
-use Rattle.std.specs.Prelude.{Ok, Err, bytes_eq, codes, drop, false, if◌then◌else◌, length, map, option_and_then, option_map, string_bytes, take, true, ℕ}
+use Rattle.std.specs.Prelude.{Ok, Err, bytes_eq, codes, drop, false, if◌then◌else◌, length, map, option_and_then, string_bytes, take, true, ℕ}
 use Rattle.std.specs.Io.KnownBytes.{Consumes}
 use Rattle.httparse.specs.Grammar.{RequestHead}
 use Rattle.httparse.specs.Spans.{header_bytes, name_and_value, span_bytes}
 use Rattle.httparse.specs.declared.spans.HeaderSpan.{HeaderSpan}
 use Rattle.httparse.specs.declared.spans.RequestSpans.{RequestSpans}
 use Rattle.wire.specs.declared.request.HttpRequest.{HttpRequest}
-use Rattle.wire.specs.declared.request.HttpRequest.TheVariants.{Console, Denied, Keying, Order, Resource as Reads, Shown}
+use Rattle.wire.specs.declared.request.HttpRequest.TheVariants.{ConsolePage, Denied, Keying, Order, Resource as Reads, Shown}
 use Rattle.wire.specs.declared.settings.Show.{Show}
 use Rattle.wire.specs.declared.settings.Show.TheVariants.{Left, Page}
 use Rattle.wire.specs.declared.read_failure.ReadFailure.{ReadFailure}
@@ -25,7 +25,7 @@ use Rattle.wire.specs.declared.account.Account.{Account}
 use Rattle.wire.specs.declared.account.Account.TheVariants.{Clerk, Office}
 use Rattle.wire.specs.ConsoleOrders.{ConsoleOrderEntry, console_order_entry, order_of}
 use Rattle.wire.specs.Bodies.{KeyingEntry, body_in, keying_of}
-use Rattle.wire.specs.Gates.{GateEntry, HttpSettingsEntry, PageEntry, account_at, has_code, kept_out, page_entry, reader_of, sent_codes, served_at}
+use Rattle.wire.specs.Gates.{GateEntry, HttpSettingsEntry, PageEntry, account_at, has_code, kept_out, page_entry, reader_of, reading_account, sent_codes, served_at}
 use Rattle.wire.specs.Heads.{BeginsWith, HasNoHead, IsHeadWanting}
 use Rattle.wire.specs.Lengths.{NamedValue, body_length}
 use Rattle.wire.specs.Origins.{is_foreign}
@@ -56,7 +56,7 @@ http_request_entry (Denied why) = denied why
 http_request_entry (Shown clerk show) = shown clerk (show_entry show)
 http_request_entry (Keying k) = keying k.clerk k.batch (record { id = string_bytes k.id; round = k.round; papers = map string_bytes k.papers.items })
 http_request_entry (Reads what) = reading what
-http_request_entry (Console show) = console (show_entry show)
+http_request_entry (ConsolePage show) = console (show_entry show)
 http_request_entry (Order its) = order (console_order_entry its)
 
 -- why a request wasn't read, by what the source counts: one failure more, or none if an allocation failed
@@ -75,7 +75,7 @@ verb_of (target.Keying clerk batch) = Post
 verb_of (target.Page clerk) = Get
 verb_of (target.Leave clerk) = Get
 verb_of (target.Resource what) = Get
-verb_of (target.Office office.Console) = Get
+verb_of (target.Office office.ConsolePage) = Get
 verb_of (target.Office office.Leave) = Get
 verb_of (target.Office office.Orders) = Post
 
@@ -137,7 +137,7 @@ asked_of gate (Ok (target.Keying clerk batch)) size behind = asked_with clerk ba
 asked_of gate (Ok (target.Page clerk)) size behind = page_at gate clerk
 asked_of gate (Ok (target.Leave clerk)) size behind = shown clerk has_left
 asked_of gate (Ok (target.Resource what)) size behind = reading what
-asked_of gate (Ok (target.Office office.Console)) size behind = console_at gate
+asked_of gate (Ok (target.Office office.ConsolePage)) size behind = console_at gate
 asked_of gate (Ok (target.Office office.Leave)) size behind = console has_left
 asked_of gate (Ok (target.Office office.Orders)) size behind = ordered_with size behind
 asked_of gate (Err why) size behind = denied why
@@ -189,7 +189,7 @@ abbrev pub account_asked : HttpRequestEntry → Option Account
 account_asked (denied why) = None
 account_asked (shown clerk show) = Some (Clerk clerk)
 account_asked (keying clerk batch entry) = Some (Clerk clerk)
-account_asked (reading what) = option_map (λ clerk. Clerk clerk) (reader_of what)
+account_asked (reading what) = reading_account what
 account_asked (console show) = Some Office
 account_asked (order entry) = Some Office
 
@@ -219,7 +219,7 @@ MissesBytes (Ok (target.Keying clerk batch)) size behind = MissesBody size behin
 MissesBytes (Ok (target.Page clerk)) size behind = ⊥
 MissesBytes (Ok (target.Leave clerk)) size behind = ⊥
 MissesBytes (Ok (target.Resource what)) size behind = ⊥
-MissesBytes (Ok (target.Office office.Console)) size behind = ⊥
+MissesBytes (Ok (target.Office office.ConsolePage)) size behind = ⊥
 MissesBytes (Ok (target.Office office.Leave)) size behind = ⊥
 MissesBytes (Ok (target.Office office.Orders)) size behind = MissesBody size behind
 MissesBytes (Err why) size behind = ⊥

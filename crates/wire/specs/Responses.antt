@@ -131,7 +131,7 @@ denied_response (WrongCode account) = unauthorized_response account
 abbrev pub reply_response : List ℕ → ResponseEntry
 reply_response text = json_response 200 (reply_body text)
 
--- what came of an order: its status, and what it printed
+-- the outcome of an order: its status, and what it printed
 abbrev pub order_response : ℕ → List ℕ → List ℕ → ResponseEntry
 order_response status output errors = json_response 200 (order_body status output errors)
 

@@ -1,14 +1,13 @@
 //! Authentication of a request at the gate, by the code that it has.
 
-ghost use Rattle.std.specs.Prelude.{◌≡◌, ◌≤◌, List, length, map, option_map};
-ghost use Rattle.std.specs.Char.{is_ascii_digit};
-ghost use Rattle.std.specs.List.{All, prefix_len};
+ghost use Rattle.std.specs.Prelude.{◌≡◌, List, length, map, option_map};
+ghost use Rattle.std.specs.List.{All};
 ghost use Rattle.httparse.specs.Spans.{IsHeaderWithin, header_bytes};
 ghost use Rattle.wire.specs.Gates.{account_at, authentication_by, authentication_entry, clerk_under, gate_entry, has_code, is_wrong_code, kept_out, kept_out_by, sent_codes};
 ghost use Rattle.wire.specs.Lengths.{NamedValue};
 
 use crate::account::Account;
-use crate::digits::number_in;
+use crate::digits::{digits_length, number_in};
 use crate::length::value_of;
 use crate::request_error::RequestError;
 use crate::settings::Gate;
@@ -26,21 +25,6 @@ const OFFICE: &[u8] = b"/office/";
 pub struct Authentication {
     pub account: Account,
     pub is_wrong: bool,
-}
-
-/// Returns how many digits a text begins with.
-fn digits_length(text: &[u8]) -> usize
-    ensures bound { result ≤ length text.now }
-    ensures is { result ≡ prefix_len is_ascii_digit text.now }
-{
-    let mut length = 0;
-    for byte in text {
-        if !byte.is_ascii_digit() {
-            return length;
-        }
-        length += 1;
-    }
-    length
 }
 
 /// Returns the clerk whose number is in a target, whether or not anything is served there.

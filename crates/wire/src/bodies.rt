@@ -21,14 +21,14 @@ pub(crate) fn reply_body(alloc: Global, text: &str) -> Result<String, AllocError
     reply_value(alloc, text)?.to_string(alloc)
 }
 
-/// Returns the body with what came of an order, as a value.
+/// Returns the body with the outcome of an order, as a value.
 fn order_value(alloc: Global, status: u8, output: &str, errors: &str) -> Result<Value, AllocError>
     ensures { IfOk result (λ value. view value ≡ order_data status output.now errors.now) }
 {
     json!(in alloc; {"errors": errors, "output": output, "status": status})
 }
 
-/// Returns the body with what came of an order.
+/// Returns the body with the outcome of an order.
 pub(crate) fn order_body(
     alloc: Global,
     status: u8,

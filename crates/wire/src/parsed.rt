@@ -155,8 +155,8 @@ impl Head {
             Ok(Target::Page { clerk }) => Ok(page_at(settings.gate, clerk)),
             Ok(Target::Leave { clerk }) => Ok(HttpRequest::Shown(clerk, Show::Left)),
             Ok(Target::Resource(what)) => Ok(HttpRequest::Resource(what)),
-            Ok(Target::Office(OfficeTarget::Console)) => Ok(console_at(settings.gate)),
-            Ok(Target::Office(OfficeTarget::Leave)) => Ok(HttpRequest::Console(Show::Left)),
+            Ok(Target::Office(OfficeTarget::ConsolePage)) => Ok(console_at(settings.gate)),
+            Ok(Target::Office(OfficeTarget::Leave)) => Ok(HttpRequest::ConsolePage(Show::Left)),
             Ok(Target::Office(OfficeTarget::Orders)) => order_in(alloc, self.body, behind),
             Err(why) => Ok(HttpRequest::Denied(why)),
         }

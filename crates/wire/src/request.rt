@@ -3,7 +3,7 @@
 ghost use Rattle.std.specs.Prelude.{◌≡◌, ◌≢◌, ◌-◌, ◌^◌, ◌<◌, ◌++◌, IfErr, IfOk, IfSome, List, Ok, OnOk, option_map, ℕ};
 ghost use Rattle.wire.specs.Requests.{Asks, AsksByHolder, AsksOneThing, ShowEntry, DeniesForeign, FailsAfter, IsUnread, IsWanting};
 ghost use Rattle.wire.specs.Requests.{MissesBytes, TakesOwn, http_request_entry, asked_for, asked_of, console_at, page_at, verb_of, verb_text};
-ghost use Rattle.wire.specs.Gates.{GateEntry, HttpSettingsEntry, gate_entry, settings_entry, needs_gate, needs_office, reading_needs_gate, served_at};
+ghost use Rattle.wire.specs.Gates.{GateEntry, HttpSettingsEntry, gate_entry, settings_entry, needs_gate, needs_office, reading_needs_gate, reading_needs_office, served_at};
 ghost use Rattle.wire.specs.Targets.{NamesItsOwn, named_by};
 ghost use Rattle.wire.specs.Serving.{IsConsoleAlike, IsDeniedAlike, IsShownAlike};
 ghost use Rattle.wire.specs.declared.request_error.RequestError.{RequestError};
@@ -43,7 +43,7 @@ pub enum HttpRequest<'a> {
     /// To read a resource.
     Resource(Resource),
     /// To show the office its console, or that it is signed out.
-    Console(Show<'a>),
+    ConsolePage(Show<'a>),
     /// To follow an order of the office.
     Order(ConsoleOrder),
 }
@@ -70,7 +70,15 @@ impl Resource {
             Resource::Candidates { .. } => true,
             Resource::Sheet { .. } => false,
             Resource::Declaration { .. } => false,
+            Resource::Office(_) => true,
         }
+    }
+
+    /// Returns whether it is served only if the office has a code.
+    fn needs_office(&self) -> bool
+        ensures { result ≡ reading_needs_office self.now }
+    {
+        matches!(self, Resource::Office(_))
     }
 }
 
@@ -82,7 +90,7 @@ impl Target {
         match self {
             Target::Keying { .. } | Target::Office(OfficeTarget::Orders) => Verb::Post,
             Target::Page { .. } | Target::Leave { .. } | Target::Resource(_) => Verb::Get,
-            Target::Office(OfficeTarget::Console | OfficeTarget::Leave) => Verb::Get,
+            Target::Office(OfficeTarget::ConsolePage | OfficeTarget::Leave) => Verb::Get,
         }
     }
 
@@ -103,7 +111,13 @@ impl Target {
     fn needs_office(&self) -> bool
         ensures { result ≡ needs_office self.now }
     {
-        matches!(self, Target::Office(_))
+        match self {
+            Target::Keying { .. } => false,
+            Target::Page { .. } => false,
+            Target::Leave { .. } => false,
+            Target::Resource(what) => what.needs_office(),
+            Target::Office(_) => true,
+        }
     }
 }
 
@@ -149,7 +163,7 @@ pub(crate) fn console_at<'a>(gate: Option<Gate<'a>>) -> HttpRequest<'a>
     ensures { http_request_entry result ≡ console_at (option_map gate_entry gate.entry) }
 {
     match gate {
-        Some(gate) => HttpRequest::Console(Show::Page(gate.console)),
+        Some(gate) => HttpRequest::ConsolePage(Show::Page(gate.console)),
         None => HttpRequest::Denied(RequestError::NotFound),
     }
 }
@@ -213,15 +227,15 @@ fn read_from_head<'a, R: Source>(
 /// with that clerk's code; and one whose target begins with `/office/` only with the office's, if the office has one. Otherwise it
 /// is `Unauthorized`, or a `WrongCode`, whatever else it asks. So what is asked under a clerk's number is asked by the holder of
 /// that clerk's code, and what is asked of the console by the holder of the office's. Every other request needs no such check.
-/// The response to a rejected request is the same at every state of the office, and so is what is `Shown`, and the `Console`.
+/// The response to a rejected request is the same at every state of the office, and so is what is `Shown`, and the `ConsolePage`.
 ///
 /// `Broken` comes only from the source, which then counts one failure more. It comes only while what was read doesn't say yet
 /// what is asked. Once it does, nothing more is read, because the client may wait for its response. Some of the bytes that follow
 /// the request may have been read.
 ///
 /// What is asked for depends only on the target, which names exactly what it is the path of. That is one of the seven routes of
-/// this crate, with numbers of 1 to 5 digits in it, the first not 0; or `/office/`, `/office/leave` or `/office/orders`. Any other
-/// target names nothing.
+/// this crate, with numbers of 1 to 5 digits in it, the first not 0; or `/office/`, `/office/leave`, `/office/orders` or the path of
+/// a read of the console. Any other target names nothing.
 pub fn read_request<'a, R: Source>(
     alloc: Global,
     settings: HttpSettings<'a>,

@@ -340,7 +340,7 @@ impl Response {
         }
     }
 
-    /// Returns the response with what came of an order: its status, and what it printed. Or the out-of-memory response, if an
+    /// Returns the response with the outcome of an order: its status, and what it printed. Or the out-of-memory response, if an
     /// allocation failed.
     pub fn of_order(alloc: Global, status: u8, output: &str, errors: &str) -> Response
         ensures { IsTold (order_response status output.now errors.now) result }

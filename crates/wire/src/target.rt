@@ -2,9 +2,11 @@
 
 ghost use Rattle.std.specs.Prelude.{◌≡◌, IfOk};
 ghost use Rattle.matchit.specs.Params.{AllText};
-ghost use Rattle.wire.specs.Targets.{named_at, named_by, office_by, office_routes, parameter, routed_by, taken_by};
+ghost use Rattle.wire.specs.OfficeTargets.{read_by};
+ghost use Rattle.wire.specs.Targets.{named_at, named_by, office_by, office_routes, parameter, read_or_routed, routed_by, taken_by};
 
 use crate::digits::number_in;
+use crate::office_read::{OfficeRead, read_by};
 use matchit::{InsertError, Params, Router};
 use std::alloc::{AllocError, Global};
 use std::str;
@@ -20,13 +22,15 @@ pub enum Resource {
     Sheet { ward: u32 },
     /// The declaration of a ward.
     Declaration { ward: u32 },
+    /// What the officer's console reads.
+    Office(OfficeRead),
 }
 
 /// What a target of the officer's console names.
 #[derive(Clone, Copy, Debug, PartialEq, Eq)]
 pub(crate) enum OfficeTarget {
     /// The console.
-    Console,
+    ConsolePage,
     /// The signing out of the office.
     Leave,
     /// The orders, to be sent.
@@ -130,7 +134,7 @@ fn office_by(target: &[u8]) -> Option<OfficeTarget>
     ensures { result ≡ office_by target.now }
 {
     if target == "/office/".as_bytes() {
-        return Some(OfficeTarget::Console);
+        return Some(OfficeTarget::ConsolePage);
     }
     if target == "/office/leave".as_bytes() {
         return Some(OfficeTarget::Leave);
@@ -173,13 +177,23 @@ impl Routes {
         }
     }
 
+    /// Returns what a target names that isn't of the console itself: what the console reads, or what its route leads to.
+    fn read_or_routed(&self, target: &[u8]) -> Option<Target>
+        ensures { result ≡ read_or_routed (read_by target.now) target.now }
+    {
+        match read_by(target) {
+            Some(read) => Some(Target::Resource(Resource::Office(read))),
+            None => self.routed_by(target),
+        }
+    }
+
     /// Returns what a target names, if anything is served there. Allocates nothing.
     pub(crate) fn named_by(&self, target: &[u8]) -> Option<Target>
         ensures { result ≡ named_by target.now }
     {
         match office_by(target) {
             Some(place) => Some(Target::Office(place)),
-            None => self.routed_by(target),
+            None => self.read_or_routed(target),
         }
     }
 }

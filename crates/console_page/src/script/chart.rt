@@ -3,7 +3,7 @@
 /// Declares the chart and the figures of each stage of a count.
 pub(crate) const CHART: &str = r#"// ---- the chart and the figures of a stage
 
-// The stage that is shown. 0 stands for the last one counted.
+// The stage that is shown; 0 means the last one counted.
 const shown = {ward: 0, stage: 0};
 
 // Returns the stages of a ward from its table: what was done at each stage, and the votes and the standing of each candidate.

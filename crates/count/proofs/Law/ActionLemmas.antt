@@ -6,7 +6,7 @@ use Rattle.std.proofs.lemmas.Bool.{eq-eqb, eqb-true, ltb-true}
 use Rattle.std.proofs.lemmas.List.{get_or_default}
 use Rattle.std.proofs.lemmas.Map.Views.{Contains-from_any}
 use Rattle.std.proofs.lemmas.List.FromFn.{get_or-map-range_with_len}
-use Rattle.paper.specs.Columns.{IsColumnSet, IsColumn}
+use Rattle.paper.specs.Columns.{IsCandidateSet, IsColumn}
 use Rattle.count.specs.Law.Contest.{Contest, History, IsContest, In, newest_votes, numbers}
 use Rattle.count.specs.Law.Right.{IsRight, IsRightBy, IsNext, Tells}
 use Rattle.count.specs.Law.Due.{due_after, due_for, drawn, among, with_surplus, highest, lowest, action_on, lot_for, is_above}
@@ -116,7 +116,7 @@ filter-more p q c [] weaker fails passes h = cc
 filter-more p q c (x ∷ xs) weaker fails passes h = more_choice p q c x xs (eqb c x) weaker fails passes refl (filter-more p q c xs weaker fails passes) h
 
 -- a member of a set of columns is a column
-pub column-in : (c : ℕ) (xs : List ℕ) → IsColumnSet xs → In c xs → IsColumn c
+pub column-in : (c : ℕ) (xs : List ℕ) → IsCandidateSet xs → In c xs → IsColumn c
 column-in c xs set h =
     let at = Contains-from_any {eq = eqb} eqb-true c xs h in
     let same : slice_index xs at.0 ≡ c = get_or_default xs at.0 0 c at.1 ∙ at.2 in

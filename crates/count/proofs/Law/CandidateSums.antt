@@ -5,7 +5,7 @@ use Rattle.std.proofs.lemmas.List.Sums.{sum_by-cons, sum_by-le-sum_by}
 use Rattle.std.proofs.lemmas.List.Kept.{AllPairs-from_increasing}
 use Rattle.std.proofs.lemmas.Map.Keys.{IsDistinct-from_apart, IsDistinct-head, IsDistinct-tail}
 use Rattle.std.proofs.lemmas.Bool.{eqb-true, ne_eqb, eq-eqb}
-use Rattle.paper.specs.Columns.{IsColumnSet}
+use Rattle.paper.specs.Columns.{IsCandidateSet}
 use Rattle.count.specs.Law.Contest.{Contest, History}
 use Rattle.count.specs.Law.Places.{place}
 use Rattle.count.specs.Law.Figures.{value_with}
@@ -14,7 +14,7 @@ use Rattle.count.proofs.Law.ValueLemmas.{all_values, held}
 use Rattle.count.proofs.ChoiceLemmas.{within_value}
 
 -- the members of a set of columns are distinct
-pub columns-distinct : (cs : List ℕ) → IsColumnSet cs → IsDistinct eqb cs
+pub columns-distinct : (cs : List ℕ) → IsCandidateSet cs → IsDistinct eqb cs
 columns-distinct cs set = IsDistinct-from_apart eqb cs (λ i j d up within.
     ne_eqb _ _ (λ same. let less = AllPairs-from_increasing cs set.ascending i j d up within in omega (arith, less, same)))
 

@@ -15,8 +15,8 @@ use Rattle.count.specs.declared.stages.Due.{Due}
 use Rattle.count.specs.declared.stages.Due.TheVariants.{Act, Lot, Finished}
 use Rattle.count.specs.declared.book.AdvanceError.{AdvanceError}
 use Rattle.count.specs.declared.book.AdvanceError.TheVariants.{LotNotAmong as not_among}
-use Rattle.count.specs.declared.run.CountEnd.{CountEnd}
-use Rattle.count.specs.declared.run.CountEnd.TheVariants.{LotNotAmong as misses_lot}
+use Rattle.count.specs.declared.count_to_end.CountEnd.{CountEnd}
+use Rattle.count.specs.declared.count_to_end.CountEnd.TheVariants.{LotNotAmong as misses_lot}
 use Rattle.count.proofs.Law.RightLemmas.{is_told, same_tells}
 
 -- a computed stage records what it should

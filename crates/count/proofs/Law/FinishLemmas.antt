@@ -7,7 +7,7 @@ use Rattle.std.proofs.lemmas.List.Sums.{sum_by-le-sum_by}
 use Rattle.count.specs.Law.Contest.{Contest, History, IsContest, votes_at}
 use Rattle.count.specs.Advance.{end_of, end_after}
 use Rattle.count.specs.Law.Laws.{FillsSeats, IsAmongSeveral}
-use Rattle.count.specs.declared.run.CountEnd.TheVariants.{Finished as has_finished, LotNotAmong as misses_lot}
+use Rattle.count.specs.declared.count_to_end.CountEnd.TheVariants.{Finished as has_finished, LotNotAmong as misses_lot}
 use Rattle.count.specs.Law.Right.{IsRightBy}
 use Rattle.count.specs.Law.Due.{lot_for, due_after, due_for, among, with_surplus, highest, lowest}
 use Rattle.count.specs.Law.Elected.{continuing_after, elected_after, vacancies_after, is_excluded, has_reached, undecided_fill, with_quota, undecided, excludes}

@@ -12,8 +12,8 @@ use Rattle.count.specs.Law.Elected.{elected_after, is_elected, is_transferred}
 use Rattle.count.specs.Law.Right.{Tells, IsRight, IsCount, reordered, IsBeginning, BeginsEachRight, EqualsEachCount, IsWholeCount, OneBeginsOther}
 use Rattle.count.specs.Law.Count.{stage_of}
 use Rattle.count.specs.Advance.{AdvancesBy, end_of, end_after}
-use Rattle.count.specs.declared.run.CountEnd.{CountEnd}
-use Rattle.count.specs.declared.run.CountEnd.TheVariants.{LotNotAmong}
+use Rattle.count.specs.declared.count_to_end.CountEnd.{CountEnd}
+use Rattle.count.specs.declared.count_to_end.CountEnd.TheVariants.{LotNotAmong}
 use Rattle.std.proofs.Math.Nat.{eq-or-lt_of_le}
 use Rattle.std.proofs.lemmas.Bool.{cases_order}
 use Rattle.count.specs.declared.stages.Due.{Due}

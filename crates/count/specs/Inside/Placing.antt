@@ -6,7 +6,7 @@ use Rattle.paper.specs.Standing.{from_first}
 use Rattle.count.specs.Advance.{IsDue}
 use Rattle.count.specs.Bundles.{Bundle, papers_of, AreBundles}
 use Rattle.count.specs.Books.{contest_of}
-use Rattle.count.specs.Kept.{places_after}
+use Rattle.count.specs.StoredCounts.{places_after}
 use Rattle.count.specs.Law.Contest.{Contest, History, IsContest, numbers}
 use Rattle.count.specs.Law.Count.{begun}
 use Rattle.count.specs.Law.Elected.{transfers, is_transferred}

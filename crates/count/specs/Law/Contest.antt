@@ -2,7 +2,7 @@
 use Rattle.std.specs.Prelude.{◌≡◌, ℕ, ◌-◌, ◌<◌, ◌≤◌, List, [], ◌∷◌, length, slice_index}
 use Rattle.std.specs.List.{AllByRecursion, list_any, range_with_len}
 use Rattle.std.specs.Prelude.{nat_eq, true}
-use Rattle.paper.specs.Columns.{max_candidates, IsColumnSet}
+use Rattle.paper.specs.Columns.{max_candidates, IsCandidateSet}
 use Rattle.votes.specs.Units.{max_papers, max_seats, quota_of}
 use Rattle.count.specs.declared.stages.Stage.{Stage}
 
@@ -29,7 +29,7 @@ AreForCandidates candidates papers = AllByRecursion (λ paper. AllByRecursion (�
 -- A contest to which the rules apply: it has more candidates than seats, and seats and papers within the limits. Its preferences are only for
 -- candidates, and its quota is that of these papers and seats.
 pub record IsContest (contest : Contest) : Type 0 where
-  pub candidate_set : IsColumnSet contest.candidates
+  pub candidate_set : IsCandidateSet contest.candidates
   pub some_seats : 1 ≤ contest.seats
   pub few_seats : contest.seats ≤ max_seats
   pub contested : contest.seats < length contest.candidates

@@ -23,7 +23,8 @@ returns-in-Serve-clause-serves g c = λ serving is.
     let its : Serving = record { port = c.in-Serve.port; connections = c.in-Serve.connections; origin = c.in-Serve.origin; codes = c.in-Serve.codes } in (
       refl,
       subst (λ (s : Serving). ServesOrder (IsErrorTold g.E.Sink.taken g.E.Sink.failed c.args.err.now c.serve.new.err) (c.serve.new.err ≡ c.args.err.now) c.serve.result.0 s
-          (g.H.Host.codes_at c.args.host.now) (g.H.Host.file c.args.host.now) (stream_of g.H.Sockets.Stream.Stream.held g.H.Sockets.Stream.Stream.taken g.H.Sockets.Stream.Stream.failed) (state g.S.Store)
+          (g.H.Host.codes_at c.args.host.now) (g.H.Host.file c.args.host.now)
+          (stream_of g.H.Sockets.Stream.Stream.held g.H.Sockets.Stream.Stream.taken g.H.Sockets.Stream.Stream.failed) (state g.S.Store)
           (g.H.Host.known c.args.host.now) (g.H.Host.known c.serve.new.host) c.args.conn c.serve.result.1)
           (same_serving its serving (sym c.in-Serve.is ∙ is))
           c.serve.ensures,

@@ -1,11 +1,11 @@
 //! The count of a ward in a journal.
 
-ghost use Rattle.register.specs.Offices.{MapsRise};
+ghost use Rattle.register.specs.Offices.{MapsAreSorted};
 ghost use Rattle.rowcheck.specs.States.{state_of};
 
+use crate::candidate_names::name_of;
 use crate::journal::receipts::KeptReceipts;
 use crate::journal::words::{put_comment, put_heading, put_order};
-use crate::names::name_of;
 use register::ranges::LAST_LOT_STAGE;
 use register::{DrawnLot, Receipt, Ward};
 use rowcheck::finding::{candidates_of, lots_of};
@@ -27,7 +27,7 @@ fn put_lot(
     kept: &KeptReceipts<'_>,
     lot: &DrawnLot,
 ) -> Result<(), AllocError>
-    requires { MapsRise (state_of kept.now.rows.now) }
+    requires { MapsAreSorted (state_of kept.now.rows.now) }
 {
     let (ward, stage, candidate) = (lot.ward, lot.stage, lot.candidate);
     let name = name_of(candidates_of(kept.rows, ward), candidate);
@@ -51,7 +51,7 @@ fn put_stage(
     ward: u32,
     stage: u32,
 ) -> Result<(), AllocError>
-    requires { MapsRise (state_of kept.now.rows.now) }
+    requires { MapsAreSorted (state_of kept.now.rows.now) }
 {
     if let Some(lot) = lot_at(lots_of(kept.rows, ward), stage) {
         put_lot(alloc, text, kept, lot)?;
@@ -72,7 +72,7 @@ fn put_stages(
     kept: &KeptReceipts<'_>,
     ward: u32,
 ) -> Result<(), AllocError>
-    requires { MapsRise (state_of kept.now.rows.now) }
+    requires { MapsAreSorted (state_of kept.now.rows.now) }
 {
     for stage in 1..=LAST_LOT_STAGE {
         put_stage(alloc, text, kept, ward, stage)?;
@@ -87,7 +87,7 @@ pub(crate) fn put_count(
     kept: &KeptReceipts<'_>,
     ward: &Ward,
 ) -> Result<(), AllocError>
-    requires { MapsRise (state_of kept.now.rows.now) }
+    requires { MapsAreSorted (state_of kept.now.rows.now) }
 {
     let (number, name) = (ward.number, ward.name.as_str());
     let sealing = format!(in alloc; "seal {number}")?;

@@ -1,11 +1,11 @@
 //! The nominations of a ward in a journal.
 
-ghost use Rattle.register.specs.Offices.{MapsRise};
+ghost use Rattle.register.specs.Offices.{MapsAreSorted};
 ghost use Rattle.rowcheck.specs.States.{state_of};
 
+use crate::candidate_names::name_of;
 use crate::journal::receipts::KeptReceipts;
 use crate::journal::words::{put_heading, put_named, put_order};
-use crate::names::name_of;
 use register::Ward;
 use register::ranges::LAST_CANDIDATE;
 use rowcheck::finding::candidates_of;
@@ -20,7 +20,7 @@ fn put_candidate(
     ward: u32,
     number: u32,
 ) -> Result<(), AllocError>
-    requires { MapsRise (state_of kept.now.rows.now) }
+    requires { MapsAreSorted (state_of kept.now.rows.now) }
 {
     let adding = format!(in alloc; "candidate {ward} {number}")?;
     let withdrawal = format!(in alloc; "withdraw {ward} {number}")?;
@@ -45,7 +45,7 @@ fn put_candidates(
     kept: &KeptReceipts<'_>,
     ward: u32,
 ) -> Result<(), AllocError>
-    requires { MapsRise (state_of kept.now.rows.now) }
+    requires { MapsAreSorted (state_of kept.now.rows.now) }
 {
     for number in 1..=LAST_CANDIDATE {
         put_candidate(alloc, text, kept, ward, number)?;
@@ -60,7 +60,7 @@ pub(crate) fn put_nominations(
     kept: &KeptReceipts<'_>,
     ward: &Ward,
 ) -> Result<(), AllocError>
-    requires { MapsRise (state_of kept.now.rows.now) }
+    requires { MapsAreSorted (state_of kept.now.rows.now) }
 {
     let (number, seats) = (ward.number, ward.seats);
     let name = ward.name.as_str();

@@ -1,6 +1,6 @@
 //! A batch, its keyings, and the verdicts on its papers in a journal.
 
-ghost use Rattle.register.specs.Offices.{MapsRise};
+ghost use Rattle.register.specs.Offices.{MapsAreSorted};
 ghost use Rattle.rowcheck.specs.States.{state_of};
 
 use crate::journal::receipts::KeptReceipts;
@@ -20,7 +20,7 @@ fn put_given_out(
     kept: &KeptReceipts<'_>,
     batch: &Batch,
 ) -> Result<(), AllocError>
-    requires { MapsRise (state_of kept.now.rows.now) }
+    requires { MapsAreSorted (state_of kept.now.rows.now) }
 {
     let (number, ward, size) = (batch.number, batch.ward, batch.size);
     let (first, second) = (batch.first_clerk, batch.second_clerk);
@@ -53,7 +53,7 @@ fn put_keying(
     round: u32,
     clerk: u32,
 ) -> Result<(), AllocError>
-    requires { MapsRise (state_of kept.now.rows.now) }
+    requires { MapsAreSorted (state_of kept.now.rows.now) }
 {
     let subject = format!(in alloc; "key {batch} {round}")?;
     let Some(receipt) = kept.of_actor(subject.as_str(), clerk) else {
@@ -104,7 +104,7 @@ fn put_round(
     batch: &Batch,
     round: u32,
 ) -> Result<(), AllocError>
-    requires { MapsRise (state_of kept.now.rows.now) }
+    requires { MapsAreSorted (state_of kept.now.rows.now) }
 {
     let number = batch.number;
     put_opening(alloc, text, kept, number, round)?;
@@ -126,7 +126,7 @@ fn put_rounds(
     kept: &KeptReceipts<'_>,
     batch: &Batch,
 ) -> Result<(), AllocError>
-    requires { MapsRise (state_of kept.now.rows.now) }
+    requires { MapsAreSorted (state_of kept.now.rows.now) }
 {
     for round in FIRST_ROUND..=batch.round {
         put_round(alloc, text, kept, batch, round)?;
@@ -159,7 +159,7 @@ pub(crate) fn put_batch(
     kept: &KeptReceipts<'_>,
     batch: &Batch,
 ) -> Result<(), AllocError>
-    requires { MapsRise (state_of kept.now.rows.now) }
+    requires { MapsAreSorted (state_of kept.now.rows.now) }
 {
     put_given_out(alloc, text, kept, batch)?;
     put_rounds(alloc, text, kept, batch)?;

@@ -2,7 +2,7 @@
 use Rattle.std.specs.Prelude.{ℕ, Bool, ◌&&◌, ◌==◌, List, Some}
 use Rattle.std.specs.List.{list_all, filter}
 use Rattle.register.specs.Offices.{BatchEntry, KeyedEntry, OfficeState}
-use Rattle.register.specs.Keyed.{is_keyed_for, are_rounds_to}
+use Rattle.register.specs.BatchConditions.{is_keyed_for, are_rounds_to}
 
 -- the papers keyed of a batch, in all its rounds and by all its clerks
 abbrev pub papers_of : OfficeState → ℕ → List KeyedEntry

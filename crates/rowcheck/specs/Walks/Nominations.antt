@@ -4,7 +4,7 @@ use Rattle.register.specs.declared.wards.Ward.{Ward}
 use Rattle.register.specs.declared.candidates.Candidate.{Candidate}
 use Rattle.register.specs.Offices.{ward_entry, candidate_entry}
 use Rattle.register.specs.Nominations.{are_enough}
-use Rattle.rowcheck.specs.Walks.Runs.{pass_by_run}
+use Rattle.rowcheck.specs.Walks.KeyRanges.{pass_by_run}
 
 -- every ward has the candidates that its phase requires, and there are no others
 abbrev pub are_nominated : List Ward → List Candidate → Bool

@@ -10,7 +10,7 @@ use register::PlacedBundle;
 use sqlite::Row;
 use sqlite_value::value::ValueRef;
 use std::alloc::Global;
-use tables::cells::{amount_at, bytes, bytes_at, number, number_at};
+use tables::value_conversion::{amount_at, bytes, bytes_at, number, number_at};
 use tables::{Entries, Fault, Table};
 
 /// The bundles, by ward and list of preferences.

@@ -12,7 +12,7 @@ use register::{Phase, Ward};
 use sqlite::Row;
 use sqlite_value::value::ValueRef;
 use std::alloc::Global;
-use tables::cells::{number_at, row_values, text, text_at};
+use tables::value_conversion::{number_at, row_values, text, text_at};
 use tables::{Entries, Fault, Table};
 
 /// Reads the phase in a column; `Damaged` if there is none.

@@ -2,13 +2,13 @@
 
 ghost use Rattle.std.specs.Prelude.{◌≡◌, map, IfOk};
 ghost use Rattle.register.specs.Offices.{batch_entry};
-ghost use Rattle.register.specs.Papers.{clerk_list};
+ghost use Rattle.register.specs.Agreement.{clerk_list};
 ghost use Rattle.store.specs.Loads.{Loads, IsOpen};
 ghost use Rattle.store.specs.Overviews.{clerk_view, clerk_view_of};
 
 use crate::storage::Store;
 use register::Batch;
-use register::papers::Clerks;
+use register::agreement::Clerks;
 use sqlite::Alter;
 use std::alloc::{AllocError, Global};
 use tables::Fault;

@@ -2,7 +2,7 @@
 
 ghost use Rattle.std.specs.Prelude.{◌≡◌, ◌∷◌, [], ◌&&◌, map, filter, option_map, IfOk, IfErr};
 ghost use Rattle.register.specs.Offices.{batch_entry, keyed_entry};
-ghost use Rattle.register.specs.Papers.{is_keyed, differ};
+ghost use Rattle.register.specs.Agreement.{is_keyed, differ};
 ghost use Rattle.tables.specs.declared.fault.Fault.{Fault};
 ghost use Rattle.store.specs.Keyings.{keyings_by};
 ghost use Rattle.store.specs.Overviews.{has_alike, is_apart, apart_among, papers_apart, differences_view, differences_by, differences_of, differences_at};
@@ -10,7 +10,7 @@ ghost use Rattle.store.specs.Loads.{Loads};
 
 use crate::storage::Store;
 use crate::views::papers::Keyings;
-use register::papers::is_keyed;
+use register::agreement::is_keyed;
 use register::{Batch, KeyedPaper};
 use sqlite::Alter;
 use std::alloc::{AllocError, Global};

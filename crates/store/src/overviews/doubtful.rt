@@ -3,7 +3,7 @@
 ghost use Rattle.std.specs.Prelude.{◌≡◌, ◌==◌, ◌++◌, map, option_map, IfOk};
 ghost use Rattle.std.specs.List.{flat_map};
 ghost use Rattle.register.specs.Offices.{batch_entry, keyed_entry, judged_entry};
-ghost use Rattle.register.specs.Papers.{is_doubtful};
+ghost use Rattle.register.specs.Agreement.{is_doubtful};
 ghost use Rattle.tables.specs.declared.fault.Fault.{Fault};
 ghost use Rattle.store.specs.Overviews.{verdict_on, doubtful_view, doubtful_view_of, doubtful_among, doubtful_in, doubtful_papers, doubtful_papers_view, doubtful_at};
 ghost use Rattle.store.specs.Loads.{Loads, IsOpen};
@@ -11,8 +11,8 @@ ghost use Rattle.store.specs.Loads.{Loads, IsOpen};
 use crate::overviews::papers::CountedPaper;
 use crate::storage::Store;
 use paper::Columns;
+use register::agreement::is_doubtful;
 use register::marks::columns_of;
-use register::papers::is_doubtful;
 use register::polls::judgement_on;
 use register::{Batch, Candidate, JudgedPaper, KeyedPaper};
 use sqlite::Alter;

@@ -4,7 +4,7 @@ ghost use Rattle.std.specs.Prelude.{◌≡◌, ℕ, map, option_map, IfOk, IfErr
 ghost use Rattle.std.specs.List.{flat_map};
 ghost use Rattle.register.specs.Offices.{OfficeState, batch_entry, candidate_entry, keyed_entry, judged_entry, candidates_of};
 ghost use Rattle.register.specs.Marks.{columns_of};
-ghost use Rattle.register.specs.Papers.{batches_of};
+ghost use Rattle.register.specs.Agreement.{batches_of};
 ghost use Rattle.register.specs.Polls.{judgements, piles_of};
 ghost use Rattle.tables.specs.declared.fault.Fault.{Fault};
 ghost use Rattle.store.specs.Elections.{pile_by};
@@ -14,8 +14,8 @@ ghost use Rattle.store.specs.Loads.{Loads};
 use crate::storage::Store;
 use crate::views::papers::BatchPapers;
 use paper::Columns;
+use register::agreement::is_keyed;
 use register::marks::columns_of;
-use register::papers::is_keyed;
 use register::polls::judgement_on;
 use register::{Batch, Candidate, JudgedPaper, Judgement, KeyedPaper};
 use sqlite::Alter;

@@ -2,19 +2,19 @@
 
 ghost use Rattle.std.specs.Prelude.{◌≡◌, map, option_map};
 ghost use Rattle.register.specs.Offices.{batch_entry, third_entry, ward_at, batch_at, third_at};
-ghost use Rattle.register.specs.Papers.{batches_of};
+ghost use Rattle.register.specs.Agreement.{batches_of};
 ghost use Rattle.register.specs.Batches.{ward_for, third_for, keyings_for};
-ghost use Rattle.register.specs.Parts.{empty_part, part_entries};
+ghost use Rattle.register.specs.CommandInputs.{empty_input, input_entries};
 ghost use Rattle.store.specs.Loads.{Loads};
 
 use crate::entries::batches::Batches;
 use crate::entries::thirds::ThirdClerks;
 use crate::storage::Store;
 use crate::views::papers::Keyings;
-use register::{Batch, Part, ThirdClerk};
+use register::{Batch, CommandInput, ThirdClerk};
 use sqlite::Alter;
-use tables::cells::number;
 use tables::finding::{entries_beginning, entries_referring, find_entry};
+use tables::value_conversion::number;
 use tables::{Fault, Reference};
 
 impl<S: Alter> Store<S> {
@@ -52,18 +52,18 @@ impl<S: Alter> Store<S> {
     }
 
     /// Returns the part of a command that needs a ward and a batch.
-    pub(crate) fn new_batch_part(&mut self, ward: u32, batch: u32) -> Result<Part, Fault>
-        ensures { Loads S.Store self.old self.new result (λ s part. part_entries part ≡ record empty_part { ward = ward_at s ward; batch = batch_at s batch }) }
+    pub(crate) fn new_batch_part(&mut self, ward: u32, batch: u32) -> Result<CommandInput, Fault>
+        ensures { Loads S.Store self.old self.new result (λ s part. input_entries part ≡ record empty_input { ward = ward_at s ward; batch = batch_at s batch }) }
     {
         let part = self.ward_part(ward)?;
         let batch = self.find_batch(batch)?;
-        Ok(Part { batch, ..part })
+        Ok(CommandInput { batch, ..part })
     }
 
     /// Returns the part of a command that needs a batch, its ward, its third clerk and the keyings of its round.
-    pub(crate) fn third_part(&mut self, batch: u32) -> Result<Part, Fault>
+    pub(crate) fn third_part(&mut self, batch: u32) -> Result<CommandInput, Fault>
         ensures { Loads S.Store self.old self.new result
-            (λ s part. part_entries part ≡ record empty_part {
+            (λ s part. input_entries part ≡ record empty_input {
               ward = ward_for s (batch_at s batch);
               batch = batch_at s batch;
               third = third_for s (batch_at s batch);
@@ -72,7 +72,7 @@ impl<S: Alter> Store<S> {
     {
         let found = self.find_batch(batch)?;
         let Some(batch) = found else {
-            return Ok(Part::empty(self.allocator()));
+            return Ok(CommandInput::empty(self.allocator()));
         };
         let Keyings {
             third_clerk,
@@ -81,7 +81,7 @@ impl<S: Alter> Store<S> {
             third,
         } = self.keyings_of(&batch)?;
         let part = self.ward_part(batch.ward)?;
-        Ok(Part {
+        Ok(CommandInput {
             batch: Some(batch),
             third_clerk,
             first,
@@ -92,12 +92,12 @@ impl<S: Alter> Store<S> {
     }
 
     /// Returns the part of a command that needs a batch, its ward and the keyings of its round.
-    pub(crate) fn again_part(&mut self, batch: u32) -> Result<Part, Fault>
+    pub(crate) fn again_part(&mut self, batch: u32) -> Result<CommandInput, Fault>
         ensures { Loads S.Store self.old self.new result
-            (λ s part. part_entries part ≡ record empty_part { ward = ward_for s (batch_at s batch); batch = batch_at s batch; keyings = keyings_for s (batch_at s batch) }) }
+            (λ s part. input_entries part ≡ record empty_input { ward = ward_for s (batch_at s batch); batch = batch_at s batch; keyings = keyings_for s (batch_at s batch) }) }
     {
         let part = self.third_part(batch)?;
-        Ok(Part {
+        Ok(CommandInput {
             third_clerk: None,
             ..part
         })

@@ -2,17 +2,17 @@
 
 ghost use Rattle.std.specs.Prelude.{◌≡◌, map, option_map};
 ghost use Rattle.register.specs.Offices.{candidate_entry, ward_at, candidate_at, candidates_of};
-ghost use Rattle.register.specs.Parts.{empty_part, part_entries};
+ghost use Rattle.register.specs.CommandInputs.{empty_input, input_entries};
 ghost use Rattle.store.specs.Elections.{IsContestAt};
 ghost use Rattle.store.specs.Loads.{Loads};
 
 use crate::entries::candidates::Candidates;
 use crate::storage::Store;
-use register::{Candidate, CountedWard, Part};
+use register::{Candidate, CommandInput, CountedWard};
 use sqlite::Alter;
 use tables::Fault;
-use tables::cells::number;
 use tables::finding::{entries_beginning, find_entry};
+use tables::value_conversion::number;
 
 impl<S: Alter> Store<S> {
     /// Returns the candidate with this number in this ward, if there is one.
@@ -50,20 +50,24 @@ impl<S: Alter> Store<S> {
     }
 
     /// Returns the part of a command that needs a ward and its candidates.
-    pub(crate) fn contest_part(&mut self, ward: u32) -> Result<Part, Fault>
-        ensures { Loads S.Store self.old self.new result (λ s part. part_entries part ≡ record empty_part { ward = ward_at s ward; candidates = candidates_of s ward }) }
+    pub(crate) fn contest_part(&mut self, ward: u32) -> Result<CommandInput, Fault>
+        ensures { Loads S.Store self.old self.new result (λ s part. input_entries part ≡ record empty_input { ward = ward_at s ward; candidates = candidates_of s ward }) }
     {
         let part = self.ward_part(ward)?;
         let candidates = self.list_candidates(ward)?;
-        Ok(Part { candidates, ..part })
+        Ok(CommandInput { candidates, ..part })
     }
 
     /// Returns the part of a command that needs a ward and one of its candidates.
-    pub(crate) fn candidate_part(&mut self, ward: u32, candidate: u32) -> Result<Part, Fault>
-        ensures { Loads S.Store self.old self.new result (λ s part. part_entries part ≡ record empty_part { ward = ward_at s ward; candidate = candidate_at s ward candidate }) }
+    pub(crate) fn candidate_part(
+        &mut self,
+        ward: u32,
+        candidate: u32,
+    ) -> Result<CommandInput, Fault>
+        ensures { Loads S.Store self.old self.new result (λ s part. input_entries part ≡ record empty_input { ward = ward_at s ward; candidate = candidate_at s ward candidate }) }
     {
         let part = self.ward_part(ward)?;
         let candidate = self.find_candidate(ward, candidate)?;
-        Ok(Part { candidate, ..part })
+        Ok(CommandInput { candidate, ..part })
     }
 }

@@ -18,8 +18,8 @@ use register::marks::columns_of;
 use register::{Ballots, Batch, Candidate, CountedWard, DrawnLot, Election, KeepsPapers, Ward};
 use sqlite::Alter;
 use tables::Fault;
-use tables::cells::number;
 use tables::finding::entries_beginning;
+use tables::value_conversion::number;
 
 /// Adds the papers of a batch to those of others. An error is `Memory`, after which the others are unusable.
 fn add_papers<P: KeepsPapers>(

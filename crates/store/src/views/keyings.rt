@@ -8,7 +8,7 @@ ghost use Rattle.std.specs.Prelude.{◌≡◌, ◌&&◌, ⊤, map, IfSome};
 ghost use Rattle.std.specs.List.{AllByRecursion, list_all};
 ghost use Rattle.sqlite_rules.specs.Lists.{Has};
 ghost use Rattle.register.specs.Offices.{keyed_entry, keying_of};
-ghost use Rattle.register.specs.Keyed.{are_numbered, is_whole};
+ghost use Rattle.register.specs.BatchConditions.{are_numbered, is_whole};
 ghost use Rattle.store.specs.Keyings.{is_paper_of};
 ghost use Rattle.store.specs.Loads.{Loads};
 
@@ -17,12 +17,12 @@ use crate::storage::Store;
 use crate::views::papers::FIRST_PAPER;
 use register::{Batch, KeyedPaper};
 use sqlite::Alter;
-use tables::cells::number;
 use tables::finding::entries_beginning;
-use tables::runs::{entries_between, find_rowid};
+use tables::rowid_ranges::{entries_between, find_rowid};
+use tables::value_conversion::number;
 use tables::{Fault, Table};
 
-#[tactic(auto, unfolding(register::specs::Keyed::are_numbered))]
+#[tactic(auto, unfolding(register::specs::BatchConditions::are_numbered))]
 /// Returns whether papers are numbered from 1.
 fn are_numbered(papers: &[KeyedPaper]) -> bool
     ensures { result ≡ are_numbered 1 (map keyed_entry papers.now) }
@@ -76,7 +76,7 @@ impl<S: Alter> Store<S> {
         find_rowid(&mut self.conn, Table::Keying, &key)
     }
 
-    /// Returns the papers whose rowids are between two. Each is one of the state's.
+    /// Returns the keyed papers with rowids in a range, both ends included. Each is a paper of the state.
     fn list_between(&mut self, low: i64, high: i64) -> Result<Vec<KeyedPaper>, Fault>
         ensures { Loads S.Store self.old self.new result (λ s found. AllByRecursion (Has s.keyings) (map keyed_entry found.items)) }
     {

@@ -2,10 +2,10 @@
 
 ghost use Rattle.std.specs.Prelude.{◌≡◌, map, option_map};
 ghost use Rattle.register.specs.Offices.{batch_entry, third_entry, keyed_entry, judged_entry, batch_at, third_at, keying_of, verdict_at, verdicts_of};
-ghost use Rattle.register.specs.Papers.{is_keyed, agreed, differ, keyings_now};
+ghost use Rattle.register.specs.Agreement.{is_keyed, agreed, differ, keyings_now};
 ghost use Rattle.register.specs.Polls.{pile_of};
 ghost use Rattle.register.specs.Batches.{ward_for, candidates_for, third_for, keyings_for};
-ghost use Rattle.register.specs.Parts.{empty_part, part_entries};
+ghost use Rattle.register.specs.CommandInputs.{empty_input, input_entries};
 ghost use Rattle.store.specs.Elections.{pile_by};
 ghost use Rattle.store.specs.Keyings.{keying_for, keyings_by};
 ghost use Rattle.store.specs.Loads.{Loads, IsOpen};
@@ -13,12 +13,12 @@ ghost use Rattle.store.specs.Loads.{Loads, IsOpen};
 use crate::entries::keyings::KeyedPapers;
 use crate::entries::verdicts::JudgedPapers;
 use crate::storage::Store;
-use register::papers::{agreed, clerks_of, differ};
-use register::{Batch, JudgedPaper, KeyedPaper, Part, ThirdClerk};
+use register::agreement::{agreed, clerks_of, differ};
+use register::{Batch, CommandInput, JudgedPaper, KeyedPaper, ThirdClerk};
 use sqlite::Alter;
 use tables::Fault;
-use tables::cells::number;
 use tables::finding::{entries_beginning, find_entry};
+use tables::value_conversion::number;
 
 /// The number of the first paper of a batch.
 pub(crate) const FIRST_PAPER: u32 = 1;
@@ -140,11 +140,16 @@ impl<S: Alter> Store<S> {
         Ok(BatchPapers { keyings, verdicts })
     }
 
-    /// Returns the part of a clerk's command: the batch, its ward with the candidates, its third clerk, and among the
-    /// keyings only the clerk's own.
-    pub(crate) fn keying_part(&mut self, batch: u32, round: u32, clerk: u32) -> Result<Part, Fault>
+    /// Returns what a clerk's command needs: the batch, its ward with the candidates, its third clerk, and of the keyings only the
+    /// clerk's own.
+    pub(crate) fn keying_part(
+        &mut self,
+        batch: u32,
+        round: u32,
+        clerk: u32,
+    ) -> Result<CommandInput, Fault>
         ensures { Loads S.Store self.old self.new result
-            (λ s part. part_entries part ≡ record empty_part {
+            (λ s part. input_entries part ≡ record empty_input {
               ward = ward_for s (batch_at s batch);
               candidates = candidates_for s (batch_at s batch);
               batch = batch_at s batch;
@@ -155,14 +160,14 @@ impl<S: Alter> Store<S> {
         let own = self.list_keying(batch, round, clerk)?;
         let found = self.find_batch(batch)?;
         let Some(batch) = found else {
-            return Ok(Part {
+            return Ok(CommandInput {
                 own,
-                ..Part::empty(self.allocator())
+                ..CommandInput::empty(self.allocator())
             });
         };
         let third_clerk = self.find_third(batch.number)?;
         let part = self.contest_part(batch.ward)?;
-        Ok(Part {
+        Ok(CommandInput {
             batch: Some(batch),
             third_clerk,
             own,
@@ -172,9 +177,9 @@ impl<S: Alter> Store<S> {
 
     /// Returns the part of a command about a doubtful paper: the batch, its ward with the candidates, the keyings of
     /// its round, and the verdict.
-    pub(crate) fn verdict_part(&mut self, batch: u32, paper: u32) -> Result<Part, Fault>
+    pub(crate) fn verdict_part(&mut self, batch: u32, paper: u32) -> Result<CommandInput, Fault>
         ensures { Loads S.Store self.old self.new result
-            (λ s part. part_entries part ≡ record empty_part {
+            (λ s part. input_entries part ≡ record empty_input {
               ward = ward_for s (batch_at s batch);
               candidates = candidates_for s (batch_at s batch);
               batch = batch_at s batch;
@@ -185,9 +190,9 @@ impl<S: Alter> Store<S> {
         let verdict = self.find_verdict(batch, paper)?;
         let found = self.find_batch(batch)?;
         let Some(batch) = found else {
-            return Ok(Part {
+            return Ok(CommandInput {
                 verdict,
-                ..Part::empty(self.allocator())
+                ..CommandInput::empty(self.allocator())
             });
         };
         let Keyings {
@@ -197,7 +202,7 @@ impl<S: Alter> Store<S> {
             ..
         } = self.keyings_of(&batch)?;
         let part = self.contest_part(batch.ward)?;
-        Ok(Part {
+        Ok(CommandInput {
             batch: Some(batch),
             first,
             second,

@@ -10,8 +10,8 @@ use crate::storage::Store;
 use register::Receipt;
 use sqlite::Alter;
 use tables::Fault;
-use tables::cells::{number, text};
 use tables::finding::{entries_beginning, find_entry};
+use tables::value_conversion::{number, text};
 
 impl<S: Alter> Store<S> {
     /// Returns the receipt of an actor and an id, if there is one.

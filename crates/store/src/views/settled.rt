@@ -3,7 +3,7 @@
 ghost use Rattle.std.specs.Prelude.{◌≡◌, [], map, Some, IfOk, IfErr};
 ghost use Rattle.tables.specs.declared.fault.Fault.{Fault};
 ghost use Rattle.register.specs.Offices.{batch_entry, third_entry, keyed_entry, judged_entry, third_at, keying_of};
-ghost use Rattle.register.specs.Papers.{taken_papers};
+ghost use Rattle.register.specs.Agreement.{taken_papers};
 ghost use Rattle.register.specs.Polls.{lower_clerk, settled_papers, settled_judgements, ballots_by, StandFor};
 ghost use Rattle.store.specs.Loads.{Loads, IsOpen};
 ghost use Rattle.store.specs.Settled.{CountAfter};
@@ -11,12 +11,12 @@ ghost use Rattle.store.specs.Settled.{CountAfter};
 use crate::entries::keyings::KeyedPapers;
 use crate::storage::Store;
 use paper::Columns;
-use register::papers::lower_clerk;
+use register::agreement::lower_clerk;
 use register::{Ballots, Batch, JudgedPaper, KeepsPapers, KeyedPaper, ThirdClerk};
 use sqlite::Alter;
 use std::marker::{Brand, PhantomData};
 use tables::Fault;
-use tables::cells::number;
+use tables::value_conversion::number;
 use tables::walking::{Visitor, walk_beginning};
 
 /// What the walk through the papers of a batch begins with, for its proof alone.
@@ -55,7 +55,7 @@ struct SettledPapers<P, B> {
 }
 
 impl<P: KeepsPapers, B: Start> Visitor<KeyedPapers> for SettledPapers<P, B> {
-    ghost HasTaken = { λ counter papers. (counter.columns ≡ B.columns) × (map judged_entry counter.verdicts.items ≡ B.verdicts)
+    ghost HasVisited = { λ counter papers. (counter.columns ≡ B.columns) × (map judged_entry counter.verdicts.items ≡ B.verdicts)
         × CountAfter P.holds B.were_counted B.columns B.verdicts counter.ballots (map keyed_entry papers) };
 
     ghost Stops = { λ f. f ≡ Fault.Memory };

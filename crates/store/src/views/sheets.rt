@@ -17,8 +17,8 @@ use sqlite::Alter;
 use tables::Fault;
 
 impl<S: Alter> Store<S> {
-    /// Returns the ward with this number, if there is one, with its count: what its declaration is written from. The
-    /// count is included if the ward is in count; once a stage is done no paper is read for it. Changes nothing, and
+    /// Returns the ward with this number, if there is one, with all that its declaration needs. The count is included if the ward
+    /// is in count; once a stage is done, it is read from the tabulation, and no paper is read. Changes nothing, and
     /// adds nothing to what a stop may leave. `Memory` or `Store` if a row can't be read.
     pub fn load_counted(&mut self, ward: u32) -> Result<Option<CountedWard>, Fault>
         ensures { Loads S.Store self.old self.new result (λ s found. IsCountedInFor (option_map (election_of s) (ward_at s ward)) found) }

@@ -10,15 +10,15 @@ ghost use Rattle.store.specs.Loads.{Loads};
 use crate::entries::bundles::PlacedBundles;
 use crate::entries::figures::StageFigures;
 use crate::storage::Store;
-use count::KeptCount;
+use count::StoredCount;
 use register::marks::columns_of;
-use register::tabulated::{count_of, tabulations_are_ordered};
+use register::tabulations::{count_of, tabulations_are_ordered};
 use register::wards::is_contested;
 use register::{Count, CountedWard, PlacedBundle, StageFigure};
 use sqlite::Alter;
 use tables::Fault;
-use tables::cells::number;
 use tables::finding::entries_beginning;
+use tables::value_conversion::number;
 
 impl<S: Alter> Store<S> {
     /// Returns the bundles of a ward, in the order of their lists.
@@ -37,7 +37,7 @@ impl<S: Alter> Store<S> {
 
     /// Returns what is stored of the count of a ward that has a stage. None if the tabulation is not that of any count;
     /// in an office it always is.
-    fn read_book(&mut self, contest: &CountedWard) -> Result<Option<KeptCount>, Fault>
+    fn read_stored_count(&mut self, contest: &CountedWard) -> Result<Option<StoredCount>, Fault>
         ensures { Loads S.Store self.old self.new result
             (λ s found. IsThere s contest.now → has_stages (election_in s contest.now) ≡ true → IsKept (election_in s contest.now) found) }
     {
@@ -61,7 +61,7 @@ impl<S: Alter> Store<S> {
         ensures { Loads S.Store self.old self.new result
             (λ s found. IsThere s contest.now → has_stages (election_in s contest.now) ≡ true → IsCount (election_in s contest.now) found) }
     {
-        let found = self.read_book(contest)?;
+        let found = self.read_stored_count(contest)?;
         let lots = self.load_lots(contest.ward.number)?;
         match found {
             Some(kept) => Ok(Some(Count { kept, lots })),

@@ -2,16 +2,16 @@
 
 ghost use Rattle.std.specs.Prelude.{◌≡◌, map, option_map};
 ghost use Rattle.register.specs.Offices.{ward_entry, ward_at};
-ghost use Rattle.register.specs.Parts.{empty_part, part_entries};
+ghost use Rattle.register.specs.CommandInputs.{empty_input, input_entries};
 ghost use Rattle.store.specs.Loads.{Loads};
 
 use crate::entries::wards::Wards;
 use crate::storage::Store;
-use register::{Part, Ward};
+use register::{CommandInput, Ward};
 use sqlite::Alter;
 use tables::Fault;
-use tables::cells::number;
 use tables::finding::{entries_beginning, find_entry};
+use tables::value_conversion::number;
 
 impl<S: Alter> Store<S> {
     /// Returns the ward with this number, if there is one.
@@ -29,13 +29,13 @@ impl<S: Alter> Store<S> {
     }
 
     /// Returns the part of a command that needs a ward.
-    pub(crate) fn ward_part(&mut self, ward: u32) -> Result<Part, Fault>
-        ensures { Loads S.Store self.old self.new result (λ s part. part_entries part ≡ record empty_part { ward = ward_at s ward }) }
+    pub(crate) fn ward_part(&mut self, ward: u32) -> Result<CommandInput, Fault>
+        ensures { Loads S.Store self.old self.new result (λ s part. input_entries part ≡ record empty_input { ward = ward_at s ward }) }
     {
         let ward = self.find_ward(ward)?;
-        Ok(Part {
+        Ok(CommandInput {
             ward,
-            ..Part::empty(self.allocator())
+            ..CommandInput::empty(self.allocator())
         })
     }
 }

@@ -5,7 +5,7 @@ ghost use Rattle.rowcheck.specs.States.{state_of, tabulated};
 ghost use Rattle.tables.specs.Contents.{Sees};
 ghost use Rattle.tables.specs.Making.{SeesNothing};
 ghost use Rattle.tables.specs.Writing.{Alters};
-ghost use Rattle.store.specs.Offices.{tables_with};
+ghost use Rattle.store.specs.StateTables.{tables_with};
 
 use crate::entries::batches::Batches;
 use crate::entries::bundles::PlacedBundles;

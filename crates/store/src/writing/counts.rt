@@ -2,7 +2,7 @@
 
 ghost use Rattle.register.specs.Tabulated.{addition_entries, with_addition};
 ghost use Rattle.tables.specs.Writing.{Alters};
-ghost use Rattle.store.specs.Offices.{SeesState};
+ghost use Rattle.store.specs.StateTables.{SeesState};
 
 use crate::entries::bundles::PlacedBundles;
 use crate::entries::figures::StageFigures;

@@ -6,7 +6,7 @@ ghost use Rattle.register.specs.Tabulated.{addition_entries};
 ghost use Rattle.tables.specs.Contents.{Contents, Sees};
 ghost use Rattle.tables.specs.Making.{SeesMade};
 ghost use Rattle.tables.specs.Writing.{Alters};
-ghost use Rattle.store.specs.Offices.{tables_of};
+ghost use Rattle.store.specs.StateTables.{tables_of};
 ghost use Rattle.store.specs.Migrations.{older_tables, SeesOlder, Lacks};
 
 use crate::older::{Older, OlderForm};
@@ -14,10 +14,10 @@ use crate::writing::VERSION;
 use crate::writing::counts::write_addition;
 use sqlite::{Alter, Transaction};
 use std::alloc::Global;
-use tables::cells::number;
 use tables::making::create_table;
 use tables::replacement::set_value;
-use tables::{Fault, Setting, Table};
+use tables::value_conversion::number;
+use tables::{Fault, SettableColumn, Table};
 
 /// Creates the last three tables, all empty.
 fn create_last_three<S: Alter>(tx: &mut Transaction<'_, S>) -> Result<(), Fault>
@@ -49,6 +49,10 @@ pub(crate) fn write_migration<S: Alter>(
         (λ (s : OfficeState) st. Lacks older.now.form s (addition_entries older.now.missing) × SeesOlder older.now.form s st) (λ s. Sees (tables_of s)) }
 {
     create_missing(tx, older.form)?;
-    set_value(tx, Setting::VersionOfOffice, &[number(1), number(VERSION)])?;
+    set_value(
+        tx,
+        SettableColumn::VersionOfOffice,
+        &[number(1), number(VERSION)],
+    )?;
     write_addition(alloc, tx, &older.missing)
 }

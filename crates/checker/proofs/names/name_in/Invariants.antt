@@ -2,7 +2,7 @@
 use Rattle.std.proofs.Common.{◌≡◌, [], drop}
 use Rattle.std.specs.Prelude.{fold}
 use Rattle.checker.specs.Names.{with_byte}
-use Rattle.checker.specs.Views.{quoting_of}
+use Rattle.checker.specs.Values.{quoting_of}
 use Rattle.checker.specs.declared.names.Within.TheVariants.{Before}
 use Rattle.checker.proofs.names.name_in.Given as goal
 

@@ -2,7 +2,7 @@
 use Rattle.std.proofs.Common.{◌≡◌, [], map, drop}
 use Rattle.paper.specs.Ranking.{IsRanking}
 use Rattle.checker.specs.Ranks.{named_from}
-use Rattle.checker.specs.Views.{ranks_of}
+use Rattle.checker.specs.Values.{ranks_of}
 use Rattle.checker.specs.declared.ranks.NextWord.TheVariants.{Preference}
 use Rattle.checker.proofs.ranks.named_in.Given as goal
 

@@ -2,7 +2,7 @@
 use Rattle.std.proofs.Common.{◌∙◌, List, reverse, subst}
 use Rattle.count.specs.Advance.{Adds}
 use Rattle.count.specs.Law.Contest.{Contest}
-use Rattle.count.specs.Inside.Keeping.{IsAdded}
+use Rattle.count.specs.Inside.BookInvariants.{IsAdded}
 use Rattle.count.specs.Inside.Placing.{contest_on, IsDueInBook}
 use Rattle.count.specs.declared.stages.Stage.{Stage}
 use Rattle.count.proofs.BundleBookLemmas.{figured-adds, places-adds}

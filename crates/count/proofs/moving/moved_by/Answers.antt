@@ -9,7 +9,7 @@ use Rattle.count.specs.Law.Elected.{is_continuing}
 use Rattle.count.proofs.ParcelTotals.{total_passed-same}
 use Rattle.count.specs.Advance.{IsDue}
 use Rattle.count.specs.Books.{contest_of}
-use Rattle.count.specs.Inside.Keeping.{IsMovedBy}
+use Rattle.count.specs.Inside.BookInvariants.{IsMovedBy}
 use Rattle.count.specs.declared.stages.Action.{Action}
 use Rattle.count.proofs.MoveLemmas.{IsLawful, surplus-lawful, under-way}
 use Rattle.count.proofs.TransferLemmas.{moved-surplus, moved-exclude, moved-last}

@@ -24,8 +24,8 @@ returns-in-Err g c =
 pub returns-in-Ok-write_new : goal.returns-in-Ok-write_new
 returns-in-Ok-write_new g c = told_as _ _ _ _ _ _ c.tell_made.ensures (made_for _ (clerks_entry c.in-Some.clerks) _ _ c.in-Some.ensures.is c.count.ensures.span)
 
-pub returns-in-Err-write_new : goal.returns-in-Err-write_new
-returns-in-Err-write_new g c =
-    told_as _ _ _ _ _ _ (error_shown g.O.Sink.taken g.O.Sink.failed g.E.Sink.taken g.E.Sink.failed c.args.out.now c.args.err.now c.tell_codes_fault-in-Err.new.err
-    (codes_page Unmade) c.tell_codes_fault-in-Err.result refl c.tell_codes_fault-in-Err.ensures)
+pub returns : goal.returns
+returns g c =
+    told_as _ _ _ _ _ _ (error_shown g.O.Sink.taken g.O.Sink.failed g.E.Sink.taken g.E.Sink.failed c.args.out.now c.args.err.now c.tell_codes_fault-in-Err-write_new.new.err
+    (codes_page Unmade) c.tell_codes_fault-in-Err-write_new.result refl c.tell_codes_fault-in-Err-write_new.ensures)
     (unmade_for _ (clerks_entry c.in-Some.clerks) _ (Fault Unmade) c.in-Some.ensures.is)

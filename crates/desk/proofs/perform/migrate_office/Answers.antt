@@ -13,7 +13,7 @@ use Rattle.tables.specs.Reading.{FailsToList}
 use Rattle.tables.specs.Contents.{Stores}
 use Rattle.store.specs.declared.older.OlderForm.{OlderForm}
 use Rattle.store.specs.Migrations.{FailsToMigrate, HoldsNoOlder, LeavesOldOrNew, WasAt, LeavesOlderOr}
-use Rattle.store.specs.Offices.{IsAt, tables_of}
+use Rattle.store.specs.StateTables.{IsAt, tables_of}
 use Rattle.store.specs.Openings.{HoldsNoState}
 use Rattle.store.proofs.ReopenLemmas.{left_holds, left_ours}
 use Rattle.office.specs.Answers.{IsMemoryOrStore}

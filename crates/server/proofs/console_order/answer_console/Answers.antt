@@ -4,6 +4,7 @@ use Rattle.tables.specs.declared.fault.Fault.TheVariants.{Memory}
 use Rattle.order_protocol.specs.Messages.{message_part_entries}
 use Rattle.desk.specs.declared.lines.Failure.TheVariants.{Office}
 use Rattle.wire.specs.ConsoleOrders.{console_order_entry}
+use Rattle.server.specs.ConsoleOrders.{typed_words}
 use Rattle.server.specs.ServedOrders.{AsksSo}
 use Rattle.server.specs.declared.served_order.ServedOrder.TheVariants as asked
 use Rattle.server.proofs.console_order.answer_console.Goals as goal
@@ -20,7 +21,7 @@ returns g c =
       asked = c.unless_gone-asked.result;
       is = inl (
         ap message_part_entries c.deref-2.ensures.value ∙ c.in-Ok.ensures.files,
-        c.unless_gone-asked.ensures (console_order_entry c.args.order.now).words
+        c.unless_gone-asked.ensures (typed_words (console_order_entry c.args.order.now).words)
             (subst (λ (ws : List (List ℕ)). AsksSo whole ws c.served_order_by.result) same (c.served_order_by.ensures whole)),
       );
       tells = c.follow_asked.ensures;

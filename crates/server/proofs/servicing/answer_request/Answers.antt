@@ -67,13 +67,13 @@ returns-in-Shown-clause-served g c = λ number moment.
           (keeps_same its (state g.S.Store) c.args.office.now did.new.office kept c.args.got.now asked asks tt (did.ensures.only tt)),
     )
 
-pub returns-in-Console-clause-served : goal.returns-in-Console-clause-served
-returns-in-Console-clause-served g c = λ number moment.
+pub returns-in-ConsolePage-clause-served : goal.returns-in-ConsolePage-clause-served
+returns-in-ConsolePage-clause-served g c = λ number moment.
     let its = settings_entry c.args.server_settings.http in
-    let did = c.response_to-bytes-in-Console in
+    let did = c.response_to-bytes-in-ConsolePage in
     let kept = memory_entry c.args.kept.now in
-    let asked = http_request_entry (variant.Console c.in-Console.show) in
-    let asks = subst (λ (a : HttpRequest). Asks its c.args.got.now (http_request_entry a)) c.in-Console.is (c.in-Ok.ensures c.requires) in
+    let asked = http_request_entry (variant.ConsolePage c.in-ConsolePage.show) in
+    let asks = subst (λ (a : HttpRequest). Asks its c.args.got.now (http_request_entry a)) c.in-ConsolePage.is (c.in-Ok.ensures c.requires) in
     inl (
       asks_no_order its c.args.got.now asked asks refl,
       served_anew its (state g.S.Store) c.args.office.now did.new.office kept kept number moment c.args.got.now asked did.result.0.items asks did.ensures.answers

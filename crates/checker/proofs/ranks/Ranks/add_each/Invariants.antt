@@ -2,7 +2,7 @@
 use Rattle.std.proofs.Common.{◌≡◌, map, drop}
 use Rattle.paper.specs.Ranking.{IsRanking}
 use Rattle.checker.specs.Ranks.{with_each}
-use Rattle.checker.specs.Views.{ranks_of}
+use Rattle.checker.specs.Values.{ranks_of}
 use Rattle.checker.proofs.ranks.Ranks.add_each.Given as goal
 
 abbrev pub invariant-loop-word : goal.invariant-loop-word

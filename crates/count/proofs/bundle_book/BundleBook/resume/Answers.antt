@@ -3,7 +3,7 @@ use Rattle.std.proofs.Common.{◌≡◌, ◌∙◌, List, reverse, refl, sym, ap
 use Rattle.count.specs.Bundles.{papers_of}
 use Rattle.count.specs.Law.Contest.{Contest, contest_for, IsContest}
 use Rattle.count.specs.Law.Right.{IsRightByItself}
-use Rattle.count.specs.Kept.{places_after}
+use Rattle.count.specs.StoredCounts.{places_after}
 use Rattle.count.specs.Inside.Placing.{contest_on}
 use Rattle.count.specs.declared.stages.Stage.{Stage}
 use Rattle.count.proofs.BundleBookLemmas.{some-own}

@@ -1,5 +1,0 @@
--- Proof that `write_uncontested_line` meets its contract.
-use Rattle.sheet.proofs.opening.write_uncontested_line.Goals as goal
-
-pub returns : goal.returns
-returns g c = rw c.from.ensures at c.write_line.ensures
