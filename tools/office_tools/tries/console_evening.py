@@ -357,8 +357,11 @@ class GuideEvening(Evening):
         """While the office can't be read or written, the console says so and what to do, and still shows what it read before."""
         town, browser = self.office.folder / TOWN, officer.browser
         town.rename(town.with_suffix(".away"))
-        officer.click("copy")
-        officer.shows("ault 113" if self.is_served else "ault 105", "top")
+        officer.go("nominations")
+        for field, value in (("number", 9), ("seats", 2), ("name", "Shore")):
+            officer.type(f"ward-{field}", value)
+        browser.press("Enter")
+        officer.yes("Add ward 9", said="fault 113" if self.is_served else "fault 105")
         officer.go("overview")
         officer.picture("29-file-gone")
         town.with_suffix(".away").rename(town)

@@ -10,7 +10,7 @@ const actionText = (next, candidates) => {
   const who = next.candidate ? withNumber(nameIn(candidates, next.candidate)) : '';
   if (next.action === 'first') return ['the first preferences are counted'];
   if (next.action === 'surplus') return ['the surplus of ', who, ' is transferred'];
-  if (next.action === 'exclusion') return [who, ' has the fewest votes and is excluded, and these papers go to their next preferences'];
+  if (next.action === 'exclusion') return [who, ' has the fewest votes and is excluded, and the candidate\u2019s papers go to their next preferences'];
   return [who, ' is excluded, and the last vacancies are filled'];
 };
 

@@ -120,9 +120,10 @@ const WARD_HEADS = ['Ward', 'Phase', 'Papers expected', 'Given out', 'Keyed', 'A
 
 const sumRow = () => {
   const sum = (member) => office.wards.reduce((total, it) => total + it[member], 0);
-  const expected = office.wards.reduce((total, it) => total + expectedOf(it.ward), 0);
-  const polled = office.wards.filter((it) => it.phase !== 'nominations' && !isUncontested(it)).map(papersFor);
-  const papers = (member) => (polled.includes(null) ? null : polled.reduce((total, it) => total + it[member], 0));
+  const polled = office.wards.filter((it) => it.phase !== 'nominations' && !isUncontested(it));
+  const expected = polled.every((it) => expectedOf(it.ward)) ? polled.reduce((total, it) => total + expectedOf(it.ward), 0) : 0;
+  const read = polled.map(papersFor);
+  const papers = (member) => (read.includes(null) ? null : read.reduce((total, it) => total + it[member], 0));
   return made('tr', {className: 'sum'}, made('th', {scope: 'row'}, 'All wards'), made('td', {}, ''), figure('expected', expected || '\u2013'),
     figure('given out', papers('givenOut')), figure('keyed', papers('keyed')), figure('agreed', papers('agreed')),
     differing(sum('differing')), toJudge(sum('doubtful_open')), made('td', {}, ''));
