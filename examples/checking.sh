@@ -97,7 +97,7 @@ play_input() {
     play - count tied.txt --lot 2:3
     play - count tied.txt --lot 2:3 --declaration
     play - count tied.txt --lot 2:3 --ballots
-    (cd "$folder" && "$office" - count tied.txt --lot 2:3 --page --title 'Spring <1>' | grep -e '<title>' -e '"title"' -e Declared -e '<li>' || true)
+    (cd "$folder" && "$office" - count tied.txt --lot 2:3 --page --title 'Spring <1>' | grep -e '<title>' -e '"title"' -e Declared -e '<li>')
     play_input tied.txt - count - --lot 2:2 --declaration
     play_input sheet.txt - check ballots.txt -
 

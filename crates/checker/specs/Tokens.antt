@@ -13,7 +13,7 @@ Text = List ℕ
 abbrev pub is_blank : ℕ → Bool
 is_blank byte = byte == 32 || (byte == 9 || byte == 13)
 
--- whether a byte separates two pieces: a line feed separates lines, and blanks separate words; in our own comments so do colons and commas; an equals
+-- Whether a byte separates two pieces. A line feed separates lines, and blanks separate words. In our own comments colons and commas do so too. An equals
 -- sign separates the candidates who share a rank, and a colon the stage of a lot and its candidate
 abbrev pub parts : Separator → ℕ → Bool
 parts LineFeed byte = byte == 10

@@ -172,7 +172,7 @@ fn counted_as(
 }
 
 /// Counts the ballots of a ward, and returns a text of the count: the stage sheet, the declaration, the page, the table, or the
-/// ballots and lots, as an office prints it of a ward with just these papers and lots.
+/// ballots and lots. It is the text that an office prints of a ward with just these papers and lots.
 ///
 /// The ballots are read as for [`check`](crate::check). The further lots, each a stage, counted from 1, and a candidate, are added to
 /// those that the file records; no two may be for one stage. If a lot is needed that isn't there, the text is of the stages so far,

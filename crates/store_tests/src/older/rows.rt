@@ -12,8 +12,8 @@ pub const OLDER_TABLES: &str =
 # CREATE TABLE receipt (actor INT NOT NULL CHECK (actor BETWEEN 0 AND 999), id TEXT NOT NULL, subject TEXT NOT NULL, reply TEXT NOT NULL, PRIMARY KEY (actor, id)) STRICT
 ";
 
-/// Its rows, written by that program: wards in each phase; batches keyed by one clerk, by both with equal papers and with different
-/// ones, and in a second round; doubtful papers, verdicts, counts in progress with their lots, and all receipts.
+/// Its rows, written by that program. There are wards in each phase. There are batches keyed by one clerk, by both with equal papers
+/// and with different ones, and in a second round. There are doubtful papers, verdicts, counts in progress with their lots, and receipts.
 pub const OLDER_ROWS: &str = "# INSERT INTO office VALUES (1, 1)
 # INSERT INTO ward VALUES (1, 2, 1, 0, 'Hillside')
 # INSERT INTO ward VALUES (2, 1, 2, 0, 'Market')
