@@ -24,7 +24,7 @@ from office_tools.web import HERE, basic
 
 EMPTY_LOG = 64
 NEVER = ("init", "migrate", "serve", "codes")
-MOST, LONGEST = 1_048_576, 32 << 20
+MOST = 1_048_576
 # Pages of the office come from here, at any port.
 ORIGIN = f"http://{HERE}"
 OWN = re.compile(re.escape(ORIGIN) + r"(:\d{1,5})?")
@@ -216,8 +216,6 @@ class Machine:
             for name, text in files.items():
                 (Path(folder) / Path(name).name).write_text(text, encoding="utf-8", newline="")
             status, output, errors = self.run(words, self.town.parent if words[0] == "copy" else folder)
-        if len(output) + len(errors) > LONGEST:
-            raise Refused(503, {"fault": 107})
         return {"errors": errors, "output": output, "status": status}
 
 

@@ -7,7 +7,9 @@ const TABS = [
   ['overview', 'Overview'], ['nominations', 'Nominations'], ['batches', 'Batches'], ['doubtful', 'Doubtful papers'], ['count', 'Count'],
   ['journal', 'Journal'],
 ];
+// Seconds between two refreshes, and the most of them.
 const SECONDS = 3;
+const LONGEST_PAUSE = 30;
 // Each section adds the function that draws it: overview, nominations, and so on.
 const DRAW = {};
 
@@ -133,12 +135,16 @@ const refresh = (isForced = false) => {
   return refreshing;
 };
 
-// Refreshes the page every few seconds. Once a minute it is drawn even if nothing changed, to update the times shown.
+// Refreshes the page every few seconds, and less often if the office takes long to reply. Once a minute it is drawn even if nothing changed,
+// to update the times shown.
 const keepFresh = async () => {
   for (let turns = 1; ; turns += 1) {
+    const began = Date.now();
+    if (!document.hidden && turns > 1) await refresh(turns % 20 === 0).catch(() => {});
     await catchUp().catch(() => {});
-    await new Promise((resolve) => setTimeout(resolve, 1000 * SECONDS));
-    if (!document.hidden) await refresh(turns % 20 === 0).catch(() => {});
+    const spent = office.down ? 0 : (Date.now() - began) / 1000;
+    const pause = Math.max(SECONDS, Math.min(5 * spent, LONGEST_PAUSE));
+    await new Promise((resolve) => setTimeout(resolve, 1000 * pause));
   }
 };
 
