@@ -5,7 +5,8 @@ use Rattle.sqlite.specs.{Effect.Database, State.State, Tree.Trees}
 use Rattle.register.specs.{Machine.after, Machine.after_one, Machine.is_accepted, Machine.step_of, Offices.OfficeState, Offices.empty_office, declared.command.Request.Request}
 use Rattle.tables.specs.{Contents.RestsAt, Contents.Stores, Presence.IsOurs, Presence.IsOlderSchema, Presence.has_some_table, Reading.FailsBy, Reading.FailsToList, Reading.OnlyReads}
 use Rattle.tables.specs.declared.fault.Fault.{Fault, TheVariants.WrongDatabase}
-use Rattle.store.specs.{StateTables.IsAt, StateTables.LeavesState, StateTables.tables_of, Openings.HoldsNoState, Openings.IsBlank, Openings.IsLeftAt, Openings.IsToldBy, declared.older.OlderForm.OlderForm}
+use Rattle.store.specs.StateTables.{IsAt, LeavesState, tables_of}
+use Rattle.store.specs.{Openings.HoldsNoState, Openings.IsBlank, Openings.IsLeftAt, Openings.IsToldBy, declared.older.OlderForm.OlderForm}
 use Rattle.store.specs.Migrations.{HoldsNoOlder, IsToldInMigration, LeavesOldOrNew, RestsOlder}
 use Rattle.store.specs.declared.migration.Migrated.TheVariants.{Already, Done}
 use Rattle.office.specs.{Answers.IsClosedIn, Answers.IsKeptOpen, Answers.IsMemoryOrStore, Answers.IsOpenAt, Answers.Told, Answers.told_of, Reads.IsClosedReading, Runs.Keeps}
