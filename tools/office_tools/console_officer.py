@@ -114,7 +114,7 @@ class Officer:
 
     def said(self):
         """Returns what the browser's console was told, but for what was done on purpose: connections that broke, and denials."""
-        return [line for line in self.browser.said() if not re.search("ERR_|status of (401|413|503)|Clear-Site-Data", line)]
+        return [line for line in self.browser.said() if not re.search("ERR_|status of (401|503)|Clear-Site-Data", line)]
 
     def picture(self, name):
         """Writes pictures of the whole page, if they are asked for. Nothing is wider than the window."""
