@@ -167,7 +167,10 @@ fn words_of(alloc: Global, problem: &CountProblem) -> Result<String, AllocError>
 /// Why ballots aren't counted.
 fn problem_of(alloc: Global, ballots: &str, lots: &[(u8, u8)]) -> Result<CountProblem, Fail> {
     match count_ballots(alloc, ballots.as_bytes(), lots, &CountText::Sheet) {
-        Ok(_) => Err(Fail::from("counted")),
+        Ok(text) => {
+            drop(text);
+            Err(Fail::from("counted"))
+        }
         Err(problem) => Ok(problem),
     }
 }
